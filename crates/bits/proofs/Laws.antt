@@ -8,7 +8,7 @@ use native.Mathlib.Nat.{mod-lt, mod-mod, mod-eq-of-lt, div-one, div-eq-of-lt, ad
 use native.Mathlib.Omega.{arith}
 use native.Mathlib.Decide.{decLt}
 use lib.Arith.{bin-ind}
-use lib.Pow.{pow-pos, pow-add, shr-shr, field, mod-mod-pow, mod-pow-add, shr-lt}
+use lib.Pow.{pow-pos, pow-add, shr-shr, field, mod-mod-pow, mod-pow-add, shr-lt, shr-mod}
 use Rattle.bits.specs.Part.{part, above, put, bit}
 
 pub part-lt : (n p k : ℕ) → part n p k < 2 ^ k
@@ -17,6 +17,10 @@ part-lt n p k = mod-lt (n / 2 ^ p) (pow-pos k)
 -- a number below 2 ^ k is its own lowest k bits
 pub part-whole : (n k : ℕ) → n < 2 ^ k → part n 0 k ≡ n
 part-whole n k h = rw div-one (mod-eq-of-lt h)
+
+-- the topmost bits of a number
+pub part-top : (n p k : ℕ) → n < 2 ^ (k + p) → part n p k ≡ n / 2 ^ p
+part-top n p k h = shr-mod k p h
 
 -- bits p to p + k of the quotient, of the remainder, of a part
 pub part-shr : (n a p k : ℕ) → part (n / 2 ^ a) p k ≡ part n (a + p) k
@@ -40,20 +44,27 @@ part-join n p j k =
     ∙ sym (mod-pow-add x k j)
     ∙ ap (λ (y : ℕ). x % 2 ^ y) (add-comm k j)
 
+-- three numbers, one above the other
+pub above-assoc : (j k l m h : ℕ) → above (j + k) (above j l m) h ≡ above j l (above k m h)
+above-assoc j k l m h = rw (pow-add 2 j k) (omega arith)
+
 -- a number cut at bit k
 pub cut-at : (n k : ℕ) → above k (n % 2 ^ k) (n / 2 ^ k) ≡ n
 cut-at n k = rw (add-comm, mul-comm) (div-add-mod' n (2 ^ k))
 
 module _ (k l h : ℕ) (fits : l < 2 ^ k) where
-  above-mod : above k l h % 2 ^ k ≡ l
+  pub above-mod : above k l h % 2 ^ k ≡ l
   above-mod = rw (add-comm, mul-add-mod-self-left) (mod-eq-of-lt fits)
 
-  above-div : above k l h / 2 ^ k ≡ h
+  pub above-div : above k l h / 2 ^ k ≡ h
   above-div = rw (add-comm, mul-add-div (pow-pos k), div-eq-of-lt fits, add-zero)
 
   -- below bit k stands `l`, from there on `h`
   pub above-low : part (above k l h) 0 k ≡ l
   above-low = rw div-one above-mod
+
+  pub above-within : (p j : ℕ) → p + j ≤ k → part (above k l h) p j ≡ part l p j
+  above-within p j g = sym (part-mod (above k l h) k p j g) ∙ ap (λ (x : ℕ). part x p j) above-mod
 
   pub above-high : (p j : ℕ) → part (above k l h) (k + p) j ≡ part h p j
   above-high p j = sym (part-shr (above k l h) k p j) ∙ ap (λ (x : ℕ). part x p j) above-div

@@ -1,0 +1,5 @@
+pub mod Bytes
+pub mod Elements
+pub mod Halves
+pub mod Laws
+pub mod Lies
