@@ -1,6 +1,6 @@
 -- The laws of `first` and `outcome`: a list of refusals goes on where none before applies, and ends at the first that does.
 -- Each goes through the list, by cases on the test. Assumes nothing.
-use mathlib.Core.Path.{_≡_, refl, ap, _∙_}
+use mathlib.Core.Path.{_≡_, refl, sym, ap, _∙_}
 use mathlib.Core.Bool.{Bool, true, false, _&&_, not, cond}
 use mathlib.Core.List.{List, [], _∷_, _++_}
 use Prim.Native.Nat.{ℕ}
@@ -50,3 +50,7 @@ accepts a done refused e = ap (λ (b : Bool). cond b done refused) (eq-eqb a acc
 
 pub refuses {ℓ} : {A : Type ℓ} (a : ℕ) (done refused : A) → (a ≡ accepted → ⊥) → outcome a done refused ≡ refused
 refuses a done refused d = ap (λ (b : Bool). cond b done refused) (ne-eqb a accepted d)
+
+-- two outcomes that equal one definition are equal
+pub one-outcome {ℓ} : {A : Type ℓ} {x r s : A} → r ≡ x → s ≡ x → r ≡ s
+one-outcome p q = p ∙ sym q

@@ -7,7 +7,7 @@ use native.Mathlib.Nat.{mul-suc, suc-add, add-comm, zero-add, mod-lt, le-of-eq}
 use native.Mathlib.Omega.{arith}
 use lib.Dec.{lit<}
 use lib.ListN.{length, getD, take, drop, length-drop, take-append-drop}
-use lib.Seq.{length-take-le, take-all}
+use lib.Seq.{length-take-le, take-all, getD-drop}
 use lib.Pow.{pow-pos, shr-lt}
 use Rattle.bits.specs.Part.{above}
 use Rattle.bits.proofs.Laws.{cut-at, above-mod, above-div, above-lt, above-assoc}
@@ -79,3 +79,13 @@ pub number-bytes : (k n : ℕ) → n < 2 ^ (8 * k) → number (bytes k n) ≡ n
 unfolding number bytes
 number-bytes zero n h = omega arith
 number-bytes (suc k) n h = ap (above 8 (n % 2 ^ 8)) (number-bytes k (n / 2 ^ 8) (rest-fits k n h)) ∙ cut-at n 8
+
+-- parts of bytes are bytes
+pub bytes-take : (n : ℕ) (l : List ℕ) → Bytes l → Bytes (take n l)
+bytes-take zero l h i = lit< tt
+bytes-take (suc n) [] h i = lit< tt
+bytes-take (suc n) (x ∷ l) h zero = h 0
+bytes-take (suc n) (x ∷ l) h (suc i) = bytes-take n l (λ j. h (suc j)) i
+
+pub bytes-drop : (n : ℕ) (l : List ℕ) → Bytes l → Bytes (drop n l)
+bytes-drop n l h i = subst (λ (x : ℕ). x < 2 ^ 8) (sym (getD-drop n l i 0)) (h (n + i))

@@ -1,16 +1,20 @@
--- What a cut comes to, case by case, and that of a bundle that was found. Each case takes the list of refusals as far as it goes.
+-- What cutting and joining come to, case by case. Each case takes the list of refusals as far as it goes.
 -- Assumes nothing.
-use mathlib.Core.Path.{_≡_, refl, sym, ap, ap₂, _∙_}
-use mathlib.Core.Bool.{Bool, true, false, cond}
+use mathlib.Core.Path.{_≡_, refl, sym, ap, ap₂, _∙_, subst}
+use mathlib.Core.Bool.{Bool, true, false, cond, _||_}
 use mathlib.Core.List.{List, [], _∷_, _++_}
-use Prim.Native.Nat.{ℕ, _+_, _*_, _≤_}
+use Prim.Native.Nat.{ℕ, _*_, _≤_, _^_, suc-le-suc}
 use native.Mathlib.Omega.{arith}
-use lib.ListN.{length, drop, length-drop}
+use borrow.Author.Tests.{ltb-false, leb-false}
+use lib.Dec.{T, ltb, leb}
+use lib.ListN.{length, getD, drop, length-drop}
 use lib.Seq.{length-take-le}
 use Rattle.answer.specs.Answer.{accepted, badBundle, first, outcome}
-use Rattle.answer.proofs.Laws.{first-on, first-stop, accepts, refuses}
+use Rattle.answer.proofs.Laws.{none-applies, first-on, first-stop, accepts, refuses}
+use Rattle.bundle.specs.Bytes.{bytes}
 use Rattle.bundle.specs.Template.{reserved}
-use Rattle.bundle.specs.Bundle.{bundleAt, numberAt, findRefusals, cutRefusals, foundOf, findOf, cutOf, tagOf, bundleOf, refusedOf}
+use Rattle.bundle.specs.Bundle.{bundleAt, numberAt, findRefusals, cutRefusals, foundOf, findOf, cutOf, tagOf, bundleOf, refusedOf, joined, joinRefusals, joinOf}
+use Rattle.bundle.proofs.Halves.{Fitting}
 use Rattle.bundle.proofs.Lies.{lies}
 
 module _ (code : List ℕ) (k : ℕ) where
@@ -43,3 +47,41 @@ module _ (code : List ℕ) (k : ℕ) where
         let h = lies code k found in
         let e : 16 ≤ length (drop (16 * k) code) = simp length-drop (omega arith) in
         length-take-le 16 (drop (16 * k) code) e
+
+or-false : (a b : Bool) → (a || b) ≡ false → (a ≡ false) × (b ≡ false)
+or-false true b e = let z : _≡_ {A = Bool} true false = e in (z, absurd (subst T z tt))
+or-false false b e = (refl, e)
+
+-- the tag and the slots fit, the tag isn't reserved, and there is room
+pub record Joinable (tag : ℕ) (slots out : List ℕ) : Type 0 where
+  pub fitting : Fitting tag (getD slots 0 0) (getD slots 1 0) (getD slots 2 0)
+  pub known : reserved tag ≡ false
+  pub room : 16 ≤ length out
+
+module _ (tag : ℕ) (slots out : List ℕ) where
+  pub join-refused : (first (joinRefusals tag slots (length out)) ≡ accepted → ⊥)
+      → joinOf tag slots out ≡ record { answer = first (joinRefusals tag slots (length out)); out = out }
+  unfolding joinOf
+  join-refused d = ap (λ l. record { answer = first (joinRefusals tag slots (length out)); out = l }) (refuses (first (joinRefusals tag slots (length out))) _ out d)
+
+  module _ (done : first (joinRefusals tag slots (length out)) ≡ accepted) where
+    pub join-done : joinOf tag slots out ≡ record { answer = accepted; out = bytes 16 (joined tag slots) ++ drop 16 out }
+    unfolding joinOf
+    join-done = rw done
+
+    pub joinable : Joinable tag slots out
+    joinable =
+        let n = none-applies (joinRefusals tag slots (length out)) tt done in
+        let f₂ = or-false _ (leb (2 ^ 41) (getD slots 2 0)) (n .0) in
+        let f₁ = or-false _ (leb (2 ^ 41) (getD slots 1 0)) (f₂ .0) in
+        let f₀ = or-false (ltb 31 tag) (leb (2 ^ 41) (getD slots 0 0)) (f₁ .0) in
+        record {
+          fitting = record {
+            tag-fits = suc-le-suc (ltb-false 31 tag (f₀ .0));
+            a-fits = leb-false _ _ (f₀ .1);
+            b-fits = leb-false _ _ (f₁ .1);
+            c-fits = leb-false _ _ (f₂ .1);
+          };
+          known = n .1 .0;
+          room = ltb-false _ _ (n .1 .1 .0);
+        }

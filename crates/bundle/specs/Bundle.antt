@@ -81,11 +81,11 @@ abbrev pub tooLarge : ℕ → List ℕ → Bool
 tooLarge tag slots = ltb 31 tag || leb (2 ^ 41) (getD slots 0 0) || leb (2 ^ 41) (getD slots 1 0) || leb (2 ^ 41) (getD slots 2 0)
 
 -- when joining is refused
-abbrev pub joinRefusals : ℕ → List ℕ → List ℕ → List Refusal
-joinRefusals tag slots out = (badWord, tooLarge tag slots) ∷ (badBundle, reserved tag) ∷ (noRoom, ltb (length out) 16) ∷ []
+abbrev pub joinRefusals : ℕ → List ℕ → ℕ → List Refusal
+joinRefusals tag slots room = (badWord, tooLarge tag slots) ∷ (badBundle, reserved tag) ∷ (noRoom, ltb room 16) ∷ []
 
 -- what joining answers, and the output: the sixteen bytes and then what stood there before
 unfoldable pub joinOf : ℕ → List ℕ → List ℕ → Joined
 joinOf tag slots out =
-    let answer = first (joinRefusals tag slots out) in
+    let answer = first (joinRefusals tag slots (length out)) in
     record { answer = answer; out = outcome answer (bytes 16 (joined tag slots) ++ drop 16 out) out }

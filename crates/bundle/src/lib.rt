@@ -8,8 +8,8 @@ pub use half::read;
 pub use half::slots;
 pub use half::write;
 ghost use mathlib.Core.Path.{_≡_};
-ghost use lib.ListN.{length};
-ghost use Rattle.bundle.specs.Bundle.{foundOf, findOf, refusedOf, cutOf, joinOf, Joined};
+ghost use Rattle.answer.specs.Answer.{first};
+ghost use Rattle.bundle.specs.Bundle.{foundOf, findOf, refusedOf, cutOf, joinRefusals, joinOf, Joined};
 use answer::ACCEPTED;
 use answer::BAD_BUNDLE;
 use answer::BAD_WORD;
@@ -87,9 +87,9 @@ pub fn cut(code: &[u8], bundle: u64) -> Bundle
     }
 }
 
-// Writes the bundle of a tag and three slots to the first sixteen bytes of the output.
-pub fn join(tag: u64, slots: [u64; 3], out: &mut [u8]) -> u8
-    ensures { λ r. ⌜ _≡_ {A = Joined} (record { answer = r; out = now (out .exit) }) (joinOf tag slots (now (out .entry))) ⌝ }
+// What joining answers, by its tag, its slots and the length of its output.
+fn joinable(tag: u64, slots: [u64; 3], room: usize) -> u8
+    ensures { λ r. ⌜ r ≡ first (joinRefusals tag slots room) ⌝ }
 {
     if 31 < tag || WORD <= slots[0] || WORD <= slots[1] || WORD <= slots[2] {
         return BAD_WORD;
@@ -98,8 +98,19 @@ pub fn join(tag: u64, slots: [u64; 3], out: &mut [u8]) -> u8
     if units[0] == 0 {
         return BAD_BUNDLE;
     }
-    if out.len() < 16 {
+    if room < 16 {
         return NO_ROOM;
+    }
+    ACCEPTED
+}
+
+// Writes the bundle of a tag and three slots to the first sixteen bytes of the output.
+pub fn join(tag: u64, slots: [u64; 3], out: &mut [u8]) -> u8
+    ensures { λ r. ⌜ _≡_ {A = Joined} (record { answer = r; out = now (out .exit) }) (joinOf tag slots (now (out .entry))) ⌝ }
+{
+    let refusal = joinable(tag, slots, out.len());
+    if refusal != ACCEPTED {
+        return refusal;
     }
     write(&mut out[..16], pack(tag, slots));
     ACCEPTED

@@ -1,0 +1,20 @@
+-- Two outcomes that a contract allows for one input are equal: each contract is an equation with one definition.
+-- Assumes nothing.
+use mathlib.Core.Path.{_≡_}
+use mathlib.Core.List.{List}
+use Prim.Native.Nat.{ℕ}
+use Rattle.answer.proofs.Laws.{one-outcome}
+use Rattle.bundle.specs.Bundle.{foundOf, findOf, cutOf, joinOf, Joined}
+use Rattle.bundle.specs.declared.Bundle.{Bundle}
+
+pub found-unique : (code : List ℕ) (k : ℕ) {r s : ℕ} → r ≡ foundOf code k → s ≡ foundOf code k → r ≡ s
+found-unique code k = one-outcome
+
+pub find-unique : (code : List ℕ) (k : ℕ) {r s : List ℕ} → r ≡ findOf code k → s ≡ findOf code k → r ≡ s
+find-unique code k = one-outcome
+
+pub cut-unique : (code : List ℕ) (k : ℕ) {r s : Bundle} → r ≡ cutOf code k → s ≡ cutOf code k → r ≡ s
+cut-unique code k = one-outcome
+
+pub join-unique : (tag : ℕ) (slots out : List ℕ) {r s : Joined} → r ≡ joinOf tag slots out → s ≡ joinOf tag slots out → r ≡ s
+join-unique tag slots out = one-outcome
