@@ -4,9 +4,13 @@ ghost use Rattle.operand.specs.Reading.{listed, one, unread};
 ghost use mathlib.Core.List.{[], _∷_};
 
 pub struct GPRegister(pub u8);
+
 pub struct FloatRegister(pub u8);
+
 pub struct PredicateRegister(pub u8);
+
 pub struct ControlRegister(pub u8);
+
 pub struct BranchRegister(pub u8);
 
 pub enum IndirectionReg {
@@ -26,25 +30,45 @@ pub struct ApplicationRegister(pub u8);
 
 impl ApplicationRegister {
     pub const KR0: ApplicationRegister = ApplicationRegister(0);
+
     pub const KR1: ApplicationRegister = ApplicationRegister(1);
+
     pub const KR2: ApplicationRegister = ApplicationRegister(2);
+
     pub const KR3: ApplicationRegister = ApplicationRegister(3);
+
     pub const KR4: ApplicationRegister = ApplicationRegister(4);
+
     pub const KR5: ApplicationRegister = ApplicationRegister(5);
+
     pub const KR6: ApplicationRegister = ApplicationRegister(6);
+
     pub const KR7: ApplicationRegister = ApplicationRegister(7);
+
     pub const RSC: ApplicationRegister = ApplicationRegister(16);
+
     pub const BSP: ApplicationRegister = ApplicationRegister(17);
+
     pub const BSPSTORE: ApplicationRegister = ApplicationRegister(18);
+
     pub const RNAT: ApplicationRegister = ApplicationRegister(19);
+
     pub const CSD: ApplicationRegister = ApplicationRegister(25);
+
     pub const CCV: ApplicationRegister = ApplicationRegister(32);
+
     pub const UNAT: ApplicationRegister = ApplicationRegister(36);
+
     pub const FPSR: ApplicationRegister = ApplicationRegister(40);
+
     pub const ITC: ApplicationRegister = ApplicationRegister(44);
+
     pub const RUC: ApplicationRegister = ApplicationRegister(45);
+
     pub const PFS: ApplicationRegister = ApplicationRegister(64);
+
     pub const LC: ApplicationRegister = ApplicationRegister(65);
+
     pub const EC: ApplicationRegister = ApplicationRegister(66);
 }
 
@@ -56,10 +80,10 @@ pub enum Operand {
     ImmI64(i64),
     ImmU64(u64),
     Memory(GPRegister),
-    PSR,    // processor status register
-    PSR_l,  // its lower 32 bits
+    PSR, // processor status register
+    PSR_l, // its lower 32 bits
     PSR_um, // its user mask
-    PR,     // all 64 predicate registers
+    PR, // all 64 predicate registers
     IP,
     ApplicationRegister(ApplicationRegister),
     BranchRegister(BranchRegister),
@@ -101,14 +125,7 @@ pub fn one_op(dest: bool, op: Operand) -> Reading
 pub fn two_op(dest: Position, op1: Operand, op2: Operand) -> Reading
     ensures { λ r. ⌜ r ≡ listed dest (op1 ∷ op2 ∷ []) ⌝ }
 {
-    five_op(
-        dest,
-        op1,
-        op2,
-        Operand::None,
-        Operand::None,
-        Operand::None,
-    )
+    five_op(dest, op1, op2, Operand::None, Operand::None, Operand::None)
 }
 
 pub fn three_op(dest: Position, op1: Operand, op2: Operand, op3: Operand) -> Reading
@@ -136,12 +153,6 @@ pub fn five_op(
 {
     Reading {
         position: dest,
-        operands: [
-            Shown(op1),
-            Shown(op2),
-            Shown(op3),
-            Shown(op4),
-            Shown(op5),
-        ],
+        operands: [Shown(op1), Shown(op2), Shown(op3), Shown(op4), Shown(op5)],
     }
 }

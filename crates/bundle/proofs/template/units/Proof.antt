@@ -4,7 +4,7 @@ use mathlib.Core.Path.{_≡_}
 use mathlib.Core.List.{List, [], _∷_}
 use Prim.Native.Nat.{ℕ, _+_, _*_, _<_}
 use lib.ListN.{getD}
-use Rattle.bits.proofs.Check.{checked, same, same→eq}
+use Rattle.table.proofs.Check.{checked, same, same→eq}
 use Rattle.bundle.specs.Template.{M, I, F, B, L, X, unitsOf}
 use borrow.Author.Needs.{needs}
 use Rattle.bundle.proofs.template.units.Statement.{statement}
