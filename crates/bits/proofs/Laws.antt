@@ -165,21 +165,21 @@ bits-equal =
     (λ a ih b h. let q = ih (b / 2) (λ i. part-shr a 1 i 1 ∙ h (1 + i) ∙ sym (part-shr b 1 i 1)) in let r = h 0 in omega arith)
 
 -- where bit i stands to the part
-data Stands (p k i : ℕ) : Type 0 where
+pub data Stands (p k i : ℕ) : Type 0 where
   outside : (i + 1 ≤ p) ⊎ (p + k ≤ i) → Stands p k i
   inside : (d : ℕ) → d < k → i ≡ p + d → Stands p k i
 
-stands : (p k i : ℕ) → Stands p k i
+pub stands : (p k i : ℕ) → Stands p k i
 stands p k i =
     elim (decLt i p) [
       | yes h ↦ outside (inl (omega arith))
       | no h ↦ elim (decLt i (p + k)) [ yes l ↦ inside (i - p) (omega arith) (omega arith) | no l ↦ outside (inr (omega arith)) ]
     ]
 
-skip : (n p k v i : ℕ) → (i + 1 ≤ p) ⊎ (p + k ≤ i) → bit (put n p k v) i ≡ bit n i
+pub skip : (n p k v i : ℕ) → (i + 1 ≤ p) ⊎ (p + k ≤ i) → bit (put n p k v) i ≡ bit n i
 skip n p k v i = ⊎-elim (put-below n p k v i 1) (put-above n p k v i 1)
 
-hit : (n p k v i d : ℕ) → d < k → i ≡ p + d → bit (put n p k v) i ≡ bit v d
+pub hit : (n p k v i d : ℕ) → d < k → i ≡ p + d → bit (put n p k v) i ≡ bit v d
 hit n p k v i d h e = ap (bit (put n p k v)) e ∙ put-inside n p k v d h
 
 -- writes apart commute

@@ -1,2 +1,4 @@
 pub mod Laws
+pub mod Parts
+pub mod Seam
 pub mod Shift
