@@ -137,6 +137,11 @@ pub put-get : (n p k : ℕ) → put n p k (part n p k) ≡ n
 unfolding put
 put-get n p k = ap (λ (x : ℕ). above p (n % 2 ^ p) (above k x (n / 2 ^ (p + k)))) (mod-mod (n / 2 ^ p) (2 ^ k)) ∙ cut-out n p k
 
+-- only the lowest bits of what is written count
+pub put-low-bits : (n p k v : ℕ) → put n p k v ≡ put n p k (v % 2 ^ k)
+unfolding put
+put-low-bits n p k v = ap (λ (x : ℕ). above p (n % 2 ^ p) (above k x (n / 2 ^ (p + k)))) (sym (mod-mod v (2 ^ k)))
+
 -- a part can be taken out, and another number put in
 pub take-out : (n p k : ℕ) → part n p k * 2 ^ p ≤ n
 take-out n p k = omega (arith, cut-out n p k)

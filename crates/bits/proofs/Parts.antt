@@ -4,14 +4,14 @@ use mathlib.Core.Bool.{Bool, true, false, _&&_, _||_}
 use mathlib.Core.List.{List, [], _∷_}
 use mathlib.Core.Logic.{_⊎_, inl, inr, ⊎-elim}
 use Prim.Native.Nat.{ℕ, _+_, _/_, _%_, _≤_, _<_, _^_}
-use native.Mathlib.Nat.{mod-one, add-comm, mul-comm, mod-mod}
+use native.Mathlib.Nat.{mod-one, add-comm, mul-comm}
 use native.Mathlib.Omega.{arith}
 use lib.Dec.{T, leb, leb→le, lit<}
 use lib.Pow.{mod-pow-add}
 use mir.Facts.{and-yes, or-yes}
 use Rattle.bits.specs.Part.{part, above, put, bit}
 use Rattle.bits.specs.Parts.{Parts, widths, gather, scatter, apart, apartFrom, meetNot, separate, within}
-use Rattle.bits.proofs.Laws.{part-lt, above-mod, above-div, above-lt, get-put, put-get, put-put, put-comm, put-lt, put-below, put-above}
+use Rattle.bits.proofs.Laws.{part-lt, above-mod, above-div, above-lt, get-put, put-get, put-put, put-comm, put-lt, put-below, put-above, put-low-bits}
 
 pub gather-lt : (n : ℕ) (ps : Parts) → gather n ps < 2 ^ widths ps
 unfolding gather
@@ -64,11 +64,6 @@ gather-scatter n (p ∷ ps) v t =
     ∙ ap (λ (x : ℕ). x + v % 2 ^ p .1) (mul-comm (2 ^ p .1) _)
     ∙ sym (mod-pow-add v (widths ps) (p .1))
     ∙ ap (λ (x : ℕ). v % 2 ^ x) (add-comm (widths ps) (p .1))
-
--- only the lowest bits of what is written count
-put-low-bits : (n p k v : ℕ) → put n p k v ≡ put n p k (v % 2 ^ k)
-unfolding put
-put-low-bits n p k v = ap (λ (x : ℕ). above p (n % 2 ^ p) (above k x (n / 2 ^ (p + k)))) (sym (mod-mod v (2 ^ k)))
 
 -- what is there, written again, changes nothing
 pub scatter-gather : (n : ℕ) (ps : Parts) → scatter n ps (gather n ps) ≡ n

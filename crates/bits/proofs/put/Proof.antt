@@ -1,12 +1,12 @@
--- `bits::put` meets its contract: neither shift loses a bit, so the part is taken out of the word and the value put in.
+-- `bits::put` meets its contract: neither shift loses a bit, so the part is taken out of the word and the value's put in.
 -- Assumes nothing.
 use borrow.Author.Needs.{needs}
 use mathlib.Core.Path.{_≡_, _∙_, ap, ap₂, subst, sym}
 use Prim.Native.Nat.{ℕ, _+_, _-_, _*_, _%_, _≤_, _<_, _^_}
-use lib.Pow.{pow-mono}
+use native.Mathlib.Nat.{div-one}
 use mir.Facts.{fits-of-lt}
 use Rattle.bits.specs.Part.{part, put}
-use Rattle.bits.proofs.Laws.{part-lt, take-out, put-in, put-lt}
+use Rattle.bits.proofs.Laws.{part-lt, take-out, put-in, put-low-bits, put-lt}
 use Rattle.bits.proofs.Shift.{shl}
 use Rattle.bits.proofs.put.Statement.{statement}
 use Rattle.bits.proofs.put.Tie as tie
@@ -17,35 +17,47 @@ get-requires c κs = search needs
 shl-result : tie.Need-shl-result
 shl-result c = search needs
 
-taken : (c : tie.After-get) → (c .get .result * 2 ^ c .before .args .place) % 2 ^ 64 ≡ part (c .before .args .word) (c .before .args .place) (c .before .args .width) * 2 ^ c .before .args .place
-taken c =
-    let a = c .before .args in
-    ap (λ (x : ℕ). (x * 2 ^ a .place) % 2 ^ 64) (c .get .ensures)
-    ∙ shl (a .place) (a .width) _ (part-lt (a .word) (a .place) (a .width)) (c .before .pre .2)
+-- a part that was got, shifted to its place
+shifted : (r n q p k : ℕ) → r ≡ part n q k → p + k ≤ 64 → (r * 2 ^ p) % 2 ^ 64 ≡ part n q k * 2 ^ p
+shifted r n q p k e h = ap (λ (x : ℕ). (x * 2 ^ p) % 2 ^ 64) e ∙ shl p k (part n q k) (part-lt n q k) h
 
 sub-result : tie.Need-sub-result
 sub-result c =
     let a = c .before .args in
-    subst (λ (x : ℕ). x ≤ a .word) (sym (taken c)) (take-out (a .word) (a .place) (a .width))
+    subst (λ (x : ℕ). x ≤ a .word) (sym (shifted _ (a .word) (a .place) (a .place) (a .width) (c .get .ensures) (c .before .pre .2)))
+    (take-out (a .word) (a .place) (a .width))
+
+get-requires-2 : tie.Need-get-requires-2
+get-requires-2 c κs = search needs
 
 shl-result-2 : tie.Need-shl-result-2
 shl-result-2 c = search needs
 
-result : (c : tie.After-get)
-    → c .before .args .word - (c .get .result * 2 ^ c .before .args .place) % 2 ^ 64 + (c .before .args .value * 2 ^ c .before .args .place) % 2 ^ 64
-    ≡ put (c .before .args .word) (c .before .args .place) (c .before .args .width) (c .before .args .value)
+result : (c : tie.After-get2) →
+    let a = c .before .before .args in
+    a .word - (c .before .get .result * 2 ^ a .place) % 2 ^ 64 + (c .get2 .result * 2 ^ a .place) % 2 ^ 64 ≡ put (a .word) (a .place) (a .width) (a .value)
 result c =
-    let a = c .before .args in
-    ap₂ (λ (x y : ℕ). a .word - x + y) (taken c) (shl (a .place) (a .width) (a .value) (c .before .pre .3) (c .before .pre .2))
-    ∙ put-in (a .word) (a .place) (a .width) (a .value) (c .before .pre .3)
+    let start = c .before .before in
+    let a = start .args in
+    let low = ap (λ (x : ℕ). x % 2 ^ a .width) (div-one (a .value)) in
+    ap₂ (λ (x y : ℕ). a .word - x + y)
+    (shifted _ (a .word) (a .place) (a .place) (a .width) (c .before .get .ensures) (start .pre .2))
+    (shifted _ (a .value) 0 (a .place) (a .width) (c .get2 .ensures) (start .pre .2))
+    ∙ put-in (a .word) (a .place) (a .width) (part (a .value) 0 (a .width)) (part-lt (a .value) 0 (a .width))
+    ∙ ap (put (a .word) (a .place) (a .width)) low
+    ∙ sym (put-low-bits (a .word) (a .place) (a .width) (a .value))
 
 add-result : tie.Need-add-result
 add-result c =
-    let a = c .before .args in
-    fits-of-lt (subst (λ (x : ℕ). x < 2 ^ 64) (sym (result c)) (put-lt (a .word) (a .place) (a .width) (a .value) 64 (c .before .pre .2) (c .before .fits .word .fits)))
+    let start = c .before .before in
+    let a = start .args in
+    fits-of-lt
+    (subst (λ (x : ℕ). x < 2 ^ 64) (sym (result c)) (put-lt (a .word) (a .place) (a .width) (a .value) 64 (start .pre .2) (start .fits .word .fits)))
 
 returns : tie.Need-returns
 returns c = result c
 
 pub put-spec : {M : Type 1} → statement M
-put-spec = tie.close (tie.spec get-requires shl-result sub-result shl-result-2 add-result returns)
+put-spec =
+    tie.close
+    (tie.spec get-requires shl-result sub-result get-requires-2 shl-result-2 add-result returns)

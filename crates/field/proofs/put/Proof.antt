@@ -1,0 +1,80 @@
+-- `put` meets its contract: a part lies in one half, or is written in two steps. Assumes nothing.
+use mathlib.Core.Path.{_≡_, _∙_, ap, ap₂}
+use Prim.Native.Nat.{ℕ, _+_, _-_, _≤_, _<_, _^_}
+use native.Mathlib.Omega.{arith}
+use Rattle.bits.specs.Part.{above}
+use Rattle.bits.proofs.Laws.{put-lt}
+use Rattle.field.proofs.Laws.{set-high, set-low, set-seam}
+use borrow.Author.Needs.{needs}
+use Rattle.field.proofs.put.Statement.{statement}
+use Rattle.field.proofs.put.Tie as tie
+
+put-requires : tie.Need-put-requires
+put-requires c κs = search needs
+
+returns : tie.Need-returns
+returns c =
+    let start = c .before .before in
+    let a = start .args in
+    let l : a .halves .low < 2 ^ 64 = omega (arith, start) in
+    ap (above 64 (a .halves .low)) (c .put .ensures) ∙ set-high (a .halves .low) (a .halves .high) (a .place) (a .width) l (a .value) (c .before .if1 .taken)
+
+add-if2 : tie.Need-add-if2
+add-if2 c = search needs
+
+put-requires-2 : tie.Need-put-requires-2
+put-requires-2 c κs = search needs
+
+returns-2 : tie.Need-returns-2
+returns-2 c =
+    let start = c .before .before .before in
+    let a = start .args in
+    let l : a .halves .low < 2 ^ 64 = omega (arith, start) in
+    ap (λ (x : ℕ). above 64 x (a .halves .high)) (c .put2 .ensures) ∙ set-low (a .halves .low) (a .halves .high) (a .place) (a .width) l (a .value) (c .before .if2 .taken)
+
+sub-below : tie.Need-sub-below
+sub-below c = search needs
+
+put-requires-3 : tie.Need-put-requires-3
+put-requires-3 c κs = search needs
+
+sub-put : tie.Need-sub-put
+sub-put c = search needs
+
+cast-put : tie.Need-cast-put
+cast-put c = search needs
+
+shr-put : tie.Need-shr-put
+shr-put c = search needs
+
+put-requires-4 : tie.Need-put-requires-4
+put-requires-4 c κs = search needs
+
+returns-3 : tie.Need-returns-3
+returns-3 c =
+    let start = c .before .before .before .before in
+    let a = start .args in
+    let below = 64 - a .place in
+    let l : a .halves .low < 2 ^ 64 = omega (arith, start) in
+    let seam : a .place + below ≡ 64 = omega arith in
+    let less : below ≤ a .width = omega arith in
+    let fits : a .place + below ≤ 64 = omega arith in
+    ap₂ (above 64) (c .before .put3 .ensures) (c .put4 .ensures)
+    ∙ set-seam (a .halves .low) (a .halves .high) (a .place) (a .width) l (a .value) below seam less (put-lt (a .halves .low) (a .place) below (a .value) 64 fits l)
+
+pub put-spec : {M : Type 1} → statement M
+put-spec =
+    tie.close
+    (tie.spec
+    put-requires
+    returns
+    add-if2
+    put-requires-2
+    returns-2
+    sub-below
+    put-requires-3
+    sub-put
+    cast-put
+    shr-put
+    put-requires-4
+    returns-3)

@@ -1,0 +1,98 @@
+-- `scatter` meets its contract: what is left to be scattered into the parts from i on gives the same bundle. Assumes nothing.
+use mathlib.Core.Path.{_≡_, _∙_, ap, ap₂, sym}
+use Prim.Native.Nat.{ℕ, suc, _-_, _/_, _≤_, _<_, _^_}
+use native.Mathlib.Numerals.{add-one}
+use native.Mathlib.Omega.{arith}
+use borrow.Author.Needs.{needs}
+use lib.ListN.{length, getD, drop, drop-of-length-le}
+use Rattle.bits.specs.Part.{put}
+use Rattle.bits.specs.Parts.{scatter}
+use Rattle.bundle.specs.Bundle.{whole}
+use Rattle.field.specs.Field.{placed}
+use Rattle.field.proofs.Steps.{Reads, reads, scatter-step}
+use Rattle.field.proofs.scatter.Statement.{statement}
+use Rattle.field.proofs.scatter.Tie as tie
+
+abbrev Inv-loop : tie.InvT-loop
+Inv-loop slot raw parts bundle₀ rest₀ i₀ bundle rest i = (i ≤ 6) × (scatter (whole bundle₀) (placed slot parts) rest₀ ≡ scatter (whole bundle) (placed slot (drop i parts)) rest)
+
+abbrev μ-loop : tie.MeasureT-loop
+μ-loop slot raw parts bundle₀ rest₀ i₀ bundle rest i = 6 - i
+
+six : (c : tie.Start Inv-loop μ-loop) → length (c .args .t3) ≡ 6
+six c = search needs
+
+-- part i, at which a turn is
+module _ (c : tie.In-loop Inv-loop μ-loop) where
+  before : c .before .loop .i < length (c .before .before .args .t3)
+  before = let six = six (c .before .before) in omega arith
+
+  can-read : Reads (c .before .before .args .slot) (getD (c .before .before .args .t3) (c .before .loop .i) (0, 0)) (drop (suc (c .before .loop .i)) (c .before .before .args .t3))
+  can-read = reads (c .before .before .args .slot) (c .before .before .args .t3) (c .before .loop .i) before (c .before .before .pre .1)
+
+loop-holds : tie.Need-loop-holds Inv-loop μ-loop
+loop-holds c = search needs
+
+mul-part : tie.Need-mul-part Inv-loop μ-loop
+mul-part c = search needs
+
+array-copy-out-part : tie.Need-array-copy-out-part Inv-loop μ-loop
+array-copy-out-part c = search needs
+
+stands-at-requires : tie.Need-stands-at-requires Inv-loop μ-loop
+stands-at-requires c κs = (c .before .before .before .pre .0, can-read (c .before) .place-fits)
+
+put-requires : tie.Need-put-requires Inv-loop μ-loop
+put-requires c κs = let r = can-read (c .before .before) in rw (c .stands-at .ensures) (r .stands, r .width-fits, r .ends)
+
+cast-rest : tie.Need-cast-rest Inv-loop μ-loop
+cast-rest c = let r = can-read (c .before .before .before) in omega arith
+
+shr-rest : tie.Need-shr-rest Inv-loop μ-loop
+shr-rest c = can-read (c .before .before .before) .width-fits
+
+add-i : tie.Need-add-i Inv-loop μ-loop
+add-i c = search needs
+
+loop-less : tie.Need-loop-less Inv-loop μ-loop
+loop-less c = search needs
+
+loop-again : tie.Need-loop-again Inv-loop μ-loop
+loop-again c =
+    let t = c .before .before .before in
+    let l = t .before in
+    let a = l .before .args in
+    let p = getD (a .t3) (l .loop .i) (0, 0) in
+    let n = whole (l .loop .bundle) in
+    let put-is = c .put .ensures ∙ ap (λ (x : ℕ). put n x (p .1) (l .loop .rest)) (c .before .stands-at .ensures) in (
+      search needs,
+      l .loop .inv .1
+          ∙ scatter-step n (a .slot) (a .t3) (l .loop .i) (before t) (l .loop .rest)
+          ∙ ap₂ (λ (m k : ℕ). scatter m (placed (a .slot) (drop k (a .t3))) (l .loop .rest / 2 ^ p .1)) (sym put-is) (sym (add-one (l .loop .i))),
+    )
+
+returns : tie.Need-returns Inv-loop μ-loop
+unfolding scatter
+returns c =
+    let l = c .before in
+    let a = l .before .args in
+    let done : length (a .t3) ≤ l .loop .i = let six = six (l .before) in omega arith in
+    sym (l .loop .inv .1 ∙ ap (λ ps. scatter (whole (l .loop .bundle)) (placed (a .slot) ps) (l .loop .rest)) (drop-of-length-le (a .t3) done))
+
+pub scatter-spec : {M : Type 1} → statement M
+scatter-spec =
+    tie.close
+    (tie.spec
+    Inv-loop
+    μ-loop
+    loop-holds
+    mul-part
+    array-copy-out-part
+    stands-at-requires
+    put-requires
+    cast-rest
+    shr-rest
+    add-i
+    loop-less
+    loop-again
+    returns)

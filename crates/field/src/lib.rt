@@ -1,0 +1,99 @@
+// A number that stands in several parts of a bundle: gathered and scattered.
+ghost use mathlib.Core.Path.{_≡_};
+ghost use Prim.Native.Nat.{_+_, _≤_, _<_};
+ghost use lib.Dec.{T};
+ghost use Rattle.bits.specs.Part.{part};
+ghost use Rattle.bits.specs.Part.{put as Part·put};
+ghost use Rattle.bits.specs.Parts.{gather as Parts·gather, scatter as Parts·scatter};
+ghost use Rattle.bundle.specs.Bundle.{whole};
+ghost use Rattle.field.specs.Field.{standsAt, placed, readable};
+use bundle::Halves;
+
+// A part's place and width. The place counts from bit 0 of the slot, and from `L` on from bit 0 of the L slot.
+pub struct Part(pub u32, pub u32);
+
+pub const L: u32 = 64;
+
+// A part of a bundle, across the halves' seam where it lies there.
+fn get(halves: Halves, place: u32, width: u32) -> u64
+    requires { ⌜ (place < 128) × (width < 64) × (place + width ≤ 128) ⌝ }
+    ensures { λ r. ⌜ r ≡ part (whole halves) place width ⌝ }
+{
+    if 64 <= place {
+        return bits::get(halves.high, place - 64, width);
+    }
+    if place + width <= 64 {
+        return bits::get(halves.low, place, width);
+    }
+    let below = 64 - place;
+    bits::get(halves.low, place, below) + (bits::get(halves.high, 0, width - below) << below)
+}
+
+fn put(halves: Halves, place: u32, width: u32, value: u64) -> Halves
+    requires { ⌜ (place < 128) × (width < 64) × (place + width ≤ 128) ⌝ }
+    ensures { λ r. ⌜ whole r ≡ Part·put (whole halves) place width value ⌝ }
+{
+    let low = halves.low;
+    let high = halves.high;
+    if 64 <= place {
+        let put = bits::put(high, place - 64, width, value);
+        return Halves { low, high: put };
+    }
+    if place + width <= 64 {
+        let put = bits::put(low, place, width, value);
+        return Halves { low: put, high };
+    }
+    let below = 64 - place;
+    let first = bits::put(low, place, below, value);
+    let second = bits::put(high, 0, width - below, value >> below);
+    Halves {
+        low: first,
+        high: second,
+    }
+}
+
+// Where a part of a slot stands in the bundle.
+fn stands_at(slot: u32, place: u32) -> u32
+    requires { ⌜ (slot < 3) × (place < 128) ⌝ }
+    ensures { λ r. ⌜ r ≡ standsAt slot place ⌝ }
+{
+    if place < L {
+        5 + 41 * slot + place
+    } else {
+        46 + (place - L)
+    }
+}
+
+// The number that stands in the parts of a slot.
+pub fn gather(halves: Halves, slot: u32, parts: [Part; 6]) -> u64
+    requires { ⌜ (slot < 3) × T (readable slot parts) ⌝ }
+    ensures { λ r. ⌜ r ≡ Parts·gather (whole halves) (placed slot parts) ⌝ }
+{
+    let mut raw = 0;
+    let mut i = 6;
+    while 0 < i {
+        i -= 1;
+        let part = parts[i];
+        let width = part.1;
+        raw = (raw << width) + get(halves, stands_at(slot, part.0), width);
+    }
+    raw
+}
+
+// The bundle with a number in the parts of a slot.
+pub fn scatter(halves: Halves, slot: u32, parts: [Part; 6], raw: u64) -> Halves
+    requires { ⌜ (slot < 3) × T (readable slot parts) ⌝ }
+    ensures { λ r. ⌜ whole r ≡ Parts·scatter (whole halves) (placed slot parts) raw ⌝ }
+{
+    let mut bundle = halves;
+    let mut rest = raw;
+    let mut i = 0;
+    while i < 6 {
+        let part = parts[i];
+        let width = part.1;
+        bundle = put(bundle, stands_at(slot, part.0), width, rest);
+        rest = rest >> width;
+        i += 1;
+    }
+    bundle
+}
