@@ -1,4 +1,8 @@
 // An instruction's operands with 000's names, and a reading: the last-written position and five operands.
+mod twos;
+
+pub use twos::integer;
+pub use twos::pattern;
 ghost use mathlib.Core.Path.{_≡_};
 ghost use Rattle.operand.specs.Reading.{listed, one, unread};
 ghost use mathlib.Core.List.{[], _∷_};
