@@ -1,0 +1,111 @@
+-- Document 01's table of immediates. Assumes nothing.
+use Prim.Native.Nat.{ℕ, zero, suc}
+use mathlib.Core.Bool.{Bool, true, false, cond}
+use mathlib.Core.List.{List, [], _∷_}
+use lib.Dec.{eqb}
+use Rattle.table.specs.Table.{select}
+use Rattle.bundle.specs.Template.{M, I, F, B, X}
+use Rattle.field.specs.Field.{L}
+use Rattle.field.specs.declared.Part.{Part}
+use Rattle.immediate.specs.declared.row.Meaning.{Meaning}
+use Rattle.immediate.specs.declared.row.Meaning.the-variants.{None, Unsigned, Signed}
+use Rattle.immediate.specs.declared.row.Row.{Row}
+
+abbrev pub A : ℕ
+A = 65
+
+infix 80 _wide_
+abbrev pub _wide_ : ℕ → ℕ → Part
+place wide width = (place, width)
+
+-- six parts, of which the last have no width
+abbrev pub padded : ℕ → List Part → List Part
+padded zero ps = []
+padded (suc n) [] = (0, 0) ∷ padded n []
+padded (suc n) (p ∷ ps) = p ∷ padded n ps
+
+abbrev pub row : Meaning → List Part → Row
+row meaning parts = record { meaning = meaning; parts = padded 6 parts }
+
+abbrev pub noRow : Row
+noRow = row None []
+
+-- a form: the family letter's byte and the number
+abbrev pub Form : Type 0
+Form = ℕ × ℕ
+
+abbrev pub a : ℕ → Form
+a n = (A, n)
+
+abbrev pub b : ℕ → Form
+b n = (B, n)
+
+abbrev pub f : ℕ → Form
+f n = (F, n)
+
+abbrev pub m : ℕ → Form
+m n = (M, n)
+
+abbrev pub x : ℕ → Form
+x n = (X, n)
+
+-- some forms and their row
+abbrev pub Line : Type 0
+Line = List Form × Row
+
+infix 70 _are_
+abbrev pub _are_ : List Form → Row → Line
+forms are r = (forms, r)
+
+-- what the raw number means: itself; so many times itself, with a sign
+abbrev pub unsigned : Meaning
+unsigned = Unsigned 0
+
+abbrev pub signed : Meaning
+signed = Signed 1
+
+abbrev pub times16 : Meaning
+times16 = Signed 16
+
+-- the table, in document 01's order
+unfoldable pub lines : List Line
+lines =
+    (a 2 ∷ a 10 ∷ []) are row (Unsigned 1) (27 wide 2 ∷ [])
+    ∷ (a 3 ∷ a 8 ∷ m 30 ∷ []) are row signed (13 wide 7 ∷ 36 wide 1 ∷ [])
+    ∷ (a 4 ∷ []) are row signed (13 wide 7 ∷ 27 wide 6 ∷ 36 wide 1 ∷ [])
+    ∷ (a 5 ∷ []) are row signed (13 wide 7 ∷ 27 wide 9 ∷ 22 wide 5 ∷ 36 wide 1 ∷ [])
+    ∷ (m 3 ∷ m 8 ∷ m 15 ∷ []) are row signed (13 wide 7 ∷ 27 wide 1 ∷ 36 wide 1 ∷ [])
+    ∷ (m 5 ∷ m 10 ∷ []) are row signed (6 wide 7 ∷ 27 wide 1 ∷ 36 wide 1 ∷ [])
+    ∷ (m 17 ∷ []) are row signed (13 wide 3 ∷ [])
+    ∷ (m 20 ∷ m 21 ∷ []) are row times16 (6 wide 7 ∷ 20 wide 13 ∷ 36 wide 1 ∷ [])
+    ∷ (m 22 ∷ m 23 ∷ b 1 ∷ b 2 ∷ b 3 ∷ []) are row times16 (13 wide 20 ∷ 36 wide 1 ∷ [])
+    ∷ (f 14 ∷ []) are row times16 (6 wide 20 ∷ 36 wide 1 ∷ [])
+    ∷ (m 37 ∷ m 48 ∷ f 15 ∷ f 16 ∷ b 9 ∷ []) are row unsigned (6 wide 20 ∷ 36 wide 1 ∷ [])
+    ∷ (m 44 ∷ []) are row unsigned (6 wide 21 ∷ 31 wide 2 ∷ 36 wide 1 ∷ [])
+    ∷ (x 1 ∷ x 5 ∷ []) are row unsigned (6 wide 20 ∷ 36 wide 1 ∷ L 0 wide 41 ∷ [])
+    ∷ (x 2 ∷ []) are row unsigned (13 wide 7 ∷ 27 wide 9 ∷ 22 wide 5 ∷ 21 wide 1 ∷ L 0 wide 41 ∷ 36 wide 1 ∷ [])
+    ∷ (x 3 ∷ x 4 ∷ []) are row times16 (13 wide 20 ∷ L 2 wide 39 ∷ 36 wide 1 ∷ [])
+    ∷ []
+
+-- a family's numbers in a line, each with the row
+abbrev pub numbered : ℕ → List Form → Row → List (ℕ × Row) → List (ℕ × Row)
+numbered family [] r rest = rest
+numbered family (form ∷ forms) r rest =
+    let after = numbered family forms r rest in
+    cond (eqb family (form .0)) ((form .1, r) ∷ after) after
+
+abbrev pub ofFamily : ℕ → List Line → List (ℕ × Row)
+ofFamily family [] = []
+ofFamily family (l ∷ ls) = numbered family (l .0) (l .1) (ofFamily family ls)
+
+-- the rows of a family, by number
+unfoldable pub rowsOf : ℕ → List (ℕ × Row)
+unfolding lines
+rowsOf family = ofFamily family lines
+
+abbrev pub families : List (ℕ × List (ℕ × Row))
+families = (A, rowsOf A) ∷ (B, rowsOf B) ∷ (F, rowsOf F) ∷ (M, rowsOf M) ∷ (X, rowsOf X) ∷ []
+
+-- the row of a form, and none where it has none
+unfoldable pub rowOf : ℕ → ℕ → Row
+rowOf family number = select number (select family families []) noRow

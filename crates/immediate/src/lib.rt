@@ -1,0 +1,3 @@
+// The immediates of a bundle's forms, read by the manual, and the targets that they make.
+mod meaning;
+mod row;
