@@ -45,3 +45,12 @@ moved-up (negsuc n) f t =
     let h : n < 2 ^ 63 = f .sfits in
     let g : suc n ≤ 2 ^ 63 = omega arith in
     (2 ^ 63 - suc n, ap (λ (b : Bool). cond b (negsuc (suc n - suc (2 ^ 63))) (pos (2 ^ 63 - suc n))) (le-ltb (2 ^ 63) (suc n) g), omega arith, omega arith)
+
+-- an integer is that of its pattern
+pub integer-pattern : (z : ℤ) → SFits w64 z → integerOf (patternOf z) ≡ z
+integer-pattern (pos n) f = ap (λ (b : Bool). cond b (pos n) (negsuc (2 ^ 64 - suc n))) (lt-ltb n (2 ^ 63) (f .sfits))
+integer-pattern (negsuc n) f =
+    let h : n < 2 ^ 63 = f .sfits in
+    let g : 2 ^ 63 ≤ 2 ^ 64 - suc n = omega arith in
+    let e : 2 ^ 64 - suc (2 ^ 64 - suc n) ≡ n = omega arith in
+    ap (λ (b : Bool). cond b (pos (2 ^ 64 - suc n)) (negsuc (2 ^ 64 - suc (2 ^ 64 - suc n)))) (le-ltb (2 ^ 64 - suc n) (2 ^ 63) g) ∙ ap negsuc e
