@@ -3,10 +3,10 @@
 use mathlib.Core.Path.{_≡_, refl, sym, ap, ap₂, _∙_, subst}
 use mathlib.Core.Bool.{Bool, true, false, cond, _||_}
 use mathlib.Core.List.{List, [], _∷_, _++_}
-use Prim.Native.Nat.{ℕ, _*_, _≤_, _^_, suc-le-suc}
+use Prim.Native.Nat.{ℕ, _*_, _≤_, _<_, _^_, suc-le-suc}
 use native.Mathlib.Omega.{arith}
-use borrow.Author.Tests.{ltb-false, leb-false}
-use lib.Dec.{T, ltb, leb}
+use borrow.Author.Tests.{ltb-false, leb-false, eqb-true}
+use lib.Dec.{T, eqb, ltb, leb}
 use lib.ListN.{length, getD, drop, length-drop}
 use lib.Seq.{length-take-le}
 use Rattle.answer.specs.Answer.{accepted, badBundle, first, outcome}
@@ -14,6 +14,8 @@ use Rattle.answer.proofs.Laws.{none-applies, first-on, first-stop, accepts, ref
 use Rattle.bundle.specs.Bytes.{bytes}
 use Rattle.bundle.specs.Template.{reserved}
 use Rattle.bundle.specs.Bundle.{bundleAt, numberAt, findRefusals, cutRefusals, foundOf, findOf, cutOf, tagOf, bundleOf, refusedOf, joined, joinRefusals, joinOf}
+use Rattle.bundle.specs.declared.Bundle.{Bundle}
+use Rattle.bundle.proofs.Bytes.{Bytes, number-lt, bytes-take, bytes-drop}
 use Rattle.bundle.proofs.Halves.{Fitting}
 use Rattle.bundle.proofs.Lies.{lies}
 
@@ -48,7 +50,36 @@ module _ (code : List ℕ) (k : ℕ) where
         let e : 16 ≤ length (drop (16 * k) code) = simp length-drop (omega arith) in
         length-take-le 16 (drop (16 * k) code) e
 
-or-false : (a b : Bool) → (a || b) ≡ false → (a ≡ false) × (b ≡ false)
+-- sixteen bytes are a number below 2 ^ 128
+pub number-at-lt : (code : List ℕ) (k : ℕ) → foundOf code k ≡ accepted → Bytes code → numberAt code k < 2 ^ 128
+number-at-lt code k found b =
+    subst (λ (n : ℕ). numberAt code k < 2 ^ (8 * n)) (found-sixteen code k found)
+    (number-lt (bundleAt code k) (bytes-take 16 (drop (16 * k) code) (bytes-drop (16 * k) code b)))
+
+-- what a cut answers, and what it hands back where it accepts
+answered : (a : ℕ) (b : Bundle) (t : ℕ) → b .answer ≡ accepted → (outcome a b (refusedOf a t)) .answer ≡ a
+answered a b t h = go (eqb a accepted) refl
+  where
+    go : (e : Bool) → eqb a accepted ≡ e → (cond e b (refusedOf a t)) .answer ≡ a
+    go true q = h ∙ sym (eqb-true a accepted q)
+    go false q = refl
+
+pub cut-answer : (code : List ℕ) (k : ℕ) → cutOf code k .answer ≡ first (cutRefusals code k)
+unfolding cutOf
+cut-answer code k = answered (first (cutRefusals code k)) (bundleOf (numberAt code k)) _ refl
+
+module _ (code : List ℕ) (k : ℕ) (cut : first (cutRefusals code k) ≡ accepted) where
+  pub cut-found : foundOf code k ≡ accepted
+  unfolding foundOf
+  cut-found = let n = none-applies (cutRefusals code k) tt cut in rw (n .0, n .1 .0)
+
+  pub cut-known : reserved (tagOf (numberAt code k)) ≡ false
+  cut-known = none-applies (cutRefusals code k) tt cut .1 .1 .0
+
+  pub cut-bundle : cutOf code k ≡ bundleOf (numberAt code k)
+  cut-bundle = cut-done code k cut-found cut-known
+
+pub or-false : (a b : Bool) → (a || b) ≡ false → (a ≡ false) × (b ≡ false)
 or-false true b e = let z : _≡_ {A = Bool} true false = e in (z, absurd (subst T z tt))
 or-false false b e = (refl, e)
 

@@ -14,8 +14,13 @@ use Rattle.bits.specs.Part.{part, above, put}
 use Rattle.bits.specs.Parts.{widths, gather, scatter}
 use Rattle.bits.proofs.Parts.{gather-lt}
 use Rattle.bits.proofs.Shift.{shl}
-use Rattle.field.specs.Field.{standsAt, placed, inBundle, readable}
+use Rattle.field.specs.Field.{standsAt, placed, bitsOf, inBundle, readable}
 use Rattle.field.specs.declared.Part.{Part}
+
+-- a slot's parts have as many bits in the bundle
+pub bits-placed : (slot : ℕ) (ps : List Part) → widths (placed slot ps) ≡ bitsOf ps
+bits-placed slot [] = refl
+bits-placed slot (p ∷ ps) = ap (λ (k : ℕ). p .1 + k) (bits-placed slot ps)
 
 -- part p can be read, and the parts after it too
 pub record Reads (slot : ℕ) (p : Part) (after : List Part) : Type 0 where
@@ -23,13 +28,13 @@ pub record Reads (slot : ℕ) (p : Part) (after : List Part) : Type 0 where
   pub width-fits : p .1 < 64
   pub stands : standsAt slot (p .0) < 128
   pub ends : standsAt slot (p .0) + p .1 ≤ 128
-  pub total : p .1 + widths (placed slot after) ≤ 64
+  pub total : p .1 + bitsOf after ≤ 64
 
 pub reads : (slot : ℕ) (ps : List Part) (i : ℕ) → i < length ps → T (readable slot ps) → Reads slot (getD ps i (0, 0)) (drop (suc i) ps)
 reads slot [] i h t = absurd (not-suc-le-zero h)
 reads slot (p ∷ ps) zero h t =
-    let a = and-yes (inBundle slot p && leb (p .1 + widths (placed slot ps)) 64) (readable slot ps) t in
-    let b = and-yes (inBundle slot p) (leb (p .1 + widths (placed slot ps)) 64) (a .0) in
+    let a = and-yes (inBundle slot p && leb (p .1 + bitsOf ps) 64) (readable slot ps) t in
+    let b = and-yes (inBundle slot p) (leb (p .1 + bitsOf ps) 64) (a .0) in
     let c = and-yes (ltb (p .0) 128 && ltb (p .1) 64 && ltb (standsAt slot (p .0)) 128) (leb (standsAt slot (p .0) + p .1) 128) (b .0) in
     let d = and-yes (ltb (p .0) 128 && ltb (p .1) 64) (ltb (standsAt slot (p .0)) 128) (c .0) in
     let e = and-yes (ltb (p .0) 128) (ltb (p .1) 64) (d .0) in
@@ -41,7 +46,7 @@ reads slot (p ∷ ps) zero h t =
       total = leb→le _ _ (b .1);
     }
 reads slot (p ∷ ps) (suc i) h t =
-    reads slot ps i (le-of-suc-le-suc h) (and-yes (inBundle slot p && leb (p .1 + widths (placed slot ps)) 64) (readable slot ps) t .1)
+    reads slot ps i (le-of-suc-le-suc h) (and-yes (inBundle slot p && leb (p .1 + bitsOf ps) 64) (readable slot ps) t .1)
 
 module _ (n slot : ℕ) (ps : List Part) (i : ℕ) (h : i < length ps) where
   split : placed slot (drop i ps) ≡ (standsAt slot (getD ps i (0, 0) .0), getD ps i (0, 0) .1) ∷ placed slot (drop (suc i) ps)
@@ -55,7 +60,7 @@ module _ (n slot : ℕ) (ps : List Part) (i : ℕ) (h : i < length ps) where
       let w = getD ps i (0, 0) .1 in
       let r = reads slot ps i h t in
       let small = subst (λ (y : ℕ). y < 2 ^ widths (placed slot (drop (suc i) ps))) (sym e) (gather-lt n (placed slot (drop (suc i) ps))) in
-      ap₂ (λ (y z : ℕ). y + z) (shl w (widths (placed slot (drop (suc i) ps))) raw small (r .total) ∙ mul-comm raw (2 ^ w)) f
+      ap₂ (λ (y z : ℕ). y + z) (shl w (widths (placed slot (drop (suc i) ps))) raw small (subst (λ (k : ℕ). w + k ≤ 64) (sym (bits-placed slot (drop (suc i) ps))) (r .total)) ∙ mul-comm raw (2 ^ w)) f
       ∙ add-comm (2 ^ w * raw) _
       ∙ ap (above w (part n (standsAt slot (getD ps i (0, 0) .0)) w)) e
       ∙ sym (ap (gather n) split)
@@ -64,7 +69,7 @@ module _ (n slot : ℕ) (ps : List Part) (i : ℕ) (h : i < length ps) where
   gather-fits t =
       let r = reads slot ps i h t in
       let e : widths (placed slot (drop i ps)) ≡ getD ps i (0, 0) .1 + widths (placed slot (drop (suc i) ps)) = ap widths split in
-      let l : widths (placed slot (drop i ps)) ≤ 64 = omega arith in
+      let l : widths (placed slot (drop i ps)) ≤ 64 = omega (arith, bits-placed slot (drop (suc i) ps)) in
       lt-of-lt-of-le (gather-lt n (placed slot (drop i ps))) (pow-mono l)
 
   pub scatter-step : (v : ℕ)
@@ -72,3 +77,7 @@ module _ (n slot : ℕ) (ps : List Part) (i : ℕ) (h : i < length ps) where
       ≡ scatter (put n (standsAt slot (getD ps i (0, 0) .0)) (getD ps i (0, 0) .1) v) (placed slot (drop (suc i) ps)) (v / 2 ^ getD ps i (0, 0) .1)
   unfolding scatter
   scatter-step v = ap (λ qs. scatter n qs v) split
+
+-- what is gathered has as many bits as the parts
+pub gathered-lt : (n slot : ℕ) (ps : List Part) → gather n (placed slot ps) < 2 ^ bitsOf ps
+gathered-lt n slot ps = subst (λ (k : ℕ). gather n (placed slot ps) < 2 ^ k) (bits-placed slot ps) (gather-lt n (placed slot ps))

@@ -1,5 +1,6 @@
--- What `let .. else` tells of an operand in its `else`: the operand isn't of that kind. Assumes nothing.
+-- What a `match` tells in its last arm of an enum that isn't of the kinds before: by cases on the kind. Assumes nothing.
 use mathlib.Core.Path.{_≡_, refl}
+use mathlib.Core.Bool.{true}
 use mathlib.Core.List.{[], _∷_}
 use Prim.Native.Nat.{ℕ}
 use lib.IntN.{ℤ}
@@ -9,6 +10,12 @@ use Rattle.operand.specs.Kind.{ofI64, ofU64}
 use Rattle.operand.specs.declared.Operand.{Operand}
 use Rattle.operand.specs.declared.Operand.the-variants.{None, GPRegister, FloatRegister, PredicateRegister, ImmI64, ImmU64, Memory, PSR, «PSR_l», «PSR_um», PR, IP, ApplicationRegister, BranchRegister, ControlRegister, Indirection}
 use Rattle.operand.proofs.Operand.{the-type}
+use Rattle.immediate.specs.Row.{noRow}
+use Rattle.immediate.specs.Immediate.{means, onlyTimes16}
+use Rattle.immediate.specs.declared.row.Meaning.{Meaning}
+use Rattle.immediate.specs.declared.row.Meaning.the-variants.{None as NoMeaning, Unsigned, Signed}
+use Rattle.immediate.specs.declared.row.Row.{Row}
+use Rattle.immediate.proofs.row.Meaning.{the-type as meaning-type}
 
 pub not-i64 {ℓ} : {A : Type ℓ} (o : Operand) (f : ℤ → A) (other : A) → OneOf (0 ∷ 1 ∷ 2 ∷ 3 ∷ 5 ∷ 6 ∷ 7 ∷ 8 ∷ 9 ∷ 10 ∷ 11 ∷ 12 ∷ 13 ∷ 14 ∷ 15 ∷ []) (tagOf the-type o) → ofI64 o f other ≡ other
 not-i64 None f other k = refl
@@ -45,3 +52,13 @@ not-u64 (ApplicationRegister r) f other k = refl
 not-u64 (BranchRegister r) f other k = refl
 not-u64 (ControlRegister r) f other k = refl
 not-u64 (Indirection i r) f other k = refl
+
+pub some-meaning : (m : Meaning) → OneOf (1 ∷ 2 ∷ []) (tagOf meaning-type m) → means m ≡ true
+some-meaning NoMeaning k = absurd (miss (1 ∷ 2 ∷ []) 0 tt k)
+some-meaning (Unsigned plus) k = refl
+some-meaning (Signed unit) k = refl
+
+pub no-target : (m : Meaning) (row : Row) → OneOf (0 ∷ 1 ∷ []) (tagOf meaning-type m) → onlyTimes16 m row ≡ noRow
+no-target NoMeaning row k = refl
+no-target (Unsigned plus) row k = refl
+no-target (Signed unit) row k = absurd (miss (0 ∷ 1 ∷ []) 2 tt k)

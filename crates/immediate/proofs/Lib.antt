@@ -1,2 +1,4 @@
 pub mod Kind
+pub mod Laws
+pub mod Rows
 pub mod Units

@@ -1,2 +1,3 @@
+pub mod Immediate
 pub mod Meaning
 pub mod Row

@@ -1,5 +1,7 @@
 // The rows of document 01's table: where a form's immediate stands, and what its number means.
 ghost use mathlib.Core.Path.{_≡_};
+ghost use Prim.Native.Nat.{_≤_};
+ghost use Rattle.field.specs.Field.{bitsOf};
 ghost use Rattle.table.specs.Table.{select};
 ghost use Rattle.immediate.specs.Row.{rowsOf, rowOf, noRow};
 use field::L;
@@ -19,7 +21,7 @@ pub struct Row {
 
 const NO: Part = Part(0, 0);
 
-const NO_ROW: Row = Row {
+pub const NO_ROW: Row = Row {
     meaning: Meaning::None,
     parts: [NO; 6],
 };
@@ -105,7 +107,14 @@ const IMM62: Row = Row {
 // X2
 const IMM64: Row = Row {
     meaning: Meaning::Unsigned(0),
-    parts: [Part(13, 7), Part(27, 9), Part(22, 5), Part(21, 1), Part(L, 41), Part(36, 1)],
+    parts: [
+        Part(13, 7),
+        Part(27, 9),
+        Part(22, 5),
+        Part(21, 1),
+        Part(L, 41),
+        Part(36, 1),
+    ],
 };
 
 // X3, X4
@@ -126,6 +135,14 @@ pub fn row_of(family: u64, number: u64) -> Row
         88 => row_x(number),
         _ => NO_ROW,
     }
+}
+
+// How many bits the parts have.
+pub fn width(parts: [Part; 6]) -> u32
+    requires { ⌜ bitsOf parts ≤ 64 ⌝ }
+    ensures { λ r. ⌜ r ≡ bitsOf parts ⌝ }
+{
+    parts[0].1 + parts[1].1 + parts[2].1 + parts[3].1 + parts[4].1 + parts[5].1
 }
 
 // A forms

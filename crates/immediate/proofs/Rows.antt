@@ -1,0 +1,131 @@
+-- What is particular to a row, by one computed check over the whole table: a row's parts lie in the bundle and no two meet, its values
+-- are of 64 bits, and only rows of X forms have a part in the L slot, which is slot 1 of a bundle whose slot 2 is an X. Assumes nothing.
+use mathlib.Core.Path.{_≡_, refl, sym, ap, _∙_, subst}
+use mathlib.Core.Bool.{Bool, true, false, cond, not, _&&_, _||_}
+use mathlib.Core.List.{List, [], _∷_}
+use Prim.Native.Nat.{ℕ, zero, suc, _+_, _-_, _*_, _≤_, _<_, _^_}
+use native.Mathlib.Omega.{arith}
+use borrow.Author.Tests.{eqb-true}
+use lib.Dec.{T, eqb, leb, ltb, leb→le, ltb→lt, eqb→eq}
+use lib.ListN.{getD}
+use mir.Facts.{and-yes, eqb-no}
+use Rattle.bits.specs.Parts.{separate}
+use Rattle.bits.proofs.Laws.{part-lt}
+use Rattle.table.specs.Table.{select}
+use Rattle.table.proofs.Check.{below, checked}
+use Rattle.table.proofs.Held.{every, held}
+use Rattle.bundle.specs.Template.{X, unitsOf}
+use Rattle.bundle.specs.Bundle.{numberAt, tagOf}
+use Rattle.field.specs.Field.{placed, bitsOf, readable}
+use Rattle.field.specs.declared.Part.{Part}
+use Rattle.immediate.specs.Row.{rowOf, rowsOf, noRow, families}
+use Rattle.immediate.specs.Meaning.{Fitting}
+use Rattle.immediate.specs.Immediate.{Sound, isNone, fits, unitAt, onlyTimes16, onlyTarget}
+use Rattle.immediate.specs.declared.row.Meaning.{Meaning}
+use Rattle.immediate.specs.declared.row.Meaning.the-variants.{None, Unsigned, Signed}
+use Rattle.immediate.specs.declared.row.Row.{Row}
+
+-- every value of w bits is one of 64
+abbrev meant : Meaning → ℕ → Bool
+meant None w = true
+meant (Unsigned plus) w = leb 1 w && (leb w 64 && leb (plus + 2 ^ w) (2 ^ 64))
+meant (Signed unit) w = leb 1 w && (ltb w 64 && (leb 1 unit && leb (unit * 2 ^ (w - 1)) (2 ^ 63)))
+
+fitting : (m : Meaning) (w : ℕ) → T (meant m w) → Fitting m w
+fitting None w t = tt
+fitting (Unsigned plus) w t =
+    let a = and-yes (leb 1 w) (leb w 64 && leb (plus + 2 ^ w) (2 ^ 64)) t in
+    let b = and-yes (leb w 64) (leb (plus + 2 ^ w) (2 ^ 64)) (a .1) in
+    (leb→le _ _ (a .0), leb→le _ _ (b .0), leb→le _ _ (b .1))
+fitting (Signed unit) w t =
+    let a = and-yes (leb 1 w) (ltb w 64 && (leb 1 unit && leb (unit * 2 ^ (w - 1)) (2 ^ 63))) t in
+    let b = and-yes (ltb w 64) (leb 1 unit && leb (unit * 2 ^ (w - 1)) (2 ^ 63)) (a .1) in
+    let c = and-yes (leb 1 unit) (leb (unit * 2 ^ (w - 1)) (2 ^ 63)) (b .1) in
+    (leb→le _ _ (a .0), ltb→lt _ _ (b .0), leb→le _ _ (c .0), leb→le _ _ (c .1))
+
+-- some part is in the L slot
+abbrev inL : List Part → Bool
+inL [] = false
+inL (p ∷ ps) = leb 64 (p .0) || inL ps
+
+-- the parts in a slot
+abbrev lies : ℕ → Row → Bool
+lies slot row = readable slot (row .parts) && separate (placed slot (row .parts))
+
+-- the slots that the row can stand in: slot 2 alone, for an X form, where a part is in the L slot
+abbrev stands : ℕ → Row → Bool
+stands family row = cond (inL (row .parts)) (eqb family X && lies 2 row) (lies 0 row && (lies 1 row && lies 2 row))
+
+abbrev pub good : ℕ → Row → Bool
+good family row = cond (isNone row) true (leb (bitsOf (row .parts)) 64 && (meant (row .meaning) (bitsOf (row .parts)) && stands family row))
+
+-- the check
+pub row-good : (family number : ℕ) → T (good family (rowOf family number))
+unfolding rowOf rowsOf
+row-good family number =
+    held (λ n r. good family r) number (select family families []) noRow
+    (held (λ f rows. every (λ n r. good f r) rows) family families [] tt tt) tt
+
+-- no X in slots 0 and 1
+abbrev noX : ℕ → Bool
+noX tag = not (eqb (getD (unitsOf tag) 0 0) X) && not (eqb (getD (unitsOf tag) 1 0) X)
+
+x-in-2 : (tag slot : ℕ) → tag < 32 → slot < 3 → getD (unitsOf tag) slot 0 ≡ X → slot ≡ 2
+unfolding unitsOf
+x-in-2 tag zero t h e = absurd (eqb-no (and-yes (not (eqb (getD (unitsOf tag) 0 0) X)) (not (eqb (getD (unitsOf tag) 1 0) X)) (checked noX 32 tt tag t) .0) e)
+x-in-2 tag (suc zero) t h e = absurd (eqb-no (and-yes (not (eqb (getD (unitsOf tag) 0 0) X)) (not (eqb (getD (unitsOf tag) 1 0) X)) (checked noX 32 tt tag t) .1) e)
+x-in-2 tag (suc (suc zero)) t h e = refl
+x-in-2 tag (suc (suc (suc slot))) t h e = absurd (let g : suc (suc (suc slot)) < 3 = h in omega arith)
+
+three : (P : ℕ → Bool) (slot : ℕ) → slot < 3 → T (P 0 && (P 1 && P 2)) → T (P slot)
+three P zero h t = and-yes (P 0) (P 1 && P 2) t .0
+three P (suc zero) h t = and-yes (P 1) (P 2) (and-yes (P 0) (P 1 && P 2) t .1) .0
+three P (suc (suc zero)) h t = and-yes (P 1) (P 2) (and-yes (P 0) (P 1 && P 2) t .1) .1
+three P (suc (suc (suc slot))) h t = absurd (let g : suc (suc (suc slot)) < 3 = h in omega arith)
+
+x-unit : (family unit : ℕ) → family ≡ X → fits family unit ≡ true → unit ≡ X
+x-unit family unit e h = sym (eqb→eq X unit (subst T (sym (sym (ap (λ (f : ℕ). fits f unit) e) ∙ h)) tt))
+
+-- a row that fits a slot is sound there
+module _ (code : List ℕ) (k slot family : ℕ) (row : Row) (g : T (good family row)) (some : isNone row ≡ false) (h : slot < 3) (fit : fits family (unitAt code k slot) ≡ true) where
+  goods : T (leb (bitsOf (row .parts)) 64 && (meant (row .meaning) (bitsOf (row .parts)) && stands family row))
+  goods = subst (λ (b : Bool). T (cond b true (leb (bitsOf (row .parts)) 64 && (meant (row .meaning) (bitsOf (row .parts)) && stands family row)))) some g
+
+  lies-in : (b : Bool) → inL (row .parts) ≡ b → T (cond b (eqb family X && lies 2 row) (lies 0 row && (lies 1 row && lies 2 row))) → T (lies slot row)
+  lies-in true q t =
+      let s = and-yes (eqb family X) (lies 2 row) t in
+      let unit = x-unit family (unitAt code k slot) (eqb→eq family X (s .0)) fit in
+      subst (λ (n : ℕ). T (lies n row)) (sym (x-in-2 (tagOf (numberAt code k)) slot (part-lt (numberAt code k) 0 5) h unit)) (s .1)
+  lies-in false q t = three (λ n. lies n row) slot h t
+
+  pub sound : Sound slot row
+  sound =
+      let a = and-yes (leb (bitsOf (row .parts)) 64) (meant (row .meaning) (bitsOf (row .parts)) && stands family row) goods in
+      let b = and-yes (meant (row .meaning) (bitsOf (row .parts))) (stands family row) (a .1) in
+      let l = and-yes (readable slot (row .parts)) (separate (placed slot (row .parts))) (lies-in (inL (row .parts)) refl (b .1)) in
+      record { in-bundle = h; reads = l .0; apart = l .1; bits = leb→le _ _ (a .0); fitting = fitting (row .meaning) (bitsOf (row .parts)) (b .0) }
+
+-- a row whose values are times 16 is the form's own row
+keeps : (P : Row → Type 0) (row : Row) (b : Bool) → P row → P noRow → P (cond b row noRow)
+keeps P row true p q = p
+keeps P row false p q = q
+
+pub target-good : (family : ℕ) (row : Row) → T (good family row) → T (good family (onlyTarget row))
+target-good family row g = by-meaning (row .meaning)
+  where
+    by-meaning : (m : Meaning) → T (good family (onlyTimes16 m row))
+    by-meaning None = tt
+    by-meaning (Unsigned plus) = tt
+    by-meaning (Signed unit) = keeps (λ r. T (good family r)) row (eqb unit 16) g tt
+
+pub target-16 : (row : Row) → isNone (onlyTarget row) ≡ false → onlyTarget row .meaning ≡ Signed 16
+target-16 row some = by-meaning (row .meaning) refl some
+  where
+    by-unit : (unit : ℕ) (b : Bool) → eqb unit 16 ≡ b → row .meaning ≡ Signed unit → isNone (cond b row noRow) ≡ false → (cond b row noRow) .meaning ≡ Signed 16
+    by-unit unit true q e s = e ∙ ap Signed (eqb-true unit 16 q)
+    by-unit unit false q e s = absurd (subst T s tt)
+
+    by-meaning : (m : Meaning) → row .meaning ≡ m → isNone (onlyTimes16 m row) ≡ false → onlyTimes16 m row .meaning ≡ Signed 16
+    by-meaning None e s = absurd (subst T s tt)
+    by-meaning (Unsigned plus) e s = absurd (subst T s tt)
+    by-meaning (Signed unit) e s = by-unit unit (eqb unit 16) refl e s

@@ -1,0 +1,26 @@
+-- `only_target` meets its contract: each arm is the definition's case. Assumes nothing.
+use mathlib.Core.Path.{_≡_, _∙_, sym, ap}
+use borrow.Author.Tests.{ne-eqb}
+use Rattle.immediate.specs.Immediate.{onlyTimes16}
+use Rattle.immediate.specs.declared.row.Meaning.{Meaning}
+use Rattle.immediate.proofs.Kind.{no-target}
+use borrow.Author.Needs.{needs}
+use Rattle.immediate.proofs.only_target.Statement.{statement}
+use Rattle.immediate.proofs.only_target.Tie as tie
+
+enum-known-meaning : tie.Need-enum-known-meaning
+enum-known-meaning c = search needs
+
+returns : tie.Need-returns
+returns c = search needs
+
+returns-2 : tie.Need-returns-2
+returns-2 c =
+    let row = c .before .before .before .before .args .row in
+    sym (ap (λ (m : Meaning). onlyTimes16 m row) (c .before .before .meaning .given .1) ∙ rw (ne-eqb (c .before .before .meaning .given .0 .0) 16 (c .if1 .left)))
+
+returns-3 : tie.Need-returns-3
+returns-3 c = let row = c .before .args .row in sym (no-target (row .meaning) row (c .match .keys2))
+
+pub only-target-spec : {M : Type 1} → statement M
+only-target-spec = tie.close (tie.spec enum-known-meaning returns returns-2 returns-3)

@@ -1,0 +1,68 @@
+-- `width` meets its contract: six parts are their list. Assumes nothing.
+use mathlib.Core.Path.{_≡_, ap}
+use mathlib.Core.List.{List}
+use Prim.Native.Nat.{ℕ, _+_}
+use native.Mathlib.Omega.{arith}
+use lib.ListN.{length, getD}
+use Rattle.bundle.proofs.Elements.{elements, listed}
+use Rattle.field.specs.Field.{bitsOf}
+use Rattle.field.specs.declared.Part.{Part}
+use borrow.Author.Needs.{needs}
+use Rattle.immediate.proofs.row.width.Statement.{statement}
+use Rattle.immediate.proofs.row.width.Tie as tie
+
+sum : (c : tie.Start) → bitsOf (c .args .t1) ≡ bitsOf (elements 6 (λ i. getD (c .args .t1) i (0, 0)))
+sum c = let six : length (c .args .t1) ≡ 6 = search needs in ap bitsOf (listed (c .args .t1) (0, 0) 6 six)
+
+element-copy-out-result : tie.Need-element-copy-out-result
+element-copy-out-result c = search needs
+
+element-copy-out-result-2 : tie.Need-element-copy-out-result-2
+element-copy-out-result-2 c = search needs
+
+add-result : tie.Need-add-result
+add-result c = omega (arith, sum c, c .pre)
+
+element-copy-out-result-3 : tie.Need-element-copy-out-result-3
+element-copy-out-result-3 c = search needs
+
+add-result-2 : tie.Need-add-result-2
+add-result-2 c = omega (arith, sum c, c .pre)
+
+element-copy-out-result-4 : tie.Need-element-copy-out-result-4
+element-copy-out-result-4 c = search needs
+
+add-result-3 : tie.Need-add-result-3
+add-result-3 c = omega (arith, sum c, c .pre)
+
+element-copy-out-result-5 : tie.Need-element-copy-out-result-5
+element-copy-out-result-5 c = search needs
+
+add-result-4 : tie.Need-add-result-4
+add-result-4 c = omega (arith, sum c, c .pre)
+
+element-copy-out-result-6 : tie.Need-element-copy-out-result-6
+element-copy-out-result-6 c = search needs
+
+add-result-5 : tie.Need-add-result-5
+add-result-5 c = omega (arith, sum c, c .pre)
+
+returns : tie.Need-returns
+returns c = omega (arith, sum c, c .pre)
+
+pub width-spec : {M : Type 1} → statement M
+width-spec =
+    tie.close
+    (tie.spec
+    element-copy-out-result
+    element-copy-out-result-2
+    add-result
+    element-copy-out-result-3
+    add-result-2
+    element-copy-out-result-4
+    add-result-3
+    element-copy-out-result-5
+    add-result-4
+    element-copy-out-result-6
+    add-result-5
+    returns)
