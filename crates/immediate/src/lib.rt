@@ -10,6 +10,7 @@ pub use opening::open;
 pub use row::Meaning;
 pub use row::Row;
 pub use row::row_of;
+pub use row::width;
 ghost use mathlib.Core.Path.{_≡_};
 ghost use Rattle.bundle.specs.Bundle.{whole};
 ghost use Rattle.operand.specs.Pattern.{patternOf};
