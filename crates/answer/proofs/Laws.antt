@@ -5,7 +5,7 @@ use mathlib.Core.Bool.{Bool, true, false, _&&_, not, cond}
 use mathlib.Core.List.{List, [], _∷_, _++_}
 use Prim.Native.Nat.{ℕ}
 use lib.Dec.{T, eqb}
-use borrow.Author.Tests.{eq-eqb, ne-eqb}
+use borrow.Author.Tests.{eq-eqb, ne-eqb, eqb-true}
 use mir.Facts.{and-yes, eqb-no}
 use Rattle.answer.specs.Answer.{Refusal, first, outcome, accepted}
 
@@ -50,6 +50,14 @@ accepts a done refused e = ap (λ (b : Bool). cond b done refused) (eq-eqb a acc
 
 pub refuses {ℓ} : {A : Type ℓ} (a : ℕ) (done refused : A) → (a ≡ accepted → ⊥) → outcome a done refused ≡ refused
 refuses a done refused d = ap (λ (b : Bool). cond b done refused) (ne-eqb a accepted d)
+
+-- an outcome that carries its answer carries that answer
+pub answered {ℓ} : {A : Type ℓ} (answer : A → ℕ) (a : ℕ) (done refused : A) → answer done ≡ accepted → answer refused ≡ a → answer (outcome a done refused) ≡ a
+answered answer a done refused d r = go (eqb a accepted) refl
+  where
+    go : (b : Bool) → eqb a accepted ≡ b → answer (cond b done refused) ≡ a
+    go true q = d ∙ sym (eqb-true a accepted q)
+    go false q = r
 
 -- two outcomes that equal one definition are equal
 pub one-outcome {ℓ} : {A : Type ℓ} {x r s : A} → r ≡ x → s ≡ x → r ≡ s

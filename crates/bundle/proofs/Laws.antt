@@ -5,12 +5,12 @@ use mathlib.Core.Bool.{Bool, true, false, cond, _||_}
 use mathlib.Core.List.{List, [], _∷_, _++_}
 use Prim.Native.Nat.{ℕ, _*_, _≤_, _<_, _^_, suc-le-suc}
 use native.Mathlib.Omega.{arith}
-use borrow.Author.Tests.{ltb-false, leb-false, eqb-true}
-use lib.Dec.{T, eqb, ltb, leb}
+use borrow.Author.Tests.{ltb-false, leb-false}
+use lib.Dec.{T, ltb, leb}
 use lib.ListN.{length, getD, drop, length-drop}
 use lib.Seq.{length-take-le}
 use Rattle.answer.specs.Answer.{accepted, badBundle, first, outcome}
-use Rattle.answer.proofs.Laws.{none-applies, first-on, first-stop, accepts, refuses}
+use Rattle.answer.proofs.Laws.{none-applies, first-on, first-stop, accepts, refuses, answered}
 use Rattle.bundle.specs.Bytes.{bytes}
 use Rattle.bundle.specs.Template.{reserved}
 use Rattle.bundle.specs.Bundle.{bundleAt, numberAt, findRefusals, cutRefusals, foundOf, findOf, cutOf, tagOf, bundleOf, refusedOf, joined, joinRefusals, joinOf}
@@ -57,16 +57,9 @@ number-at-lt code k found b =
     (number-lt (bundleAt code k) (bytes-take 16 (drop (16 * k) code) (bytes-drop (16 * k) code b)))
 
 -- what a cut answers, and what it hands back where it accepts
-answered : (a : ℕ) (b : Bundle) (t : ℕ) → b .answer ≡ accepted → (outcome a b (refusedOf a t)) .answer ≡ a
-answered a b t h = go (eqb a accepted) refl
-  where
-    go : (e : Bool) → eqb a accepted ≡ e → (cond e b (refusedOf a t)) .answer ≡ a
-    go true q = h ∙ sym (eqb-true a accepted q)
-    go false q = refl
-
 pub cut-answer : (code : List ℕ) (k : ℕ) → cutOf code k .answer ≡ first (cutRefusals code k)
 unfolding cutOf
-cut-answer code k = answered (first (cutRefusals code k)) (bundleOf (numberAt code k)) _ refl
+cut-answer code k = answered (λ (b : Bundle). b .answer) (first (cutRefusals code k)) (bundleOf (numberAt code k)) _ refl refl
 
 module _ (code : List ℕ) (k : ℕ) (cut : first (cutRefusals code k) ≡ accepted) where
   pub cut-found : foundOf code k ≡ accepted

@@ -3,10 +3,10 @@ use mathlib.Core.Path.{_≡_, refl, sym, ap, _∙_}
 use mathlib.Core.Bool.{Bool, true, false, cond, not, _||_}
 use mathlib.Core.List.{List, [], _∷_, _++_}
 use Prim.Native.Nat.{ℕ, _<_, suc-le-suc}
-use borrow.Author.Tests.{eqb-true, ltb-false, not-false}
-use lib.Dec.{T, eqb, ltb}
-use Rattle.answer.specs.Answer.{Refusal, accepted, badForm, badSlot, first, outcome}
-use Rattle.answer.proofs.Laws.{none-applies, first-on, first-stop, accepts, refuses}
+use borrow.Author.Tests.{ltb-false, not-false}
+use lib.Dec.{T, ltb}
+use Rattle.answer.specs.Answer.{Refusal, accepted, badForm, badSlot, first}
+use Rattle.answer.proofs.Laws.{none-applies, first-on, first-stop, accepts, refuses, answered}
 use Rattle.bundle.specs.Bundle.{numberAt, cutRefusals, halvesOf, whole}
 use Rattle.bundle.proofs.Bytes.{Bytes}
 use Rattle.bundle.proofs.Halves.{whole-halves}
@@ -42,16 +42,10 @@ module _ (code : List ℕ) (k slot family : ℕ) (row : Row) where
   unfolding after
   open-cut e = first-on (cutRefusals code k) after tt e
 
-  answered : (a : ℕ) (b : Opened) → b .answer ≡ accepted → (outcome a b (closedOf a)) .answer ≡ a
-  answered a b h = go (eqb a accepted) refl
-    where
-      go : (e : Bool) → eqb a accepted ≡ e → (cond e b (closedOf a)) .answer ≡ a
-      go true q = h ∙ sym (eqb-true a accepted q)
-      go false q = refl
-
   pub open-answer : openedOf code k slot family row .answer ≡ first (openRefusals code k slot family row)
   unfolding openedOf
-  open-answer = answered (first (openRefusals code k slot family row)) (record { answer = accepted; halves = halvesOf (numberAt code k) }) refl
+  open-answer =
+      answered (λ (o : Opened). o .answer) (first (openRefusals code k slot family row)) (record { answer = accepted; halves = halvesOf (numberAt code k) }) _ refl refl
 
 -- an opened bundle was cut, the row is one, and the form fits the slot
 pub record Open (code : List ℕ) (k slot family : ℕ) (row : Row) : Type 0 where

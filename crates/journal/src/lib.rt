@@ -1,3 +1,132 @@
 // Edits of one immediate each, the journal of those that stand, and undoing the last.
 mod plan;
 mod records;
+
+pub use plan::Plan;
+pub use plan::planned;
+pub use records::Journal;
+pub use records::Record;
+pub use records::empty;
+ghost use mathlib.Core.Path.{_≡_};
+ghost use Prim.Native.Nat.{_+_, _*_, _≤_};
+ghost use lib.ListN.{length};
+ghost use Rattle.answer.specs.Answer.{first};
+ghost use Rattle.bundle.specs.Bundle.{whole};
+ghost use Rattle.journal.specs.Edit.{Outcome, rewritten, editOf, sameHalves, undoRefusals, undoOf};
+use answer::ACCEPTED;
+use answer::BAD_JOURNAL;
+use answer::EMPTY;
+use answer::EXHAUSTED_INPUT;
+use answer::STALE;
+use answer::TOO_LONG;
+use bundle::Halves;
+use operand::Operand;
+
+pub struct Edited {
+    pub answer: u8,
+    pub journal: Journal,
+}
+
+// Writes a value into a form's immediate, and records the bundle before and after.
+pub fn edit(
+    code: &mut [u8],
+    journal: Journal,
+    bundle: u64,
+    slot: u64,
+    family: u64,
+    number: u64,
+    value: Operand,
+) -> Edited
+    ensures { λ r. ⌜ _≡_ {A = Outcome} (record { answer = r .answer; journal = r .journal; code = now (code .exit) }) (editOf (now (code .entry)) journal bundle slot family number value) ⌝ }
+{
+    let plan = planned(code, bundle, slot, family, number, value);
+    let refusal = plan.answer;
+    if refusal != ACCEPTED {
+        return Edited {
+            answer: refusal,
+            journal,
+        };
+    }
+    let room = records::room(journal);
+    if room != ACCEPTED {
+        return Edited {
+            answer: room,
+            journal,
+        };
+    }
+    let old = plan.old;
+    let new = plan.new;
+    rewrite(code, bundle, new);
+    let pushed = records::pushed(journal, Record { bundle, old, new });
+    Edited {
+        answer: ACCEPTED,
+        journal: pushed,
+    }
+}
+
+// Lends a bundle's sixteen bytes on to be written.
+fn rewrite(code: &mut [u8], bundle: u64, halves: Halves)
+    requires { ⌜ (length (now code) ≤ 65536) × (16 * bundle + 16 ≤ length (now code)) ⌝ }
+    ensures { λ _. ⌜ now (code .exit) ≡ rewritten (now (code .entry)) bundle (whole halves) ⌝ }
+{
+    let at = bundle as usize * 16;
+    bundle::write(&mut code[at..at + 16], halves);
+}
+
+fn same(a: Halves, b: Halves) -> bool
+    ensures { λ r. ⌜ r ≡ sameHalves a b ⌝ }
+{
+    if a.low != b.low {
+        return false;
+    }
+    a.high == b.high
+}
+
+// What undoing answers.
+fn undoable(code: &[u8], journal: Journal) -> u8
+    ensures { λ r. ⌜ r ≡ first (undoRefusals (now (code .entry)) journal) ⌝ }
+{
+    if 65536 < code.len() {
+        return TOO_LONG;
+    }
+    if !records::valid(journal) {
+        return BAD_JOURNAL;
+    }
+    let count = journal.count;
+    if count == 0 {
+        return EMPTY;
+    }
+    let last = journal.records[(count - 1) as usize];
+    let bundle = last.bundle;
+    if bundle::found(code, bundle) != ACCEPTED {
+        return EXHAUSTED_INPUT;
+    }
+    let new = last.new;
+    if !same(bundle::read(bundle::find(code, bundle)), new) {
+        return STALE;
+    }
+    ACCEPTED
+}
+
+// Writes the last record's old bundle, and frees its place.
+pub fn undo(code: &mut [u8], journal: Journal) -> Edited
+    ensures { λ r. ⌜ _≡_ {A = Outcome} (record { answer = r .answer; journal = r .journal; code = now (code .exit) }) (undoOf (now (code .entry)) journal) ⌝ }
+{
+    let refusal = undoable(code, journal);
+    if refusal != ACCEPTED {
+        return Edited {
+            answer: refusal,
+            journal,
+        };
+    }
+    let count = journal.count;
+    let last = journal.records[(count - 1) as usize];
+    let bundle = last.bundle;
+    let old = last.old;
+    rewrite(code, bundle, old);
+    let popped = records::popped(journal);
+    Edited {
+        answer: ACCEPTED,
+        journal: popped,
+    }
+}
