@@ -1,0 +1,33 @@
+-- The tables have a line for each form and no other line: one computed check over all of them. Assumes nothing.
+use mathlib.Core.Path.{_≡_, refl}
+use mathlib.Core.Bool.{Bool, true, cond, _&&_}
+use mathlib.Core.List.{List, [], _∷_}
+use Prim.Native.Nat.{ℕ, suc, _+_}
+use lib.Dec.{T, eqb}
+use lib.ListN.{length}
+use Rattle.table.proofs.Check.{below}
+use Rattle.form.specs.Field.{Forms}
+use Rattle.readers.specs.Call.{families}
+
+-- how many lines have the number
+abbrev pub lines : ℕ → Forms → ℕ
+lines n [] = 0
+lines n (e ∷ es) = cond (eqb n (e .0)) 1 0 + lines n es
+
+-- each number from 1 to the last has one line, and there are as many lines
+abbrev pub exact : ℕ × Forms → Bool
+exact f = below (λ k. eqb (lines (suc k) (f .1)) 1) (f .0) && eqb (length (f .1)) (f .0)
+
+abbrev pub all-exact : List (ℕ × (ℕ × Forms)) → Bool
+all-exact [] = true
+all-exact (f ∷ fs) = exact (f .1) && all-exact fs
+
+abbrev pub forms : List (ℕ × (ℕ × Forms)) → ℕ
+forms [] = 0
+forms (f ∷ fs) = f .1 .0 + forms fs
+
+pub each-form-has-a-line : T (all-exact families)
+each-form-has-a-line = tt
+
+pub forms-in-all : forms families ≡ 88
+forms-in-all = refl
