@@ -1,22 +1,29 @@
--- What a plan and an edit come to, case by case: the list of refusals goes on after those of opening the bundle. Assumes nothing.
-use mathlib.Core.Path.{_≡_, refl, sym, ap, _∙_}
+-- What a plan, an edit and an undo come to, case by case: the list of refusals goes on after those of opening the bundle. Assumes nothing.
+use mathlib.Core.Path.{_≡_, refl, sym, ap, _∙_, subst}
 use mathlib.Core.Bool.{Bool, true, false, cond}
 use mathlib.Core.List.{List, [], _∷_, _++_}
-use Prim.Native.Nat.{ℕ, _<_}
-use borrow.Author.Tests.{leb-false}
+use Prim.Native.Nat.{ℕ, zero, suc, _≤_, _<_, _^_, zero-le, suc-le-suc}
+use borrow.Author.Tests.{leb-false, ltb-false, eqb-false, not-false}
+use lib.Dec.{T, leb, leb→le}
+use mir.Facts.{and-yes}
 use Rattle.answer.specs.Answer.{Refusal, accepted, badValue, first}
 use Rattle.answer.proofs.Laws.{none-applies, first-on, first-stop, accepts, refuses, answered}
-use Rattle.bundle.specs.Bundle.{numberAt, halvesOf}
-use Rattle.bundle.proofs.Laws.{cut-found}
+use Rattle.bundle.specs.Bundle.{numberAt, halvesOf, whole}
+use Rattle.bits.proofs.Parts.{scatter-lt}
+use Rattle.bundle.proofs.Bytes.{Bytes}
+use Rattle.bundle.proofs.Laws.{cut-found, number-at-lt}
 use Rattle.bundle.proofs.Lies.{Lies, lies}
 use Rattle.operand.specs.declared.Operand.{Operand}
 use Rattle.immediate.specs.Row.{rowOf}
-use Rattle.immediate.specs.Immediate.{openRefusals}
-use Rattle.immediate.proofs.Laws.{opened}
+use Rattle.field.specs.Field.{placed}
+use Rattle.field.proofs.Steps.{readable-within}
+use Rattle.immediate.specs.Immediate.{Sound, openRefusals}
+use Rattle.immediate.proofs.Rows.{row-good}
+use Rattle.immediate.proofs.Laws.{opened, open-sound}
 use Rattle.immediate.specs.declared.meaning.Raw.{Raw}
 use Rattle.immediate.specs.declared.meaning.Raw.the-variants.{Is, Bad}
-use Rattle.journal.specs.Edit.{isBad, rawFor, editedNumber, planRefusals, planOf, noHalves, rewritten, recordOf, editRefusals, editOf}
-use Rattle.journal.specs.Journal.{roomRefusals, pushOf}
+use Rattle.journal.specs.Edit.{isBad, rawFor, editedNumber, planRefusals, planOf, noHalves, rewritten, recordOf, editRefusals, editOf, undoRefusals, undoOf}
+use Rattle.journal.specs.Journal.{placesValid, validOf, roomRefusals, pushOf, lastOf, popOf}
 use Rattle.journal.specs.declared.records.Journal.{Journal}
 use Rattle.journal.specs.declared.plan.Plan.{Plan}
 
@@ -62,6 +69,15 @@ module _ (code : List ℕ) (k slot family number : ℕ) (value : Operand) where
   pub plan-lies : first (planRefusals code k slot family number value) ≡ accepted → Lies code k
   plan-lies e = lies code k (cut-found code k (opened code k slot family (rowOf family number) (plan-opened e) .cut))
 
+  pub plan-sound : first (planRefusals code k slot family number value) ≡ accepted → Sound slot (rowOf family number)
+  plan-sound e = open-sound code k slot family (rowOf family number) (row-good family number) (plan-opened e)
+
+  -- an edited bundle is a number below 2 ^ 128
+  pub edited-lt : first (planRefusals code k slot family number value) ≡ accepted → Bytes code → editedNumber (numberAt code k) slot family number value < 2 ^ 128
+  edited-lt e b =
+      scatter-lt 128 (numberAt code k) (placed slot (rowOf family number .parts)) _ (readable-within slot (rowOf family number .parts) (plan-sound e .reads))
+      (number-at-lt code k (cut-found code k (opened code k slot family (rowOf family number) (plan-opened e) .cut)) b)
+
   module _ (journal : Journal) where
     plans : List Refusal
     plans = planRefusals code k slot family number value
@@ -92,3 +108,33 @@ module _ (code : List ℕ) (k slot family number : ℕ) (value : Operand) where
 -- a journal that has room
 pub has-room : (journal : Journal) → first (roomRefusals journal) ≡ accepted → journal .count < 64
 has-room journal e = leb-false 64 (journal .count) (none-applies (roomRefusals journal) tt e .1 .0)
+
+-- a valid journal has at most 64 records
+pub valid-count : (journal : Journal) → validOf journal ≡ true → journal .count ≤ 64
+unfolding validOf
+valid-count journal e = leb→le _ _ (and-yes (leb (journal .count) 64) (placesValid (journal .count) 0 (journal .records)) (subst T (sym e) tt) .0)
+
+-- what undoing comes to, case by case
+module _ (code : List ℕ) (journal : Journal) where
+  pub undo-refused : (first (undoRefusals code journal) ≡ accepted → ⊥) → undoOf code journal ≡ record { answer = first (undoRefusals code journal); journal = journal; code = code }
+  unfolding undoOf
+  undo-refused d = refuses (first (undoRefusals code journal)) _ _ d
+
+  module _ (e : first (undoRefusals code journal) ≡ accepted) where
+    pub undo-done : undoOf code journal ≡ record { answer = accepted; journal = popOf journal; code = rewritten code (lastOf journal .bundle) (whole (lastOf journal .old)) }
+    unfolding undoOf
+    undo-done = accepts (first (undoRefusals code journal)) _ _ e
+
+    pub undo-lies : Lies code (lastOf journal .bundle)
+    undo-lies =
+        let n = none-applies (undoRefusals code journal) tt e in
+        record { short = ltb-false _ _ (n .0); within = ltb-false _ _ (n .1 .1 .1 .0) }
+
+    pub undo-counts : (0 < journal .count) × (journal .count ≤ 64)
+    undo-counts =
+        let n = none-applies (undoRefusals code journal) tt e in
+        (pos-of (journal .count) (eqb-false (journal .count) 0 (n .1 .1 .0)), valid-count journal (not-false _ (n .1 .0)))
+      where
+        pos-of : (n : ℕ) → (n ≡ 0 → ⊥) → 0 < n
+        pos-of zero d = absurd (d refl)
+        pos-of (suc n) d = suc-le-suc zero-le

@@ -1,52 +1,81 @@
+-- `edit` meets its contract: each return is a case of what an edit comes to; a plan that is accepted is of a bundle in the code.
+-- Assumes nothing.
+use mathlib.Core.Path.{_≡_, _∙_, ap, sym}
+use Prim.Native.Nat.{ℕ}
+use denote.Ref.{now}
+use Rattle.answer.specs.Answer.{accepted, first}
+use Rattle.bundle.specs.Bundle.{whole}
+use Rattle.bundle.proofs.Halves.{whole-halves}
+use Rattle.journal.specs.Journal.{roomRefusals, pushOf}
+use Rattle.journal.specs.Edit.{planRefusals, rewritten}
+use Rattle.journal.specs.declared.plan.Plan.{Plan}
+use Rattle.journal.proofs.Laws.{plan-answer, plan-done, plan-lies, edited-lt, edit-refused-by, edit-done, edit-unplanned, edit-planned, has-room}
 use borrow.Author.Needs.{needs}
 use Rattle.journal.proofs.edit.Statement.{statement}
 use Rattle.journal.proofs.edit.Tie as tie
-use Rattle.journal.proofs.edit.Reads as reads
-use Rattle.journal.proofs.edit.Lts as lts
-use Rattle.journal.proofs.plan.planned.Reads as planned-reads
-use Rattle.journal.proofs.records.pushed.Reads as pushed-reads
-use Rattle.journal.proofs.records.room.Reads as room-reads
-use Rattle.journal.proofs.rewrite.Reads as rewrite-reads
 
--- src/lib.rt:42:9
 planned-requires : tie.Need-planned-requires
 planned-requires c κs = search needs
 
--- src/lib.rt:45:9
 same-length : tie.Need-same-length
 same-length c = search needs
 
--- src/lib.rt:45:9
-returns : tie.Need-returns
-returns c = ?
+-- what the plan answers
+answer : (c : tie.After-planned) → c .planned .result .answer ≡ first (planRefusals (now (c .before .before .before .args .code)) (c .before .before .before .args .bundle) (c .before .before .before .args .slot) (c .before .before .before .args .family) (c .before .before .before .args .number) (c .before .before .before .args .value))
+answer c = ap (λ (p : Plan). p .answer) (c .planned .ensures) ∙ plan-answer (now (c .before .before .before .args .code)) (c .before .before .before .args .bundle) (c .before .before .before .args .slot) (c .before .before .before .args .family) (c .before .before .before .args .number) (c .before .before .before .args .value)
 
--- src/lib.rt:50:9
+returns : tie.Need-returns
+returns c =
+    let p = c .before in
+    let a = p .before .before .before .args in
+    let refused : first (planRefusals (now (a .code)) (a .bundle) (a .slot) (a .family) (a .number) (a .value)) ≡ accepted → ⊥ = λ e. c .if1 .taken (answer p ∙ e) in
+    edit-refused-by (now (a .code)) (a .bundle) (a .slot) (a .family) (a .number) (a .value) (a .journal) _
+    (edit-unplanned (now (a .code)) (a .bundle) (a .slot) (a .family) (a .number) (a .value) (a .journal) refused ∙ sym (answer p)) (c .if1 .taken)
+
+is-planned : (c : tie.Else1) → first (planRefusals (now (c .before .before .before .before .args .code)) (c .before .before .before .before .args .bundle) (c .before .before .before .before .args .slot) (c .before .before .before .before .args .family) (c .before .before .before .before .args .number) (c .before .before .before .before .args .value)) ≡ accepted
+is-planned c = sym (answer (c .before)) ∙ c .if1 .left
+
 room-requires : tie.Need-room-requires
 room-requires c κs = search needs
 
--- src/lib.rt:52:9
 same-length-2 : tie.Need-same-length-2
 same-length-2 c = search needs
 
--- src/lib.rt:52:9
 returns-2 : tie.Need-returns-2
-returns-2 c = ?
+returns-2 c =
+    let e = c .before .before in
+    let a = e .before .before .before .before .args in
+    edit-refused-by (now (a .code)) (a .bundle) (a .slot) (a .family) (a .number) (a .value) (a .journal) _
+    (edit-planned (now (a .code)) (a .bundle) (a .slot) (a .family) (a .number) (a .value) (a .journal) (is-planned e) ∙ sym (c .before .room .ensures)) (c .if2 .taken)
 
--- src/lib.rt:59:5
 rewrite-requires : tie.Need-rewrite-requires
-rewrite-requires c κs = ?
+rewrite-requires c κs = let l = plan-lies (now (c .before .before .before .before .before .before .before .before .before .args .code)) (c .before .before .before .before .before .before .before .before .before .args .bundle) (c .before .before .before .before .before .before .before .before .before .args .slot) (c .before .before .before .before .before .before .before .before .before .args .family) (c .before .before .before .before .before .before .before .before .before .args .number) (c .before .before .before .before .before .before .before .before .before .args .value) (is-planned (c .before .before .before .before .before)) in (l .short, l .within)
 
--- src/lib.rt:60:9
+is-room : (c : tie.Else2) → first (roomRefusals (c .before .before .before .before .before .before .args .journal)) ≡ accepted
+is-room c = sym (c .before .room .ensures) ∙ c .if2 .left
+
 pushed-requires : tie.Need-pushed-requires
-pushed-requires c κs = ?
+pushed-requires c κs = has-room (c .before .before .before .before .before .before .before .before .before .before .before .before .args .journal) (is-room (c .before .before .before .before .before .before))
 
--- src/lib.rt:31:1
 same-length-3 : tie.Need-same-length-3
 same-length-3 c = search needs
 
--- src/lib.rt:31:1
 returns-3 : tie.Need-returns-3
-returns-3 c = ?
+returns-3 c =
+    let e2 = c .before .before .before .before .before .before .before in
+    let e1 = e2 .before .before in
+    let known = e1 .before .before .before in
+    let a = known .before .args in
+    let planned = is-planned e1 in
+    let plan = e1 .before .planned .ensures ∙ plan-done (now (a .code)) (a .bundle) (a .slot) (a .family) (a .number) (a .value) planned in
+    let done = edit-planned (now (a .code)) (a .bundle) (a .slot) (a .family) (a .number) (a .value) (a .journal) planned ∙ is-room e2 in
+    let journal = c .pushed .ensures ∙ ap (λ (p : Plan). pushOf (a .journal) (record { bundle = a .bundle; old = p .old; new = p .new })) plan in
+    let code =
+      c .before .before .before .rewrite .ensures
+      ∙ ap (λ (p : Plan). rewritten (now (a .code)) (a .bundle) (whole (p .new))) plan
+      ∙ ap (rewritten (now (a .code)) (a .bundle)) (whole-halves _ (edited-lt (now (a .code)) (a .bundle) (a .slot) (a .family) (a .number) (a .value) planned (λ i. known .slice-known .given i .fits))) in
+    (λ i. record { answer = accepted; journal = journal i; code = code i })
+    ∙ sym (edit-done (now (a .code)) (a .bundle) (a .slot) (a .family) (a .number) (a .value) (a .journal) done)
 
 pub edit-spec : {M : Type 1} → statement M
 edit-spec =

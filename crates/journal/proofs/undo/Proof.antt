@@ -1,51 +1,67 @@
+-- `undo` meets its contract: where none of its refusals applies the last record's bundle lies in the code. Assumes nothing.
+use mathlib.Core.Path.{_≡_, _∙_, ap, sym}
+use mathlib.Core.List.{List}
+use Prim.Native.Nat.{ℕ, _<_, _≤_}
+use native.Mathlib.Omega.{arith}
+use denote.Ref.{now}
+use Rattle.answer.specs.Answer.{accepted, first}
+use Rattle.journal.specs.Edit.{undoRefusals}
+use Rattle.journal.specs.declared.records.Journal.{Journal}
+use Rattle.journal.proofs.Laws.{undo-refused, undo-done, undo-lies, undo-counts}
 use borrow.Author.Needs.{needs}
 use Rattle.journal.proofs.undo.Statement.{statement}
 use Rattle.journal.proofs.undo.Tie as tie
-use Rattle.journal.proofs.undo.Reads as reads
-use Rattle.journal.proofs.undo.Lts as lts
-use Rattle.journal.proofs.records.popped.Reads as popped-reads
-use Rattle.journal.proofs.rewrite.Reads as rewrite-reads
-use Rattle.journal.proofs.undoable.Reads as undoable-reads
 
--- src/lib.rt:115:9
 undoable-requires : tie.Need-undoable-requires
 undoable-requires c κs = search needs
 
--- src/lib.rt:117:9
 same-length : tie.Need-same-length
 same-length c = search needs
 
--- src/lib.rt:117:9
 returns : tie.Need-returns
-returns c = ?
+returns c =
+    let u = c .before in
+    let a = u .before .before .before .args in
+    ap (λ (x : ℕ). record { answer = x; journal = a .t2; code = now (a .code) }) (u .undoable .ensures)
+    ∙ sym (undo-refused (now (a .code)) (a .t2) (λ e. c .if1 .taken (u .undoable .ensures ∙ e)))
 
--- src/lib.rt:123:33
+abbrev code-of : (c : tie.Else1) → List ℕ
+code-of c = now (c .before .before .before .before .args .code)
+
+abbrev journal-of : (c : tie.Else1) → Journal
+journal-of c = c .before .before .before .before .args .t2
+
+can-undo : (c : tie.Else1) → first (undoRefusals (code-of c) (journal-of c)) ≡ accepted
+can-undo c = sym (c .before .undoable .ensures) ∙ c .if1 .left
+
+counts : (c : tie.Else1) → (0 < journal-of c .count) × (journal-of c .count ≤ 64)
+counts c = undo-counts (code-of c) (journal-of c) (can-undo c)
+
 sub-last : tie.Need-sub-last
-sub-last c = ?
+sub-last c = counts c .0
 
--- src/lib.rt:123:16
 mul-last : tie.Need-mul-last
-mul-last c = ?
+mul-last c = let h = counts c in omega arith
 
--- src/lib.rt:123:16
 element-copy-out-last : tie.Need-element-copy-out-last
-element-copy-out-last c = ?
+element-copy-out-last c = let h = counts c in omega arith
 
--- src/lib.rt:126:5
 rewrite-requires : tie.Need-rewrite-requires
-rewrite-requires c κs = ?
+rewrite-requires c κs = let e = c .before .before .before in let l = undo-lies (code-of e) (journal-of e) (can-undo e) in (l .short, l .within)
 
--- src/lib.rt:127:9
 popped-requires : tie.Need-popped-requires
-popped-requires c κs = ?
+popped-requires c κs = counts (c .before .before .before .before .before .before)
 
--- src/lib.rt:112:1
 same-length-2 : tie.Need-same-length-2
 same-length-2 c = search needs
 
--- src/lib.rt:112:1
 returns-2 : tie.Need-returns-2
-returns-2 c = ?
+returns-2 c =
+    let e = c .before .before .before .before .before .before .before in
+    let a = e .before .before .before .before .args in
+    let journal = c .popped .ensures in
+    let code = c .before .before .before .rewrite .ensures in
+    (λ i. record { answer = accepted; journal = journal i; code = code i }) ∙ sym (undo-done (now (a .code)) (a .t2) (can-undo e))
 
 pub undo-spec : {M : Type 1} → statement M
 undo-spec =
