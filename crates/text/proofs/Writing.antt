@@ -1,0 +1,36 @@
+-- Two texts written one after the other are one text written; a text that has room is found where it was written.
+-- Both by induction on the text, a byte at a time. Assumes nothing.
+use mathlib.Core.Path.{_≡_, refl, sym, ap, _∙_}
+use mathlib.Core.List.{List, [], _∷_, _++_, append-assoc}
+use Prim.Native.Nat.{ℕ, suc, _+_, _≤_}
+use native.Mathlib.Nat.{add-zero, add-suc, suc-add, add-assoc, zero-add}
+use native.Mathlib.Omega.{arith}
+use lib.ListN.{length, take, drop, length-append}
+use lib.Seq.{sets, sets-eq, length-sets}
+use Rattle.text.specs.Put.{written, Put}
+
+pub written-append : (out : List ℕ) (at : ℕ) (a b : List ℕ) → written (written out at a) (at + length a) b ≡ written out at (a ++ b)
+written-append out at [] b = rw add-zero
+written-append out at (x ∷ a) b = rw (add-suc, ← suc-add) (written-append _ (suc at) a b)
+
+pub written-length : (out : List ℕ) (at : ℕ) (text : List ℕ) → length (written out at text) ≡ length out
+written-length out at text = length-sets out at text
+
+-- with room, from the start: the text, then what stood past it
+pub written-start : (out text : List ℕ) → length text ≤ length out → written out 0 text ≡ text ++ drop (length text) out
+written-start out text h =
+    sets-eq text out 0 (rw zero-add h) ∙ ap (λ (n : ℕ). text ++ drop n out) (zero-add (length text))
+
+pub put-then : {out out′ out″ : List ℕ} {at next next′ : ℕ} {a b : List ℕ} → Put out at a out′ next → Put out′ next b out″ next′ → Put out at (a ++ b) out″ next′
+put-then {out} {at = at} {next} {a = a} {b} p q =
+    record {
+      bytes =
+        q .bytes
+        ∙ ap (λ (o : List ℕ). written o next b) (p .bytes)
+        ∙ ap (λ (n : ℕ). written (written out at a) n b) (p .place)
+        ∙ written-append out at a b;
+      place = q .place ∙ ap (λ (n : ℕ). n + length b) (p .place) ∙ simp (length-append, add-assoc)
+    }
+
+pub put-length : {out out′ : List ℕ} {at next : ℕ} {a : List ℕ} → Put out at a out′ next → length out′ ≡ length out
+put-length {out} {at = at} {a = a} p = ap length (p .bytes) ∙ length-sets out at a
