@@ -25,12 +25,12 @@ digits-bound zero k n h l = absurd (omega arith)
 digits-bound (suc j) zero n h l = absurd (omega arith)
 digits-bound (suc j) (suc k) n h l =
     elim (decLt n 10) [
-      yes s ↦ digits-one j n s ∙ sym (digits-one k n s)
+      | yes s ↦ digits-one j n s ∙ sym (digits-one k n s)
       | no s ↦
-        let b : 10 ≤ n = omega arith in
-        digits-more j n b
-        ∙ ap (λ (d : List ℕ). d ++ ((48 + n % 10) ∷ [])) (digits-bound j k (n / 10) (omega arith) (omega arith))
-        ∙ sym (digits-more k n b)
+          let b : 10 ≤ n = omega arith in
+          digits-more j n b
+          ∙ ap (λ (d : List ℕ). d ++ ((48 + n % 10) ∷ [])) (digits-bound j k (n / 10) (omega arith) (omega arith))
+          ∙ sym (digits-more k n b)
     ]
 
 pub decimal-one : (n : ℕ) → n < 10 → decimal n ≡ (48 + n) ∷ []
@@ -50,6 +50,6 @@ pub decimal-length : (k n : ℕ) → n < 10 ^ suc k → length (decimal n) ≤ s
 decimal-length zero n h = rw (decimal-one n h) (omega arith)
 decimal-length (suc k) n h =
     elim (decLt n 10) [
-      yes s ↦ rw (decimal-one n s) (omega arith)
+      | yes s ↦ rw (decimal-one n s) (omega arith)
       | no s ↦ rw (decimal-more n (omega arith), length-append) (omega (arith, decimal-length k (n / 10) (tenth-below (suc k) n h)))
     ]

@@ -25,11 +25,11 @@ pub put-then : {out out′ out″ : List ℕ} {at next next′ : ℕ} {a b : Lis
 put-then {out} {at = at} {next} {a = a} {b} p q =
     record {
       bytes =
-        q .bytes
-        ∙ ap (λ (o : List ℕ). written o next b) (p .bytes)
-        ∙ ap (λ (n : ℕ). written (written out at a) n b) (p .place)
-        ∙ written-append out at a b;
-      place = q .place ∙ ap (λ (n : ℕ). n + length b) (p .place) ∙ simp (length-append, add-assoc)
+          q .bytes
+          ∙ ap (λ (o : List ℕ). written o next b) (p .bytes)
+          ∙ ap (λ (n : ℕ). written (written out at a) n b) (p .place)
+          ∙ written-append out at a b;
+      place = q .place ∙ ap (λ (n : ℕ). n + length b) (p .place) ∙ simp (length-append, add-assoc);
     }
 
 pub put-length : {out out′ : List ℕ} {at next : ℕ} {a : List ℕ} → Put out at a out′ next → length out′ ≡ length out

@@ -3,7 +3,6 @@
 use mathlib.Core.Path.{_≡_, refl, sym, ap, _∙_}
 use mathlib.Core.List.{List, [], _∷_, _++_, append-assoc, append-nil}
 use Prim.Native.Nat.{ℕ, zero, suc, _+_, _-_, _/_, _%_, _^_, _≤_, _<_}
-
 use native.Mathlib.Numerals.{sub-one}
 use native.Mathlib.Omega.{arith}
 use lib.ListN.{length, take, drop, set, length-drop, length-set}
@@ -13,9 +12,6 @@ use Rattle.text.proofs.Numerals.{decimal-one, decimal-more, tenth-below
 use Rattle.text.proofs.Writing.{put-length}
 use Rattle.text.proofs.put.put_decimal.Statement.{statement}
 use Rattle.text.proofs.put.put_decimal.Tie as tie
-use Rattle.text.proofs.put.put_decimal.Reads as reads
-use Rattle.text.proofs.put.put_decimal.Lts as lts
-use Rattle.text.proofs.put.put_text.Reads as put-text-reads
 
 -- a number of two digits at least, held by i digits
 fewer : (i n : ℕ) → 10 ≤ n → n < 10 ^ i → (1 < i) × (n / 10 < 10 ^ (i - 1))

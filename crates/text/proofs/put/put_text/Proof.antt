@@ -11,9 +11,6 @@ use Rattle.text.specs.Put.{Put}
 use Rattle.text.proofs.Writing.{put-then, put-length}
 use Rattle.text.proofs.put.put_text.Statement.{statement}
 use Rattle.text.proofs.put.put_text.Tie as tie
-use Rattle.text.proofs.put.put_text.Reads as reads
-use Rattle.text.proofs.put.put_text.Lts as lts
-use Rattle.text.proofs.put.put_byte.Reads as put-byte-reads
 
 abbrev Inv-loop : tie.InvT-loop
 Inv-loop out₀ at text i₀ next₀ out i next = (i ≤ length text) × Put out₀ at (take i text) out next

@@ -1,0 +1,80 @@
+// Bytes given as text: two hex digits each, in either case, parted by one space or newline.
+ghost use mathlib.Core.Path.{_≡_};
+ghost use lib.ListN.{drop};
+ghost use Rattle.text.specs.Hex.{valueOf, front, decodedOf};
+
+// How reading ended: with the text, at text that is none of this, or at a byte too many.
+pub enum Ending {
+    Whole,
+    BadHex,
+    TooLong,
+}
+
+// What stands at a place: a byte with its separator, or the end.
+pub enum Front {
+    Byte(u8),
+    Stop(Ending),
+}
+
+pub struct Decoded {
+    pub count: usize,
+    pub ending: Ending,
+}
+
+fn value(c: u8) -> u8
+    ensures { λ r. ⌜ r ≡ valueOf c ⌝ }
+{
+    match c {
+        b'0'..=b'9' => c - 48,
+        b'A'..=b'F' => c - 55,
+        b'a'..=b'f' => c - 87,
+        _ => 16,
+    }
+}
+
+fn step(text: &[u8], at: usize, room: usize) -> Front
+    ensures { λ r. ⌜ r ≡ front room (drop at (now (text .entry))) ⌝ }
+{
+    if text.len() <= at {
+        return Front::Stop(Ending::Whole);
+    }
+    if text.len() - at == 1 {
+        return Front::Stop(Ending::BadHex);
+    }
+    let high = value(text[at]);
+    let low = value(text[at + 1]);
+    if 15 < high {
+        return Front::Stop(Ending::BadHex);
+    }
+    if 15 < low {
+        return Front::Stop(Ending::BadHex);
+    }
+    if room == 0 {
+        return Front::Stop(Ending::TooLong);
+    }
+    if text.len() - at == 2 {
+        return Front::Byte(high * 16 + low);
+    }
+    match text[at + 2] {
+        b' ' | b'\n' => Front::Byte(high * 16 + low),
+        _ => Front::Stop(Ending::BadHex),
+    }
+}
+
+// The bytes that `text` gives, as many as `out` holds at most.
+pub fn decode(text: &[u8], out: &mut [u8]) -> Decoded
+    ensures { λ r. ⌜ (r, now (out .exit)) ≡ decodedOf (now (text .entry)) (now (out .entry)) ⌝ }
+{
+    let mut at = 0;
+    let mut count = 0;
+    loop {
+        match step(text, at, out.len() - count) {
+            Front::Byte(b) => {
+                out[count] = b;
+                count += 1;
+                at += 3;
+            }
+            Front::Stop(ending) => return Decoded { count, ending },
+        }
+    }
+}
