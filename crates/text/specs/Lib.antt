@@ -1,3 +1,4 @@
+pub mod Ascii
 pub mod Decimal
 pub mod Hex
 pub mod Put
