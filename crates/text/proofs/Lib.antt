@@ -1,3 +1,4 @@
 pub mod Fronts
 pub mod Numerals
+pub mod Wholes
 pub mod Writing

@@ -4,10 +4,14 @@
 // for which the output has no place is lost, so a run on an output with none measures the text.
 mod hex;
 mod put;
+mod whole;
 
 pub use hex::Decoded;
 pub use hex::Ending;
 pub use hex::decode;
 pub use put::put_byte;
 pub use put::put_decimal;
+pub use put::put_field;
 pub use put::put_text;
+pub use whole::Written;
+pub use whole::put_whole;

@@ -1,6 +1,6 @@
 // Writing at a running place.
 ghost use Prim.Native.Nat.{_+_, _<_, _^_};
-ghost use mathlib.Core.List.{[], _∷_};
+ghost use mathlib.Core.List.{[], _∷_, _++_};
 ghost use lib.ListN.{length};
 ghost use Rattle.text.specs.Decimal.{decimal};
 ghost use Rattle.text.specs.Put.{Put};
@@ -43,4 +43,13 @@ pub fn put_decimal(out: &mut [u8], at: usize, n: u64) -> usize
     i -= 1;
     text[i] = 48 + rest as u8;
     put_text(out, at, &text[i..])
+}
+
+// A number, and the byte that ends it.
+pub fn put_field(out: &mut [u8], at: usize, n: u64, end: u8) -> usize
+    requires { ⌜ at + length (decimal n) + 1 < 2 ^ 64 ⌝ }
+    ensures { λ r. ⌜ Put (now (out .entry)) at (decimal n ++ (end ∷ [])) (now (out .exit)) r ⌝ }
+{
+    let next = put_decimal(out, at, n);
+    put_byte(out, next, end)
 }
