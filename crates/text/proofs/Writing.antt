@@ -6,7 +6,7 @@ use Prim.Native.Nat.{ℕ, suc, _+_, _≤_}
 use native.Mathlib.Nat.{add-zero, add-suc, suc-add, add-assoc, zero-add}
 use native.Mathlib.Omega.{arith}
 use lib.ListN.{length, take, drop, length-append}
-use lib.Seq.{sets, sets-eq, length-sets}
+use lib.Seq.{append-snoc, sets-eq, length-sets}
 use Rattle.text.specs.Put.{written, Put}
 
 pub written-append : (out : List ℕ) (at : ℕ) (a b : List ℕ) → written (written out at a) (at + length a) b ≡ written out at (a ++ b)
@@ -31,6 +31,13 @@ put-then {out} {at = at} {next} {a = a} {b} p q =
           ∙ written-append out at a b;
       place = q .place ∙ ap (λ (n : ℕ). n + length b) (p .place) ∙ simp (length-append, add-assoc);
     }
+
+-- a text that ends in the byte `x`, and what comes after it
+pub put-field-then : (a : List ℕ) (x : ℕ) {b out out′ out″ : List ℕ} {at next next′ : ℕ} → Put out at (a ++ (x ∷ [])) out′ next → Put out′ next b out″ next′ → Put out at (a ++ (x ∷ b)) out″ next′
+put-field-then a x {b} p q = rw (append-snoc a x b) at (put-then p q)
+
+pub field-length : (a : List ℕ) (x : ℕ) → length (a ++ (x ∷ [])) ≡ length a + 1
+field-length a x = length-append a (x ∷ [])
 
 pub put-length : {out out′ : List ℕ} {at next : ℕ} {a : List ℕ} → Put out at a out′ next → length out′ ≡ length out
 put-length {out} {at = at} {a = a} p = ap length (p .bytes) ∙ length-sets out at a

@@ -13,47 +13,47 @@ Inv-loop code out₀ at₀ count n₀ out at n = ?
 abbrev μ-loop : tie.MeasureT-loop
 μ-loop code out₀ at₀ count n₀ out at n = ?
 
--- src/lib.rt:54:41
+-- src/lib.rt:66:41
 slice-aggregate-put-text : tie.Need-slice-aggregate-put-text Inv-loop μ-loop
 slice-aggregate-put-text c = ?
 
--- src/lib.rt:54:9
+-- src/lib.rt:66:9
 put-text-requires : tie.Need-put-text-requires Inv-loop μ-loop
 put-text-requires c κs = ?
 
--- src/lib.rt:57:5
+-- src/lib.rt:69:5
 loop-holds : tie.Need-loop-holds Inv-loop μ-loop
 loop-holds c = ?
 
--- src/lib.rt:58:48
+-- src/lib.rt:70:48
 cut-requires : tie.Need-cut-requires Inv-loop μ-loop
 cut-requires c κs = ?
 
--- src/lib.rt:58:9
+-- src/lib.rt:70:9
 put-line-requires : tie.Need-put-line-requires Inv-loop μ-loop
 put-line-requires c κs = ?
 
--- src/lib.rt:59:9
+-- src/lib.rt:71:9
 add-n : tie.Need-add-n Inv-loop μ-loop
 add-n c = ?
 
--- src/lib.rt:57:5
+-- src/lib.rt:69:5
 loop-less : tie.Need-loop-less Inv-loop μ-loop
 loop-less c = ?
 
--- src/lib.rt:57:5
+-- src/lib.rt:69:5
 loop-again : tie.Need-loop-again Inv-loop μ-loop
 loop-again c = ?
 
--- src/lib.rt:61:5
+-- src/lib.rt:73:5
 put-rest-requires : tie.Need-put-rest-requires Inv-loop μ-loop
 put-rest-requires c κs = ?
 
--- src/lib.rt:50:1
+-- src/lib.rt:62:1
 same-length : tie.Need-same-length Inv-loop μ-loop
 same-length c = ?
 
--- src/lib.rt:50:1
+-- src/lib.rt:62:1
 returns : tie.Need-returns Inv-loop μ-loop
 returns c = ?
 

@@ -1,39 +1,41 @@
+-- `lister::line::put_rest` meets its contract: nothing where no bytes are left, else one line. Assumes nothing.
+use mathlib.Core.Path.{refl, sym}
+use native.Mathlib.Nat.{add-zero}
+use native.Mathlib.Omega.{arith}
 use borrow.Author.Needs.{needs}
+use Rattle.text.proofs.Writing.{put-then}
+use Rattle.lister.specs.Listing.{restOf}
+use Rattle.lister.proofs.Lines.{rest-some, rest-length}
 use Rattle.lister.proofs.line.put_rest.Statement.{statement}
 use Rattle.lister.proofs.line.put_rest.Tie as tie
 use Rattle.lister.proofs.line.put_rest.Reads as reads
 use Rattle.lister.proofs.line.put_rest.Lts as lts
-use Rattle.text.proofs.put_byte.Reads as put-byte-reads
-use Rattle.text.proofs.put_decimal.Reads as put-decimal-reads
+use Rattle.text.proofs.put_field.Reads as put-field-reads
 use Rattle.text.proofs.put_text.Reads as put-text-reads
 
--- src/line.rt:43:9
 returns : tie.Need-returns
-returns c = ?
+unfolding restOf
+returns c = rw (c .if1 .taken) (record { bytes = refl; place = sym (add-zero _) })
 
--- src/line.rt:45:38
 slice-aggregate-put-text : tie.Need-slice-aggregate-put-text
 slice-aggregate-put-text c = search needs
 
--- src/line.rt:45:9
 put-text-requires : tie.Need-put-text-requires
-put-text-requires c κs = ?
+put-text-requires c κs =
+    let a = c .before .before .before .before .args in
+    omega (arith, rest-length (a .bytes) (omega (arith, c .before .before .if1 .left)))
 
--- src/line.rt:46:5
-put-decimal-requires : tie.Need-put-decimal-requires
-put-decimal-requires c κs = ?
+put-field-requires : tie.Need-put-field-requires
+put-field-requires c κs =
+    let a = c .before .before .before .before .before .before .before .before .args in
+    omega (arith, rest-length (a .bytes) (omega (arith, c .before .before .before .before .before .before .if1 .left)))
 
--- src/line.rt:47:5
-put-byte-requires : tie.Need-put-byte-requires
-put-byte-requires c κs = ?
-
--- src/line.rt:38:1
 same-length : tie.Need-same-length
 same-length c = search needs
 
--- src/line.rt:38:1
 returns-2 : tie.Need-returns-2
-returns-2 c = ?
+returns-2 c =
+    rw (rest-some _ (omega (arith, c .before .before .before .before .before .before .before .before .before .if1 .left))) (put-then (c .before .before .before .before .before .before .put-text .ensures) (c .before .before .put-field .ensures))
 
 pub put-rest-spec : {M : Type 1} → statement M
 put-rest-spec =
@@ -42,7 +44,6 @@ put-rest-spec =
     returns
     slice-aggregate-put-text
     put-text-requires
-    put-decimal-requires
-    put-byte-requires
+    put-field-requires
     same-length
     returns-2)
