@@ -2,14 +2,16 @@
 use mathlib.Core.Path.{_≡_, refl, sym, ap, _∙_}
 use mathlib.Core.List.{List, [], _∷_, _++_}
 use Prim.Native.Nat.{ℕ, zero, suc, _+_, _≤_, _<_}
+use native.Mathlib.Numerals.{add-one}
 use native.Mathlib.Omega.{arith}
 use lib.ListN.{length, getD, length-append}
 use borrow.Author.Tests.{eq-eqb, ne-eqb}
 use Rattle.answer.specs.Answer.{badBundle}
+use Rattle.bundle.specs.Bundle.{cutOf}
 use Rattle.bundle.specs.declared.Bundle.{Bundle}
 use Rattle.text.specs.Ascii.{ascii}
 use Rattle.text.specs.Decimal.{decimal}
-use Rattle.lister.specs.Listing.{row, endOf, lineOf, restOf}
+use Rattle.lister.specs.Listing.{row, endOf, lineOf, linesOf, restOf}
 
 -- the end of a line that shows units and slots
 abbrev pub shown : Bundle → List ℕ
@@ -36,4 +38,8 @@ rest-some zero h = absurd (omega arith)
 rest-some (suc k) h = refl
 
 pub rest-length : (k : ℕ) → 0 < k → length (restOf k) ≡ length (decimal k) + 6
-rest-length k h = ap length (rest-some k h) ∙ simp (length-append, add-one, add-five, add-six)
+rest-length k h = ap length (rest-some k h) ∙ omega (arith, length-append (decimal k) (10 ∷ []))
+
+pub lines-more : (code : List ℕ) (n : ℕ) → linesOf code (n + 1) ≡ linesOf code n ++ lineOf n (cutOf code n)
+unfolding linesOf
+lines-more code n = rw add-one

@@ -26,7 +26,7 @@ same-length : tie.Need-same-length
 same-length c = search needs
 
 returns : tie.Need-returns
-returns c = rw (end-reserved _ (c .before .before .before .before .before .if1 .taken)) (c .before .before .put-text .ensures)
+returns c = rw (end-reserved (c .before .before .before .before .before .before .before .before .args .bundle) (c .before .before .before .before .before .if1 .taken)) (c .before .before .put-text .ensures)
 
 slice-aggregate-put-text-2 : tie.Need-slice-aggregate-put-text-2
 slice-aggregate-put-text-2 c = search needs

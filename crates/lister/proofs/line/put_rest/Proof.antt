@@ -35,7 +35,7 @@ same-length c = search needs
 
 returns-2 : tie.Need-returns-2
 returns-2 c =
-    rw (rest-some _ (omega (arith, c .before .before .before .before .before .before .before .before .before .if1 .left))) (put-then (c .before .before .before .before .before .before .put-text .ensures) (c .before .before .put-field .ensures))
+    rw (rest-some (c .before .before .before .before .before .before .before .before .before .before .before .args .bytes) (omega (arith, c .before .before .before .before .before .before .before .before .before .if1 .left))) (put-then (c .before .before .before .before .before .before .put-text .ensures) (c .before .before .put-field .ensures))
 
 pub put-rest-spec : {M : Type 1} → statement M
 put-rest-spec =
