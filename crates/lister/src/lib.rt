@@ -4,6 +4,7 @@ mod line;
 ghost use mathlib.Core.Path.{_≡_};
 ghost use mathlib.Core.List.{[]};
 ghost use Prim.Native.Nat.{_≤_};
+ghost use lib.Dec.{leb};
 ghost use lib.ListN.{length};
 ghost use Rattle.text.specs.Put.{Put};
 ghost use Rattle.text.specs.Whole.{wroteOf};
@@ -43,19 +44,29 @@ pub fn list(code: &[u8], out: &mut [u8]) -> Written
             length: 0,
         };
     }
-    if out.len() < CAPACITY {
-        let length = write(code, &mut out[..0]);
-        if out.len() < length {
-            return Written {
-                answer: NO_ROOM,
-                length: 0,
-            };
-        }
+    if fits(code, out.len()) {
+        let length = write(code, out);
+        return Written {
+            answer: ACCEPTED,
+            length,
+        };
     }
     Written {
-        answer: ACCEPTED,
-        length: write(code, out),
+        answer: NO_ROOM,
+        length: 0,
     }
+}
+
+// Whether the listing has at most `room` bytes. It is measured only where room may be short.
+fn fits(code: &[u8], room: usize) -> bool
+    requires { ⌜ length (now code) ≤ 65536 ⌝ }
+    ensures { λ r. ⌜ r ≡ leb (length (listOf (now (code .entry)))) room ⌝ }
+{
+    if CAPACITY <= room {
+        return true;
+    }
+    let mut none = [0u8; 0];
+    write(code, &mut none) <= room
 }
 
 // Writes the listing at the output's start, as far as there is room, and answers its length.

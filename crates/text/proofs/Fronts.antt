@@ -7,15 +7,17 @@ use mathlib.Core.Logic.{_⊎_, inl, inr}
 use Prim.Native.Nat.{ℕ, zero, suc, _+_, _*_, _≤_, _<_}
 use native.Mathlib.Numerals.{add-one, add-two}
 use native.Mathlib.Omega.{arith}
-use lib.Dec.{ltb, eqb}
-use lib.ListN.{length, getD, drop, drop-of-length-le}
-use lib.Seq.{drop-cons}
+use lib.Dec.{ltb, lit≤}
+use lib.ListN.{length, getD, take, drop, drop-of-length-le}
+use lib.Seq.{drop-cons, take-append-seam}
 use borrow.Author.Tests.{lt-ltb, le-ltb, eq-eqb, ne-eqb}
+use Rattle.text.specs.declared.hex.Decoded.{Decoded}
 use Rattle.text.specs.declared.hex.Ending.{Ending}
 use Rattle.text.specs.declared.hex.Ending.the-variants.{Whole, BadHex, TooLong}
 use Rattle.text.specs.declared.hex.Front.{Front}
 use Rattle.text.specs.declared.hex.Front.the-variants.{Byte, Stop}
-use Rattle.text.specs.Hex.{valueOf, parted, front, Bytes, goOn, hexBytes}
+use Rattle.text.specs.Hex.{valueOf, parted, front, Bytes, goOn, hexBytes, decodedOf}
+use Rattle.text.proofs.Writing.{written-start}
 
 -- a separator, after which more may come, or none
 module _ (t : List ℕ) (at : ℕ) where
@@ -95,3 +97,36 @@ read-stop (suc room) t e h = rw h
 pub read-byte : (room : ℕ) (t : List ℕ) (b : ℕ) → front (suc room) t ≡ Byte b → hexBytes (suc room) t ≡ goOn (Byte b) (hexBytes room (drop 3 t))
 unfolding hexBytes
 read-byte room t b h = rw h
+
+-- no more bytes are read than there is room for
+none-read : (f : Front) (r : Bytes) → ((b : ℕ) → f ≡ Byte b → ⊥) → length (goOn f r .0) ≤ 0
+none-read (Byte b) r n = absurd (n b refl)
+none-read (Stop e) r n = lit≤ tt
+
+one-read : (f : Front) (r : Bytes) (room : ℕ) → length (r .0) ≤ room → length (goOn f r .0) ≤ suc room
+one-read (Byte b) r room h = omega arith
+one-read (Stop e) r room h = omega arith
+
+pub hex-room : (room : ℕ) (t : List ℕ) → length (hexBytes room t .0) ≤ room
+unfolding hexBytes
+hex-room zero t = none-read (front zero t) ([], TooLong) (λ b e. omega (arith, byte-room zero t e))
+hex-room (suc room) t = one-read (front (suc room) t) (hexBytes room (drop 3 t)) room (hex-room room (drop 3 t))
+
+-- what decoding hands back, and where its bytes stand
+module _ (text out out′ : List ℕ) (r : Decoded) (e : (r, out′) ≡ decodedOf text out) where
+  pub decoded-ending : r .ending ≡ hexBytes (length out) text .1
+  unfolding decodedOf
+  decoded-ending = ap (λ (d : Decoded × List ℕ). d .0 .ending) e
+
+  pub decoded-count : r .count ≡ length (hexBytes (length out) text .0)
+  unfolding decodedOf
+  decoded-count = ap (λ (d : Decoded × List ℕ). d .0 .count) e
+
+  pub decoded-room : r .count ≤ length out
+  decoded-room = rw decoded-count (hex-room (length out) text)
+
+  pub decoded-bytes : take (r .count) out′ ≡ hexBytes (length out) text .0
+  unfolding decodedOf
+  decoded-bytes =
+      rw (decoded-count, ap (λ (d : Decoded × List ℕ). d .1) e, written-start out _ (hex-room (length out) text))
+      (take-append-seam (hexBytes (length out) text .0) _)

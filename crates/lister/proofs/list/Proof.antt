@@ -1,56 +1,42 @@
+-- `lister::list` meets its contract: a case of writing a whole text at each return. Assumes nothing.
+use mathlib.Core.Path.{refl, sym, _∙_}
+use borrow.Author.Tests.{leb-true, leb-false, eqb-false}
+use Rattle.answer.specs.Answer.{accepted, tooLong}
+use Rattle.text.proofs.Wholes.{whole-refused, whole-no-room, whole-put}
+use Rattle.lister.specs.Listing.{listOf, listRefusals}
+use Rattle.lister.proofs.Listings.{short-listed, long-refused}
 use borrow.Author.Needs.{needs}
 use Rattle.lister.proofs.list.Statement.{statement}
 use Rattle.lister.proofs.list.Tie as tie
 use Rattle.lister.proofs.list.Reads as reads
 use Rattle.lister.proofs.list.Lts as lts
+use Rattle.lister.proofs.fits.Reads as fits-reads
 use Rattle.lister.proofs.write.Reads as write-reads
 
--- src/lib.rt:41:9
 returns : tie.Need-returns
-returns c = ?
+returns c =
+    let a = c .before .before .before .args in
+    whole-refused (listRefusals (a .code .now)) _ _ tooLong (long-refused (a .code .now) (c .if1 .taken)) (eqb-false tooLong accepted refl)
 
--- src/lib.rt:47:34
-slice-relend-prefix-write : tie.Need-slice-relend-prefix-write
-slice-relend-prefix-write c = search needs
+fits-requires : tie.Need-fits-requires
+fits-requires c κs = search needs
 
--- src/lib.rt:47:34
-slice-aggregate-write : tie.Need-slice-aggregate-write
-slice-aggregate-write c = search needs
-
--- src/lib.rt:47:13
 write-requires : tie.Need-write-requires
 write-requires c κs = search needs
 
--- src/lib.rt:49:13
 same-length : tie.Need-same-length
 same-length c = search needs
 
--- src/lib.rt:49:13
 returns-2 : tie.Need-returns-2
-returns-2 c = ?
+returns-2 c = 
+    let a = c .before .before .before .before .before .before .before .before .before .args in
+    whole-put (listRefusals (a .code .now)) _ _ tt (short-listed (a .code .now) (c .before .before .before .before .before .before .if1 .left)) (leb-true _ _ (sym (c .before .before .before .before .before .fits2 .ensures) ∙ c .before .before .before .before .if2 .taken)) (c .before .before .write .ensures)
 
--- src/lib.rt:57:17
-write-requires-2 : tie.Need-write-requires-2
-write-requires-2 c κs = search needs
-
--- src/lib.rt:37:1
-same-length-2 : tie.Need-same-length-2
-same-length-2 c = ?
-
--- src/lib.rt:37:1
 returns-3 : tie.Need-returns-3
-returns-3 c = ?
+returns-3 c = 
+    let a = c .before .before .before .before .before .args in
+    whole-no-room (listRefusals (a .code .now)) _ _ tt (short-listed (a .code .now) (c .before .before .if1 .left)) (leb-false _ _ (sym (c .before .fits2 .ensures) ∙ c .if2 .left))
 
 pub list-spec : {M : Type 1} → statement M
 list-spec =
-    tie.close
-    (tie.spec
-    returns
-    slice-relend-prefix-write
-    slice-aggregate-write
-    write-requires
-    same-length
-    returns-2
-    write-requires-2
-    same-length-2
-    returns-3)
+    tie.close (tie.spec returns fits-requires write-requires same-length returns-2 returns-3)
