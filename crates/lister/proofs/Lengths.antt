@@ -38,7 +38,7 @@ bundle-small n =
       units = units-three (tagOf n) (part-lt n 0 5);
       slot0 = part-lt n 5 41;
       slot1 = part-lt n 46 41;
-      slot2 = part-lt n 87 41
+      slot2 = part-lt n 87 41;
     }
 
 refused-small : (answer tag : ℕ) → tag < 2 ^ 5 → Small (refusedOf answer tag)
@@ -53,8 +53,8 @@ cut-small code k =
     let tag = tagOf (numberAt code k) in
     elim (ℕ-discrete (foundOf code k) accepted) [
       | yes f ↦
-        by-test (reserved tag) (λ r. rw (cut-reserved code k f r) (refused-small badBundle tag (part-lt (numberAt code k) 0 5)))
-        (λ r. rw (cut-done code k f r) (bundle-small (numberAt code k)))
+          by-test (reserved tag) (λ r. rw (cut-reserved code k f r) (refused-small badBundle tag (part-lt (numberAt code k) 0 5)))
+          (λ r. rw (cut-done code k f r) (bundle-small (numberAt code k)))
       | no d ↦ rw (cut-not-found code k d) (refused-small (foundOf code k) 0 (lit< tt))
     ]
 
@@ -66,8 +66,8 @@ end-most b s =
     elim (ℕ-discrete (b .answer) badBundle) [
       | yes e ↦ rw (end-reserved b e) (lit≤ tt)
       | no d ↦
-        rw (end-shown b d, shown-length b)
-        (omega (arith, s .units, digits13 (getD (b .slots) 0 0) (s .slot0), digits13 (getD (b .slots) 1 0) (s .slot1), digits13 (getD (b .slots) 2 0) (s .slot2)))
+          rw (end-shown b d, shown-length b)
+          (omega (arith, s .units, digits13 (getD (b .slots) 0 0) (s .slot0), digits13 (getD (b .slots) 1 0) (s .slot1), digits13 (getD (b .slots) 2 0) (s .slot2)))
     ]
 
 pub line-most : (code : List ℕ) (n : ℕ) → n < 4096 → length (lineOf n (cutOf code n)) ≤ 54

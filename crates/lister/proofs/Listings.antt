@@ -2,11 +2,12 @@
 use mathlib.Core.Path.{_≡_, refl, ap}
 use mathlib.Core.List.{List}
 use Prim.Native.Nat.{ℕ, _≤_, _<_}
-use lib.ListN.{length}
+use lib.ListN.{length, take}
 use borrow.Author.Tests.{lt-ltb, le-ltb}
 use Rattle.answer.specs.Answer.{first, accepted, tooLong}
 use Rattle.text.specs.Hex.{hexBytes}
 use Rattle.text.specs.declared.hex.Ending.{Ending}
+use Rattle.text.proofs.Enough.{enough}
 use Rattle.lister.specs.Listing.{listRefusals, listed, listingOf}
 
 pub short-listed : (code : List ℕ) → length code ≤ 65536 → first (listRefusals code) ≡ accepted
@@ -18,3 +19,8 @@ long-refused code h = rw (lt-ltb 65536 (length code) h)
 pub listing-is : (text : List ℕ) (e : Ending) → hexBytes 65536 text .1 ≡ e → listingOf text ≡ listed (hexBytes 65536 text .0) e
 unfolding listingOf
 listing-is text e h = ap (listed (hexBytes 65536 text .0)) h
+
+-- the characters that decide a text's listing
+pub listing-enough : (text : List ℕ) → listingOf (take 196610 text) ≡ listingOf text
+unfolding listingOf
+listing-enough text = rw (enough 65536 text)

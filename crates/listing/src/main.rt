@@ -1,5 +1,6 @@
 // Reads bytes in hex from standard input and writes the listing of them: document 01's last example.
-use libc::{STDIN_FILENO, STDOUT_FILENO};
+use libc::STDIN_FILENO;
+use libc::STDOUT_FILENO;
 
 fn main() {
     // 65,536 bytes of three characters, and two digits of one byte more: no text past that changes the listing

@@ -1,3 +1,4 @@
+pub mod Enough
 pub mod Fronts
 pub mod Numerals
 pub mod Wholes

@@ -1,14 +1,17 @@
 -- The cases of a call that writes a whole text, from what its code did. Each takes the list of refusals as far as it goes.
 -- Assumes nothing.
-use mathlib.Core.Path.{_≡_, refl, sym, ap, _∙_}
+use mathlib.Core.Path.{_≡_, refl, sym, _∙_, subst}
+use mathlib.Core.Bool.{Bool, true, false, cond}
 use mathlib.Core.List.{List, [], _∷_, _++_}
 use Prim.Native.Nat.{ℕ, _≤_, _<_}
 use native.Mathlib.Nat.{zero-add}
-use lib.Dec.{T}
-use lib.ListN.{length, drop}
+use native.Mathlib.Omega.{arith}
+use lib.Dec.{T, eqb}
+use lib.ListN.{length, drop, length-append}
 use borrow.Author.Tests.{lt-ltb, le-ltb}
 use Rattle.answer.specs.Answer.{Refusal, first, accepted, noRoom}
 use Rattle.answer.proofs.Laws.{numbered, first-on, first-stop, refuses}
+use Rattle.text.specs.declared.whole.Written.{Written}
 use Rattle.text.specs.Put.{Put}
 use Rattle.text.specs.Whole.{wholeRefusals, wroteOf}
 use Rattle.text.proofs.Writing.{written-start}
@@ -34,3 +37,14 @@ module _ (before : List Refusal) (text out : List ℕ) where
     pub whole-passed : wroteOf before text out ≡ wroteOf [] text out
     unfolding wroteOf
     whole-passed = rw (first-on before _ n none)
+
+-- the length that is answered lies in the output that is left
+within : (t : Bool) (a : ℕ) (text out : List ℕ) → let w : Written × List ℕ = cond t (record { answer = a; length = length text }, text ++ drop (length text) out) (record { answer = a; length = 0 }, out) in w .0 .length ≤ length (w .1)
+within true a text out = rw length-append (omega arith)
+within false a text out = omega arith
+
+pub whole-within : (before : List Refusal) (text out : List ℕ) {w : Written × List ℕ} → w ≡ wroteOf before text out → w .0 .length ≤ length (w .1)
+unfolding wroteOf
+whole-within before text out e =
+    let answer = first (wholeRefusals before text out) in
+    subst (λ (w : Written × List ℕ). w .0 .length ≤ length (w .1)) (sym e) (within (eqb answer accepted) answer text out)

@@ -9,9 +9,6 @@ use Rattle.lister.proofs.Lengths.{list-most}
 use borrow.Author.Needs.{needs}
 use Rattle.lister.proofs.fits.Statement.{statement}
 use Rattle.lister.proofs.fits.Tie as tie
-use Rattle.lister.proofs.fits.Reads as reads
-use Rattle.lister.proofs.fits.Lts as lts
-use Rattle.lister.proofs.write.Reads as write-reads
 
 returns : tie.Need-returns
 returns c =

@@ -8,10 +8,6 @@ use Rattle.lister.proofs.Listings.{short-listed, long-refused}
 use borrow.Author.Needs.{needs}
 use Rattle.lister.proofs.list.Statement.{statement}
 use Rattle.lister.proofs.list.Tie as tie
-use Rattle.lister.proofs.list.Reads as reads
-use Rattle.lister.proofs.list.Lts as lts
-use Rattle.lister.proofs.fits.Reads as fits-reads
-use Rattle.lister.proofs.write.Reads as write-reads
 
 returns : tie.Need-returns
 returns c =
@@ -28,12 +24,12 @@ same-length : tie.Need-same-length
 same-length c = search needs
 
 returns-2 : tie.Need-returns-2
-returns-2 c = 
+returns-2 c =
     let a = c .before .before .before .before .before .before .before .before .before .args in
     whole-put (listRefusals (a .code .now)) _ _ tt (short-listed (a .code .now) (c .before .before .before .before .before .before .if1 .left)) (leb-true _ _ (sym (c .before .before .before .before .before .fits2 .ensures) ∙ c .before .before .before .before .if2 .taken)) (c .before .before .write .ensures)
 
 returns-3 : tie.Need-returns-3
-returns-3 c = 
+returns-3 c =
     let a = c .before .before .before .before .before .args in
     whole-no-room (listRefusals (a .code .now)) _ _ tt (short-listed (a .code .now) (c .before .before .if1 .left)) (leb-false _ _ (sym (c .before .fits2 .ensures) ∙ c .if2 .left))
 

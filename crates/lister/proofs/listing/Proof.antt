@@ -16,11 +16,6 @@ use Rattle.lister.proofs.Listings.{short-listed, listing-is}
 use borrow.Author.Needs.{needs}
 use Rattle.lister.proofs.listing.Statement.{statement}
 use Rattle.lister.proofs.listing.Tie as tie
-use Rattle.lister.proofs.listing.Reads as reads
-use Rattle.lister.proofs.listing.Lts as lts
-use Rattle.lister.proofs.list.Reads as list-reads
-use Rattle.text.proofs.decode.Reads as decode-reads
-use Rattle.text.proofs.put_whole.Reads as put-whole-reads
 
 -- what reading the text into 65,536 bytes gave
 module _ (c : tie.After-decode) where
@@ -98,7 +93,7 @@ same-length : tie.Need-same-length
 same-length c = search needs
 
 returns : tie.Need-returns
-returns c = 
+returns c =
     let d = c .before .before .before .before .before .before .before .before in
     let e : d .decode .result .ending ≡ Whole = c .before .before .before .before .before .enum-told .given .1 in
     c .before .before .list .ensures ∙ lists d _ e
@@ -107,7 +102,7 @@ same-length-2 : tie.Need-same-length-2
 same-length-2 c = search needs
 
 returns-2 : tie.Need-returns-2
-returns-2 c = 
+returns-2 c =
     let d = c .before .before .before .before .before .before .before .before in
     let e : d .decode .result .ending ≡ BadHex = c .before .before .before .before .before .enum-told2 .given .1 in
     rw (listing-is (text d) BadHex (sym (ended d) ∙ e)) (c .before .before .put-whole .ensures)
@@ -116,7 +111,7 @@ same-length-3 : tie.Need-same-length-3
 same-length-3 c = search needs
 
 returns-3 : tie.Need-returns-3
-returns-3 c = 
+returns-3 c =
     let d = c .before .before .before .before .before .before .before .before in
     let e : d .decode .result .ending ≡ TooLong = c .before .before .before .before .before .enum-told3 .given .1 in
     rw (listing-is (text d) TooLong (sym (ended d) ∙ e)) (c .before .before .put-whole2 .ensures)

@@ -15,12 +15,6 @@ use Rattle.lister.proofs.Lengths.{line-most, lines-most, rest-most}
 use Rattle.lister.proofs.Lines.{lines-more}
 use Rattle.lister.proofs.write.Statement.{statement}
 use Rattle.lister.proofs.write.Tie as tie
-use Rattle.lister.proofs.write.Reads as reads
-use Rattle.lister.proofs.write.Lts as lts
-use Rattle.bundle.proofs.cut.Reads as cut-reads
-use Rattle.lister.proofs.line.put_line.Reads as put-line-reads
-use Rattle.lister.proofs.line.put_rest.Reads as put-rest-reads
-use Rattle.text.proofs.put_text.Reads as put-text-reads
 
 abbrev Inv-loop : tie.InvT-loop
 Inv-loop code out₀ at₀ count n₀ out at n = (n ≤ count) × Put out₀ at₀ (linesOf code n) out at
@@ -42,7 +36,7 @@ cut-requires : tie.Need-cut-requires Inv-loop μ-loop
 cut-requires c κs = tt
 
 put-line-requires : tie.Need-put-line-requires Inv-loop μ-loop
-put-line-requires c κs = 
+put-line-requires c κs =
     let l = c .before .before .before .loop in
     let a = c .before .before .before .before .before .before .before .before .before .before .before .args in
     rw (c .cut .ensures) (omega (arith, lines-most (a .code .now) (l .n) (omega arith), line-most (a .code .now) (l .n) (omega arith)))
@@ -54,24 +48,24 @@ loop-less : tie.Need-loop-less Inv-loop μ-loop
 loop-less c = omega arith
 
 loop-again : tie.Need-loop-again Inv-loop μ-loop
-loop-again c = 
+loop-again c =
     let l = c .before .before .before .before .before .before .loop in
     let a = c .before .before .before .before .before .before .before .before .before .before .before .before .before .before .args in
     (omega arith, rw (lines-more (a .code .now) (l .n)) (put-then (l .inv .1) (rw (c .before .before .before .cut .ensures) at (c .before .before .put-line .ensures))))
 
 put-rest-requires : tie.Need-put-rest-requires Inv-loop μ-loop
-put-rest-requires c κs = 
+put-rest-requires c κs =
     let l = c .before .before .loop in
     let a = c .before .before .before .before .before .before .before .before .before .before .args in
     omega (arith, lines-most (a .code .now) (l .n) (omega arith), rest-most (length (a .code .now) % 16) (omega arith))
 
 same-length : tie.Need-same-length Inv-loop μ-loop
-same-length c = 
+same-length c =
     put-length (put-then (c .before .before .before .before .before .before .before .before .put-text .ensures) (put-then (c .before .before .before .before .before .loop .inv .1) (c .before .before .put-rest .ensures)))
 
 returns : tie.Need-returns Inv-loop μ-loop
 unfolding listOf
-returns c = 
+returns c =
     let l = c .before .before .before .before .before .loop in
     let a = c .before .before .before .before .before .before .before .before .before .before .before .before .before .args in
     let e : l .n ≡ length (a .code .now) / 16 = le-antisymm (l .inv .0) (c .before .before .before .before .loop-test .left) in

@@ -1,49 +1,39 @@
+-- `listing::main` meets its contract: what the listing answers lies in the output. Assumes nothing.
+use mathlib.Core.Path.{sym}
+use mathlib.Core.List.{[]}
+use lib.Seq.{length-take-le}
+use Rattle.text.proofs.Wholes.{whole-within}
 use borrow.Author.Needs.{needs}
 use Rattle.listing.proofs.main.Statement.{statement}
 use Rattle.listing.proofs.main.Tie as tie
-use Rattle.listing.proofs.main.Reads as reads
-use Rattle.listing.proofs.main.Lts as lts
-use Rattle.io.proofs.read_full.Reads as read-full-reads
-use Rattle.io.proofs.write_all.Reads as write-all-reads
-use Rattle.lister.proofs.listing.Reads as listing-reads
 
--- src/main.rt:10:45
 slice-aggregate-read-full : tie.Need-slice-aggregate-read-full
 slice-aggregate-read-full c = search needs
 
--- src/main.rt:10:9
 read-full-requires : tie.Need-read-full-requires
 read-full-requires c κs = search needs
 
--- src/main.rt:11:35
 array-share-prefix-text : tie.Need-array-share-prefix-text
 array-share-prefix-text c = search needs
 
--- src/main.rt:11:35
 slice-aggregate-listing : tie.Need-slice-aggregate-listing
 slice-aggregate-listing c = search needs
 
--- src/main.rt:11:51
 slice-aggregate-listing-2 : tie.Need-slice-aggregate-listing-2
 slice-aggregate-listing-2 c = search needs
 
--- src/main.rt:11:9
 listing-requires : tie.Need-listing-requires
 listing-requires c κs = search needs
 
--- src/main.rt:13:34
 array-share-prefix-out : tie.Need-array-share-prefix-out
-array-share-prefix-out c = ?
+array-share-prefix-out c = whole-within [] _ _ (c .before .listing .ensures)
 
--- src/main.rt:13:34
 slice-aggregate-write-all : tie.Need-slice-aggregate-write-all
-slice-aggregate-write-all c = ?
+slice-aggregate-write-all c = sym (length-take-le _ _ (array-share-prefix-out (c .before)))
 
--- src/main.rt:13:5
 write-all-requires : tie.Need-write-all-requires
 write-all-requires c κs = search needs
 
--- src/main.rt:4:1
 returns : tie.Need-returns
 returns c = search needs
 

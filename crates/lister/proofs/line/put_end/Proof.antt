@@ -8,11 +8,6 @@ use Rattle.text.proofs.Writing.{put-then, put-field-then, field-length}
 use Rattle.lister.proofs.Lines.{end-reserved, end-shown, shown-length}
 use Rattle.lister.proofs.line.put_end.Statement.{statement}
 use Rattle.lister.proofs.line.put_end.Tie as tie
-use Rattle.lister.proofs.line.put_end.Reads as reads
-use Rattle.lister.proofs.line.put_end.Lts as lts
-use Rattle.text.proofs.put_byte.Reads as put-byte-reads
-use Rattle.text.proofs.put_field.Reads as put-field-reads
-use Rattle.text.proofs.put_text.Reads as put-text-reads
 
 slice-aggregate-put-text : tie.Need-slice-aggregate-put-text
 slice-aggregate-put-text c = search needs

@@ -7,10 +7,6 @@ use Rattle.lister.specs.Listing.{lineOf}
 use Rattle.lister.proofs.Lines.{line-length}
 use Rattle.lister.proofs.line.put_line.Statement.{statement}
 use Rattle.lister.proofs.line.put_line.Tie as tie
-use Rattle.lister.proofs.line.put_line.Reads as reads
-use Rattle.lister.proofs.line.put_line.Lts as lts
-use Rattle.lister.proofs.line.put_end.Reads as put-end-reads
-use Rattle.text.proofs.put_field.Reads as put-field-reads
 
 put-field-requires : tie.Need-put-field-requires
 put-field-requires c κs =

@@ -8,10 +8,6 @@ use Rattle.lister.specs.Listing.{restOf}
 use Rattle.lister.proofs.Lines.{rest-some, rest-length}
 use Rattle.lister.proofs.line.put_rest.Statement.{statement}
 use Rattle.lister.proofs.line.put_rest.Tie as tie
-use Rattle.lister.proofs.line.put_rest.Reads as reads
-use Rattle.lister.proofs.line.put_rest.Lts as lts
-use Rattle.text.proofs.put_field.Reads as put-field-reads
-use Rattle.text.proofs.put_text.Reads as put-text-reads
 
 returns : tie.Need-returns
 unfolding restOf
