@@ -8,6 +8,8 @@ import re
 import subprocess
 import sys
 
+sys.dont_write_bytecode = True
+
 from model import listing
 
 HERE = pathlib.Path(__file__).parent

@@ -24,12 +24,14 @@ pub struct Decoded {
 fn value(c: u8) -> u8
     ensures { λ r. ⌜ r ≡ valueOf c ⌝ }
 {
-    match c {
-        b'0'..=b'9' => c - 48,
-        b'A'..=b'F' => c - 55,
-        b'a'..=b'f' => c - 87,
-        _ => 16,
+    let table = b"\x00\x01\x02\x03\x04\x05\x06\x07\x08\x09\x10\x10\x10\x10\x10\x10\x10\x0a\x0b\x0c\x0d\x0e\x0f\x10\x10\x10\x10\x10\x10\x10\x10\x10\x10\x10\x10\x10\x10\x10\x10\x10\x10\x10\x10\x10\x10\x10\x10\x10\x10\x0a\x0b\x0c\x0d\x0e\x0f";
+    if c < b'0' {
+        return 16;
     }
+    if b'f' < c {
+        return 16;
+    }
+    table[(c - b'0') as usize]
 }
 
 fn step(text: &[u8], at: usize, room: usize) -> Front
