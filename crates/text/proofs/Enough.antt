@@ -7,10 +7,10 @@ use native.Mathlib.Numerals.{add-one}
 use native.Mathlib.Omega.{arith}
 use lib.ListN.{take, drop}
 use lib.Seq.{take-nil, drop-nil}
-use Rattle.text.specs.Hex.{front, parted, goOn, hexBytes}
+use Rattle.text.specs.Hex.{front, parted, pairOf, hexBytes}
 
 front-two : (t : List ℕ) → front 0 (take 2 t) ≡ front 0 t
-unfolding front
+unfolding front pairOf
 front-two [] = refl
 front-two (a ∷ []) = refl
 front-two (a ∷ b ∷ t) = refl

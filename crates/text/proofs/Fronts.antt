@@ -1,7 +1,7 @@
 -- What stands at the front of a text of hex bytes, a case at a time, and what reading on makes of each. By the clauses of
 -- `front` and `hexBytes`. Assumes nothing.
 use mathlib.Core.Path.{_≡_, refl, sym, ap, _∙_}
-use mathlib.Core.Bool.{Bool, true, false, cond, _&&_}
+use mathlib.Core.Bool.{Bool, true, false, cond, _||_}
 use mathlib.Core.List.{List, [], _∷_}
 use mathlib.Core.Logic.{_⊎_, inl, inr}
 use Prim.Native.Nat.{ℕ, zero, suc, _+_, _*_, _≤_, _<_}
@@ -16,23 +16,8 @@ use Rattle.text.specs.declared.hex.Ending.{Ending}
 use Rattle.text.specs.declared.hex.Ending.the-variants.{Whole, BadHex, TooLong}
 use Rattle.text.specs.declared.hex.Front.{Front}
 use Rattle.text.specs.declared.hex.Front.the-variants.{Byte, Stop}
-use Rattle.text.specs.Hex.{valueOf, parted, front, Bytes, goOn, hexBytes, decodedOf}
+use Rattle.text.specs.Hex.{valueOf, parted, pairOf, front, Bytes, goOn, hexBytes, decodedOf}
 use Rattle.text.proofs.Writing.{written-start}
-
--- a separator, after which more may come, or none
-module _ (t : List ℕ) (at : ℕ) where
-  pub parted-end : length t ≤ at → parted (drop at t) ≡ true
-  unfolding parted
-  parted-end h = rw (drop-of-length-le t h)
-
-  pub parted-more : at < length t → (getD t at 0 ≡ 10) ⊎ (getD t at 0 ≡ 32) → parted (drop at t) ≡ true
-  unfolding parted
-  parted-more h (inl e) = rw (drop-cons t at 0 h, e)
-  parted-more h (inr e) = rw (drop-cons t at 0 h, e)
-
-  pub parted-not : at < length t → ((getD t at 0 ≡ 10) ⊎ (getD t at 0 ≡ 32) → ⊥) → parted (drop at t) ≡ false
-  unfolding parted
-  parted-not h n = rw (drop-cons t at 0 h, ne-eqb _ 32 (λ e. n (inr e)), ne-eqb _ 10 (λ e. n (inl e)))
 
 module _ (room : ℕ) (t : List ℕ) (at : ℕ) where
   pub front-none : length t ≤ at → Stop Whole ≡ front room (drop at t)
@@ -43,45 +28,22 @@ module _ (room : ℕ) (t : List ℕ) (at : ℕ) where
   unfolding front
   front-one h = rw (drop-cons t at 0 (omega arith), drop-of-length-le t {i = suc at} (omega arith))
 
-  module _ (two : at + 1 < length t) where
-    pairs : drop at t ≡ getD t at 0 ∷ getD t (at + 1) 0 ∷ drop (at + 2) t
-    pairs = rw (drop-cons t at 0 (omega arith), add-one, add-two, drop-cons t (suc at) 0 (omega arith))
-
-    pub front-high : 16 ≤ valueOf (getD t at 0) → Stop BadHex ≡ front room (drop at t)
-    unfolding front
-    front-high h = rw (pairs, le-ltb _ 16 h)
-
-    module _ (high : valueOf (getD t at 0) < 16) where
-      pub front-low : 16 ≤ valueOf (getD t (at + 1) 0) → Stop BadHex ≡ front room (drop at t)
-      unfolding front
-      front-low h = rw (pairs, lt-ltb _ 16 high, le-ltb _ 16 h)
-
-      module _ (low : valueOf (getD t (at + 1) 0) < 16) where
-        pub front-long : room ≡ 0 → Stop TooLong ≡ front room (drop at t)
-        unfolding front
-        front-long e = rw (pairs, lt-ltb _ 16 high, lt-ltb _ 16 low, e)
-
-        module _ (some : room ≡ 0 → ⊥) where
-          pub front-byte : parted (drop (at + 2) t) ≡ true → Byte (valueOf (getD t at 0) * 16 + valueOf (getD t (at + 1) 0)) ≡ front room (drop at t)
-          unfolding front
-          front-byte p = rw (pairs, lt-ltb _ 16 high, lt-ltb _ 16 low, ne-eqb room 0 some, p)
-
-          pub front-joined : parted (drop (at + 2) t) ≡ false → Stop BadHex ≡ front room (drop at t)
-          unfolding front
-          front-joined p = rw (pairs, lt-ltb _ 16 high, lt-ltb _ 16 low, ne-eqb room 0 some, p)
+  pub front-two : at + 1 < length t → pairOf (valueOf (getD t at 0)) (valueOf (getD t (at + 1) 0)) room (parted (drop (at + 2) t)) ≡ front room (drop at t)
+  unfolding front
+  front-two h = rw (drop-cons t at 0 (omega arith), add-one, add-two, drop-cons t (suc at) 0 (omega arith))
 
 -- a byte has room and text
 module _ {b : ℕ} where
-  no-byte : (t : Bool) → cond t (Stop TooLong) (Stop BadHex) ≡ Byte b → ⊥
+  no-byte : (t : Bool) → cond t (Stop BadHex) (Stop TooLong) ≡ Byte b → ⊥
   no-byte true e = let z : _≡_ {A = ℕ} 0 1 = cc in omega arith
   no-byte false e = let z : _≡_ {A = ℕ} 0 1 = cc in omega arith
 
   pub byte-room : (room : ℕ) (t : List ℕ) → front room t ≡ Byte b → 0 < room
-  unfolding front
+  unfolding front pairOf
   byte-room (suc room) t e = omega arith
   byte-room zero [] e = let z : _≡_ {A = ℕ} 0 1 = cc in absurd (omega arith)
   byte-room zero (x ∷ []) e = let z : _≡_ {A = ℕ} 0 1 = cc in absurd (omega arith)
-  byte-room zero (x ∷ y ∷ t) e = absurd (no-byte (ltb (valueOf x) 16 && ltb (valueOf y) 16) e)
+  byte-room zero (x ∷ y ∷ t) e = absurd (no-byte (ltb 15 (valueOf x) || ltb 15 (valueOf y)) e)
 
   pub byte-text : (room : ℕ) (t : List ℕ) → front room t ≡ Byte b → 0 < length t
   unfolding front

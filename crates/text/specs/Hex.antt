@@ -23,14 +23,16 @@ unfoldable pub parted : List ℕ → Bool
 parted [] = true
 parted (c ∷ rest) = eqb c 32 || eqb c 10
 
+-- two digits' values: a digit that is none, then no room, then no separator where `ends` is false; else their byte
+unfoldable pub pairOf : ℕ → ℕ → ℕ → Bool → Front
+pairOf high low room ends =
+    cond (ltb 15 high || ltb 15 low) (Stop BadHex) (cond (eqb room 0) (Stop TooLong) (cond ends (Byte (high * 16 + low)) (Stop BadHex)))
+
 -- what stands at the front of a text where `room` bytes may still come
 unfoldable pub front : ℕ → List ℕ → Front
 front room [] = Stop Whole
 front room (a ∷ []) = Stop BadHex
-front room (a ∷ b ∷ rest) =
-    cond (ltb (valueOf a) 16 && ltb (valueOf b) 16)
-    (cond (eqb room 0) (Stop TooLong) (cond (parted rest) (Byte (valueOf a * 16 + valueOf b)) (Stop BadHex)))
-    (Stop BadHex)
+front room (a ∷ b ∷ rest) = pairOf (valueOf a) (valueOf b) room (parted rest)
 
 -- the bytes read, and how reading ended
 abbrev pub Bytes : Type 0

@@ -1,7 +1,7 @@
 // Bytes given as text: two hex digits each, in either case, parted by one space or newline.
 ghost use mathlib.Core.Path.{_≡_};
 ghost use lib.ListN.{drop};
-ghost use Rattle.text.specs.Hex.{valueOf, front, decodedOf};
+ghost use Rattle.text.specs.Hex.{valueOf, parted, pairOf, front, decodedOf};
 
 // How reading ended: with the text, at text that is none of this, or at a byte too many.
 pub enum Ending {
@@ -24,7 +24,8 @@ pub struct Decoded {
 fn value(c: u8) -> u8
     ensures { λ r. ⌜ r ≡ valueOf c ⌝ }
 {
-    let table = b"\x00\x01\x02\x03\x04\x05\x06\x07\x08\x09\x10\x10\x10\x10\x10\x10\x10\x0a\x0b\x0c\x0d\x0e\x0f\x10\x10\x10\x10\x10\x10\x10\x10\x10\x10\x10\x10\x10\x10\x10\x10\x10\x10\x10\x10\x10\x10\x10\x10\x10\x10\x0a\x0b\x0c\x0d\x0e\x0f";
+    let table =
+        b"\x00\x01\x02\x03\x04\x05\x06\x07\x08\x09\x10\x10\x10\x10\x10\x10\x10\x0a\x0b\x0c\x0d\x0e\x0f\x10\x10\x10\x10\x10\x10\x10\x10\x10\x10\x10\x10\x10\x10\x10\x10\x10\x10\x10\x10\x10\x10\x10\x10\x10\x10\x0a\x0b\x0c\x0d\x0e\x0f";
     if c < b'0' {
         return 16;
     }
@@ -34,6 +35,35 @@ fn value(c: u8) -> u8
     table[(c - b'0') as usize]
 }
 
+// Whether nothing stands at a place, or a separator.
+fn ends(text: &[u8], at: usize) -> bool
+    ensures { λ r. ⌜ r ≡ parted (drop at (now (text .entry))) ⌝ }
+{
+    if text.len() <= at {
+        return true;
+    }
+    let c = text[at];
+    c == b' ' || c == b'\n'
+}
+
+// The byte of two digits' values, or why there is none.
+fn pair(high: u8, low: u8, room: usize, ends: bool) -> Front
+    ensures { λ r. ⌜ r ≡ pairOf high low room ends ⌝ }
+{
+    if 15 < high || 15 < low {
+        return Front::Stop(Ending::BadHex);
+    }
+    if room == 0 {
+        return Front::Stop(Ending::TooLong);
+    }
+    if ends {
+        Front::Byte(high * 16 + low)
+    } else {
+        Front::Stop(Ending::BadHex)
+    }
+}
+
+// What stands at a place, where `room` bytes may still come.
 fn step(text: &[u8], at: usize, room: usize) -> Front
     ensures { λ r. ⌜ r ≡ front room (drop at (now (text .entry))) ⌝ }
 {
@@ -41,25 +71,14 @@ fn step(text: &[u8], at: usize, room: usize) -> Front
         return Front::Stop(Ending::Whole);
     }
     if text.len() - at == 1 {
-        return Front::Stop(Ending::BadHex);
-    }
-    let high = value(text[at]);
-    let low = value(text[at + 1]);
-    if 15 < high {
-        return Front::Stop(Ending::BadHex);
-    }
-    if 15 < low {
-        return Front::Stop(Ending::BadHex);
-    }
-    if room == 0 {
-        return Front::Stop(Ending::TooLong);
-    }
-    if text.len() - at == 2 {
-        return Front::Byte(high * 16 + low);
-    }
-    match text[at + 2] {
-        b' ' | b'\n' => Front::Byte(high * 16 + low),
-        _ => Front::Stop(Ending::BadHex),
+        Front::Stop(Ending::BadHex)
+    } else {
+        pair(
+            value(text[at]),
+            value(text[at + 1]),
+            room,
+            ends(text, at + 2),
+        )
     }
 }
 
