@@ -9,7 +9,7 @@ use native.Mathlib.Decide.{ℕ-discrete}
 use lib.Dec.{leb, leb→le, lit<, lit≤}
 use lib.ListN.{length, getD, length-append}
 use Rattle.answer.specs.Answer.{accepted, badBundle}
-use Rattle.bits.proofs.Check.{checked}
+use Rattle.table.proofs.Check.{checked}
 use Rattle.bits.proofs.Laws.{part-lt}
 use Rattle.bundle.specs.Bundle.{foundOf, cutOf, bundleOf, refusedOf, numberAt, tagOf}
 use Rattle.bundle.specs.Template.{unitsOf, reserved}

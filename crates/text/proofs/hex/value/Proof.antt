@@ -8,7 +8,7 @@ use lib.Dec.{ltb, eqb, eqb→eq}
 use lib.ListN.{getD, replicate}
 use borrow.Author.Needs.{needs}
 use borrow.Author.Tests.{lt-ltb, le-ltb}
-use Rattle.bits.proofs.Check.{checked}
+use Rattle.table.proofs.Check.{checked}
 use Rattle.text.specs.Hex.{valueOf}
 use Rattle.text.proofs.hex.value.Statement.{statement}
 use Rattle.text.proofs.hex.value.Tie as tie
