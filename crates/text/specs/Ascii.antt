@@ -1,10 +1,16 @@
--- A quoted text as bytes. Assumes nothing.
+-- Text as bytes. Assumes nothing.
 use Prim.Native.Nat.{ℕ}
 use Prim.Native.Char.{code}
 use Prim.Native.String.{String}
+use mathlib.Core.Bool.{Bool, _&&_}
 use mathlib.Core.List.{List, [], _∷_}
+use lib.Dec.{leb}
 
--- the codes of its characters, which are bytes where they are ASCII
+-- the codes of a quoted text's characters, which are bytes where they are ASCII
 abbrev pub ascii : String → List ℕ
 ascii String.[] = []
 ascii (String._∷_ c s) = code c ∷ ascii s
+
+-- a byte from `low` to `high`
+abbrev pub within : ℕ → ℕ → ℕ → Bool
+within low high c = leb low c && leb c high

@@ -1,18 +1,16 @@
 -- Bytes given as text: two hex digits each, parted by one space or newline. Assumes nothing.
 use Prim.Native.Nat.{ℕ, zero, suc, _+_, _-_, _*_}
-use mathlib.Core.Bool.{Bool, true, false, cond, _&&_, _||_}
+use mathlib.Core.Bool.{Bool, true, false, cond, _||_}
 use mathlib.Core.List.{List, [], _∷_}
-use lib.Dec.{leb, ltb, eqb}
+use lib.Dec.{ltb, eqb}
 use lib.ListN.{length, drop}
+use Rattle.text.specs.Ascii.{within}
 use Rattle.text.specs.declared.hex.Decoded.{Decoded}
 use Rattle.text.specs.declared.hex.Ending.{Ending}
 use Rattle.text.specs.declared.hex.Ending.the-variants.{Whole, BadHex, TooLong}
 use Rattle.text.specs.declared.hex.Front.{Front}
 use Rattle.text.specs.declared.hex.Front.the-variants.{Byte, Stop}
 use Rattle.text.specs.Put.{written}
-
-abbrev pub within : ℕ → ℕ → ℕ → Bool
-within low high c = leb low c && leb c high
 
 -- the value of a hex digit: `0` to `9`, `A` to `F`, `a` to `f`; 16 for any other byte
 unfoldable pub valueOf : ℕ → ℕ

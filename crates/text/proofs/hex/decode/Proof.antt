@@ -21,6 +21,13 @@ use Rattle.text.proofs.hex.decode.Tie as tie
 abbrev after : List ℕ → Bytes → Bytes
 after front rest = (front ++ rest .0, rest .1)
 
+-- what a turn that read the byte b makes of the bytes in place
+record Turn (text out₀ out : List ℕ) (at count b : ℕ) : Type 0 where
+  room : count < length out
+  left : at < length text
+  put : Put out₀ 0 (take (count + 1) (set out count b)) (set out count b) (count + 1)
+  read : after (take count out) (hexBytes (length out₀ - count) (drop at text)) ≡ after (take (count + 1) (set out count b)) (hexBytes (length out₀ - (count + 1)) (drop (at + 3) text))
+
 module _ (text out₀ out : List ℕ) (at count : ℕ) (p : Put out₀ 0 (take count out) out count) where
   room-is : length out₀ - count ≡ length out - count
   room-is = ap (λ (n : ℕ). n - count) (sym (put-length p))
@@ -34,25 +41,21 @@ module _ (text out₀ out : List ℕ) (at count : ℕ) (p : Put out₀ 0 (take c
       ∙ ap (λ (l : List ℕ). (l, e)) (append-nil (take count out)) in
       rw whole (λ i. (record { count = (p .place ∙ zero-add _) i; ending = e }, p .bytes i))
 
-  module _ (b : ℕ) (f : front (length out - count) (drop at text) ≡ Byte b) where
-    room-left : count < length out
-    room-left = omega (arith, byte-room (length out - count) (drop at text) f)
-
-    text-left : at < length text
-    text-left = omega (arith, simp length-drop at (byte-text (length out - count) (drop at text) f))
-
-    one-more : take (count + 1) (set out count b) ≡ take count out ++ (b ∷ [])
-    one-more = rw add-one (take-suc-set out count b room-left)
-
-    put-more : Put out₀ 0 (take (count + 1) (set out count b)) (set out count b) (count + 1)
-    put-more = rw one-more (put-then p (record { bytes = refl; place = refl }))
-
-    read-more : after (take count out) (hexBytes (length out₀ - count) (drop at text)) ≡ after (take (count + 1) (set out count b)) (hexBytes (length out₀ - (count + 1)) (drop (at + 3) text))
-    read-more =
-        let room = length out₀ - (count + 1) in
-        let e : length out - count ≡ suc room = omega (arith, room-left, put-length p) in
-        ap (after (take count out)) (ap (λ (n : ℕ). hexBytes n (drop at text)) (room-is ∙ e) ∙ read-byte room (drop at text) b (rw e at f))
-        ∙ rw (drop-drop 3 at text, one-more) (ap (λ (l : List ℕ). (l, hexBytes room (drop (at + 3) text) .1)) (sym (append-snoc (take count out) b _)))
+  turn : (b : ℕ) → front (length out - count) (drop at text) ≡ Byte b → Turn text out₀ out at count b
+  turn b f =
+      let room : count < length out = omega (arith, byte-room (length out - count) (drop at text) f) in
+      let left : at < length text = omega (arith, simp length-drop at (byte-text (length out - count) (drop at text) f)) in
+      let one-more : take (count + 1) (set out count b) ≡ take count out ++ (b ∷ []) = rw add-one (take-suc-set out count b room) in
+      let less = length out₀ - (count + 1) in
+      let e : length out - count ≡ suc less = omega (arith, put-length p) in
+      record {
+        room = room;
+        left = left;
+        put = rw one-more (put-then p (record { bytes = refl; place = refl }));
+        read =
+            ap (after (take count out)) (ap (λ (n : ℕ). hexBytes n (drop at text)) (room-is ∙ e) ∙ read-byte less (drop at text) b (rw e at f))
+            ∙ rw (drop-drop 3 at text, one-more) (ap (λ (l : List ℕ). (l, hexBytes less (drop (at + 3) text) .1)) (sym (append-snoc (take count out) b _)));
+      }
 
 abbrev Inv-loop : tie.InvT-loop
 Inv-loop text out₀ at₀ count₀ out at count =
@@ -66,11 +69,19 @@ abbrev μ-loop : tie.MeasureT-loop
 loop-holds : tie.Need-loop-holds Inv-loop μ-loop
 loop-holds c = (omega arith, record { bytes = refl; place = refl }, rw sub-zero)
 
--- what `step` read, and what follows for the bytes in place
 byte-read : (c : tie.After-known-told Inv-loop μ-loop) →
     let l = c .before .before .before .before .loop in
     front (length (l .out) - l .count) (drop (l .at) (c .before .before .before .before .before .before .before .args .text .now)) ≡ Byte (c .before .b .given .0 .0)
 byte-read c = cc
+
+turned : (c : tie.After-known-told Inv-loop μ-loop) →
+    let l = c .before .before .before .before .loop in
+    let a = c .before .before .before .before .before .before .before .args in
+    Turn (a .text .now) (a .out .now) (l .out) (l .at) (l .count) (c .before .b .given .0 .0)
+turned c =
+    let l = c .before .before .before .before .loop in
+    let a = c .before .before .before .before .before .before .before .args in
+    turn (a .text .now) (a .out .now) (l .out) (l .at) (l .count) (l .inv .1) _ (byte-read c)
 
 end-read : (c : tie.After-known-told2 Inv-loop μ-loop) →
     let l = c .before .before .before .before .loop in
@@ -87,34 +98,21 @@ enum-known-b : tie.Need-enum-known-b Inv-loop μ-loop
 enum-known-b c = search needs
 
 slice-write-out : tie.Need-slice-write-out Inv-loop μ-loop
-slice-write-out c =
-    let l = c .before .before .before .before .loop in
-    let a = c .before .before .before .before .before .before .before .args in
-    room-left (a .text .now) (a .out .now) (l .out) (l .at) (l .count) (l .inv .1) _ (byte-read c)
+slice-write-out c = turned c .room
 
 add-count : tie.Need-add-count Inv-loop μ-loop
-add-count c =
-    let l = c .before .before .before .before .loop in
-    let a = c .before .before .before .before .before .before .before .args in
-    omega (arith, room-left (a .text .now) (a .out .now) (l .out) (l .at) (l .count) (l .inv .1) _ (byte-read c), put-length (l .inv .1))
+add-count c = omega (arith, turned c .room, put-length (c .before .before .before .before .loop .inv .1))
 
 add-at : tie.Need-add-at Inv-loop μ-loop
-add-at c =
-    let l = c .before .before .before .before .loop in
-    let a = c .before .before .before .before .before .before .before .args in
-    omega (arith, text-left (a .text .now) (a .out .now) (l .out) (l .at) (l .count) (l .inv .1) _ (byte-read c))
+add-at c = omega (arith, turned c .left)
 
 loop-less : tie.Need-loop-less Inv-loop μ-loop
-loop-less c =
-    let l = c .before .before .before .before .loop in
-    let a = c .before .before .before .before .before .before .before .args in
-    omega (arith, text-left (a .text .now) (a .out .now) (l .out) (l .at) (l .count) (l .inv .1) _ (byte-read c))
+loop-less c = omega (arith, turned c .left)
 
 loop-again : tie.Need-loop-again Inv-loop μ-loop
 loop-again c =
     let l = c .before .before .before .before .loop in
-    let a = c .before .before .before .before .before .before .before .args in
-    (omega (arith, room-left (a .text .now) (a .out .now) (l .out) (l .at) (l .count) (l .inv .1) _ (byte-read c), put-length (l .inv .1)), put-more (a .text .now) (a .out .now) (l .out) (l .at) (l .count) (l .inv .1) _ (byte-read c), l .inv .2 ∙ read-more (a .text .now) (a .out .now) (l .out) (l .at) (l .count) (l .inv .1) _ (byte-read c))
+    (omega (arith, turned c .room, put-length (l .inv .1)), turned c .put, l .inv .2 ∙ turned c .read)
 
 enum-known-ending : tie.Need-enum-known-ending Inv-loop μ-loop
 enum-known-ending c = search needs
