@@ -16,14 +16,19 @@ use text::Ending;
 use text::Written;
 
 const MOST: usize = 65536;
+
+// So many characters of a text decide its listing: three for each byte, and two digits of one byte more
+// (the law `listing-enough`).
+pub const ENOUGH: usize = 3 * MOST + 2;
+
 // No listing is longer.
-const CAPACITY: usize = 221227;
+pub const CAPACITY: usize = 221227;
 
 // The listing of the bytes that a text gives in hex.
 pub fn listing(text: &[u8], out: &mut [u8]) -> Written
     ensures { λ r. ⌜ (r, now (out .exit)) ≡ wroteOf [] (listingOf (now (text .entry))) (now (out .entry)) ⌝ }
 {
-    let mut code = [0u8; 65536];
+    let mut code = [0u8; MOST];
     let decoded = text::decode(text, &mut code);
     let count = decoded.count;
     let ending = decoded.ending;

@@ -3,7 +3,7 @@ ghost use mathlib.Core.Path.{_≡_};
 ghost use lib.ListN.{drop};
 ghost use Rattle.text.specs.Hex.{valueOf, parted, pairOf, front, decodedOf};
 
-// How reading ended: with the text, at text that is none of this, or at a byte too many.
+// How reading ended: with the text, at other text, or at a byte too many.
 pub enum Ending {
     Whole,
     BadHex,
@@ -16,11 +16,13 @@ pub enum Front {
     Stop(Ending),
 }
 
+// How many bytes were read, and how reading ended.
 pub struct Decoded {
     pub count: usize,
     pub ending: Ending,
 }
 
+// A hex digit's value, and 16 for any other byte; the table goes from `0` to `f`.
 fn value(c: u8) -> u8
     ensures { λ r. ⌜ r ≡ valueOf c ⌝ }
 {

@@ -15,6 +15,7 @@ pub enum Grown {
     Refuse,
 }
 
+// The decimal that stands at a place.
 pub fn read_decimal(text: &[u8], at: usize) -> Number
     ensures { λ r. ⌜ r ≡ numberOf (now (text .entry)) at ⌝ }
 {
@@ -33,6 +34,7 @@ pub fn read_decimal(text: &[u8], at: usize) -> Number
     ended(at, n, next)
 }
 
+// The number with the digit `c` after it; `begun` says whether it has a digit yet.
 fn grow(c: u8, n: u64, begun: bool) -> Grown
     ensures { λ r. ⌜ r ≡ grownOf c n begun ⌝ }
 {
@@ -54,6 +56,7 @@ fn grow(c: u8, n: u64, begun: bool) -> Grown
     }
 }
 
+// The number whose digits stand from `start` to `next`.
 fn ended(start: usize, n: u64, next: usize) -> Number
     ensures { λ r. ⌜ r ≡ endedOf start n next ⌝ }
 {

@@ -1,4 +1,4 @@
-// Writing at a running place.
+// Writing at a running place: bytes, a text, a number in decimal.
 ghost use Prim.Native.Nat.{_+_, _<_, _^_};
 ghost use mathlib.Core.List.{[], _∷_, _++_};
 ghost use lib.ListN.{length};

@@ -12,6 +12,7 @@ pub struct Written {
     pub length: usize,
 }
 
+// Writes the text at the output's start.
 pub fn put_whole(out: &mut [u8], text: &[u8]) -> Written
     ensures { λ r. ⌜ (r, now (out .exit)) ≡ wroteOf [] (now (text .entry)) (now (out .entry)) ⌝ }
 {
