@@ -9,7 +9,7 @@ use Rattle.bundle.specs.Bundle.{cutOf}
 use Rattle.bundle.specs.declared.Bundle.{Bundle}
 use Rattle.text.specs.Ascii.{ascii}
 use Rattle.text.specs.Decimal.{decimal}
-use Rattle.text.specs.Hex.{Bytes, hexBytes}
+use Rattle.text.specs.Hex.{hexBytes}
 use Rattle.text.specs.declared.hex.Ending.{Ending}
 use Rattle.text.specs.declared.hex.Ending.the-variants.{Whole, BadHex, TooLong}
 

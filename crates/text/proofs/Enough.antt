@@ -1,12 +1,11 @@
 -- A text of hex bytes is decided by its first characters: three for each byte that there is room for, and two more.
 -- By induction on the room. Assumes nothing.
-use mathlib.Core.Path.{_≡_, refl, sym, ap, _∙_}
+use mathlib.Core.Path.{_≡_, refl, sym}
 use mathlib.Core.List.{List, [], _∷_}
 use Prim.Native.Nat.{ℕ, zero, suc, _+_, _*_}
-use native.Mathlib.Numerals.{add-one}
 use native.Mathlib.Omega.{arith}
 use lib.ListN.{take, drop}
-use lib.Seq.{take-nil, drop-nil}
+use lib.Seq.{take-nil}
 use Rattle.text.specs.Hex.{front, parted, pairOf, hexBytes}
 
 front-two : (t : List ℕ) → front 0 (take 2 t) ≡ front 0 t

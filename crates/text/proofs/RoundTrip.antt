@@ -2,7 +2,7 @@
 -- the highest on: `worth n ds` is the number n followed by the digits ds, whose text is that of n and then ds. Assumes nothing.
 use mathlib.Core.Path.{_≡_, refl, sym, ap, _∙_}
 use mathlib.Core.Bool.{true}
-use mathlib.Core.List.{List, [], _∷_, _++_, append-assoc, append-nil}
+use mathlib.Core.List.{List, [], _∷_, _++_, append-nil}
 use mathlib.Core.Logic.{_⊎_, inl, inr}
 use Prim.Native.Nat.{ℕ, zero, suc, _+_, _-_, _*_, _/_, _%_, _^_, _≤_, _<_}
 use native.Mathlib.Nat.{add-suc, suc-add, add-zero}
@@ -14,10 +14,9 @@ use lib.ListN.{length, drop}
 use lib.Seq.{append-snoc, drop-drop, drop-at}
 use borrow.Author.Tests.{lt-ltb, le-ltb}
 use Rattle.text.specs.Decimal.{decimal}
-use Rattle.text.specs.declared.number.Grown.the-variants.{Digit, Stop, Refuse}
-use Rattle.text.specs.declared.number.Number.{Number}
+use Rattle.text.specs.declared.number.Grown.the-variants.{Digit}
 use Rattle.text.specs.declared.number.Number.the-variants.{Read, Refused}
-use Rattle.text.specs.Number.{grownOf, endedOf, onward, readOn, numberOf}
+use Rattle.text.specs.Number.{grownOf, readOn, numberOf}
 use Rattle.text.proofs.Numerals.{decimal-one, decimal-more}
 use Rattle.text.proofs.Reading.{grown-stop, grown-long, grown-zero, grown-digit}
 

@@ -1,11 +1,10 @@
 -- Two texts written one after the other are one text written; a text that has room is found where it was written.
 -- Both by induction on the text, a byte at a time. Assumes nothing.
-use mathlib.Core.Path.{_≡_, refl, sym, ap, _∙_}
-use mathlib.Core.List.{List, [], _∷_, _++_, append-assoc}
+use mathlib.Core.Path.{_≡_, ap, _∙_}
+use mathlib.Core.List.{List, [], _∷_, _++_}
 use Prim.Native.Nat.{ℕ, suc, _+_, _≤_}
 use native.Mathlib.Nat.{add-zero, add-suc, suc-add, add-assoc, zero-add}
-use native.Mathlib.Omega.{arith}
-use lib.ListN.{length, take, drop, length-append}
+use lib.ListN.{length, drop, length-append}
 use lib.Seq.{append-snoc, sets-eq, length-sets}
 use Rattle.text.specs.Put.{written, Put}
 

@@ -3,7 +3,7 @@ use mathlib.Core.Path.{refl, sym, _∙_}
 use borrow.Author.Tests.{leb-true, leb-false, eqb-false}
 use Rattle.answer.specs.Answer.{accepted, tooLong}
 use Rattle.text.proofs.Wholes.{whole-refused, whole-no-room, whole-put}
-use Rattle.lister.specs.Listing.{listOf, listRefusals}
+use Rattle.lister.specs.Listing.{listRefusals}
 use Rattle.lister.proofs.Listings.{short-listed, long-refused}
 use borrow.Author.Needs.{needs}
 use Rattle.lister.proofs.list.Statement.{statement}

@@ -1,17 +1,16 @@
 -- `lister::listing` meets its contract: the listing of the bytes that were read, or the line of the fault. Assumes nothing.
-use mathlib.Core.Path.{_≡_, refl, sym, ap, _∙_}
-use mathlib.Core.List.{List, [], _∷_}
+use mathlib.Core.Path.{_≡_, sym, ap, _∙_}
+use mathlib.Core.List.{List, []}
 use Prim.Native.Nat.{ℕ, _≤_}
 use native.Mathlib.Omega.{arith}
 use lib.ListN.{length, take, replicate, length-replicate}
 use lib.Seq.{length-take-le}
 use Rattle.text.specs.Hex.{hexBytes, decodedOf}
-use Rattle.text.specs.declared.hex.Decoded.{Decoded}
 use Rattle.text.specs.declared.hex.Ending.the-variants.{Whole, BadHex, TooLong}
 use Rattle.text.specs.Whole.{wroteOf}
 use Rattle.text.proofs.Fronts.{decoded-ending, decoded-room, decoded-bytes}
 use Rattle.text.proofs.Wholes.{whole-passed}
-use Rattle.lister.specs.Listing.{listOf, listRefusals, listed, listingOf}
+use Rattle.lister.specs.Listing.{listOf, listRefusals, listingOf}
 use Rattle.lister.proofs.Listings.{short-listed, listing-is}
 use borrow.Author.Needs.{needs}
 use Rattle.lister.proofs.listing.Statement.{statement}

@@ -1,16 +1,14 @@
 -- `lister::write` meets its contract: the header, the lines and the rest, one after the other. The loop's invariant: the lines of
 -- the first `n` bundles are written. Assumes nothing.
-use mathlib.Core.Path.{_≡_, refl, sym, ap, _∙_}
-use mathlib.Core.List.{List, _++_}
-use Prim.Native.Nat.{ℕ, _+_, _-_, _*_, _/_, _%_, _≤_, _<_}
+use mathlib.Core.Path.{_≡_, refl, sym}
+use Prim.Native.Nat.{_-_, _/_, _%_, _≤_}
 use native.Mathlib.Nat.{le-antisymm, add-zero}
 use native.Mathlib.Omega.{arith}
 use borrow.Author.Needs.{needs}
 use lib.ListN.{length}
-use Rattle.bundle.specs.Bundle.{cutOf}
 use Rattle.text.specs.Put.{Put}
 use Rattle.text.proofs.Writing.{put-then, put-length}
-use Rattle.lister.specs.Listing.{linesOf, lineOf, restOf, listOf}
+use Rattle.lister.specs.Listing.{linesOf, listOf}
 use Rattle.lister.proofs.Lengths.{line-most, lines-most, rest-most}
 use Rattle.lister.proofs.Lines.{lines-more}
 use Rattle.lister.proofs.write.Statement.{statement}

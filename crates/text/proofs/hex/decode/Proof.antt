@@ -1,7 +1,7 @@
 -- `text::hex::decode` meets its contract. The loop's invariant: the bytes that the text gives are those in place already,
 -- then those that the text from `at` on gives in the room that is left. Assumes nothing.
 use mathlib.Core.Path.{_≡_, refl, sym, ap, _∙_}
-use mathlib.Core.List.{List, [], _∷_, _++_, append-assoc, append-nil}
+use mathlib.Core.List.{List, [], _∷_, _++_, append-nil}
 use Prim.Native.Nat.{ℕ, suc, _+_, _-_, _≤_, _<_}
 use native.Mathlib.Nat.{sub-zero, zero-add}
 use native.Mathlib.Omega.{arith}
@@ -11,7 +11,7 @@ use lib.ListN.{length, take, drop, set, length-drop}
 use lib.Seq.{take-suc-set, append-snoc, drop-drop}
 use Rattle.text.specs.declared.hex.Ending.{Ending}
 use Rattle.text.specs.declared.hex.Front.the-variants.{Byte, Stop}
-use Rattle.text.specs.Hex.{Bytes, front, goOn, hexBytes, decodedOf}
+use Rattle.text.specs.Hex.{Bytes, front, hexBytes, decodedOf}
 use Rattle.text.specs.Put.{Put}
 use Rattle.text.proofs.Fronts.{byte-room, byte-text, read-stop, read-byte}
 use Rattle.text.proofs.Writing.{put-then, put-length}

@@ -1,5 +1,4 @@
 -- `text::hex::ends` meets its contract: nothing left, or the byte that stands there. Assumes nothing.
-use mathlib.Core.Path.{sym}
 use lib.ListN.{drop-of-length-le}
 use lib.Seq.{drop-cons}
 use borrow.Author.Tests.{eq-eqb, ne-eqb}

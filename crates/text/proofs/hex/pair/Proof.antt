@@ -1,7 +1,7 @@
 -- `text::hex::pair` meets its contract: each return has the tests that led there. Assumes nothing.
 use mathlib.Core.Logic.{⊎-elim}
 use native.Mathlib.Omega.{arith}
-use borrow.Author.Tests.{lt-ltb, le-ltb, ltb-false, eq-eqb, ne-eqb}
+use borrow.Author.Tests.{lt-ltb, le-ltb, ltb-false, ne-eqb}
 use Rattle.text.specs.Hex.{pairOf}
 use borrow.Author.Needs.{needs}
 use Rattle.text.proofs.hex.pair.Statement.{statement}

@@ -1,15 +1,12 @@
 -- `text::number::read_decimal` meets its contract. The loop's invariant: reading on from `next` with `n` comes to what reading from
 -- `at` does. Assumes nothing.
-use mathlib.Core.Path.{_≡_, refl, sym, ap, _∙_}
-use mathlib.Core.List.{List, [], _∷_}
-use Prim.Native.Nat.{ℕ, suc, _+_, _-_, _≤_, _<_}
-use native.Mathlib.Numerals.{add-one}
+use mathlib.Core.Path.{_≡_, refl, sym, _∙_}
+use Prim.Native.Nat.{_-_}
 use native.Mathlib.Omega.{arith}
-use lib.Dec.{ltb}
-use lib.ListN.{length, getD, drop}
+use lib.ListN.{length, drop}
 use borrow.Author.Needs.{needs}
-use Rattle.text.specs.declared.number.Grown.the-variants.{Digit, Stop, Refuse}
-use Rattle.text.specs.Number.{grownOf, endedOf, readOn, numberOf}
+use Rattle.text.specs.declared.number.Grown.the-variants.{Stop, Refuse}
+use Rattle.text.specs.Number.{readOn, numberOf}
 use Rattle.text.proofs.Reading.{read-end, read-grown}
 use Rattle.text.proofs.number.read_decimal.Statement.{statement}
 use Rattle.text.proofs.number.read_decimal.Tie as tie
