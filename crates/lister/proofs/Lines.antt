@@ -9,9 +9,9 @@ use borrow.Author.Tests.{eq-eqb, ne-eqb}
 use Rattle.answer.specs.Answer.{badBundle}
 use Rattle.bundle.specs.Bundle.{cutOf}
 use Rattle.bundle.specs.declared.Bundle.{Bundle}
-use Rattle.text.specs.Ascii.{ascii}
+use Rattle.text.specs.Ascii.{ascii, row}
 use Rattle.text.specs.Decimal.{decimal}
-use Rattle.lister.specs.Listing.{row, endOf, lineOf, linesOf, restOf}
+use Rattle.lister.specs.Listing.{endOf, lineOf, linesOf, restOf}
 
 -- the end of a line that shows units and slots
 abbrev pub shown : Bundle → List ℕ

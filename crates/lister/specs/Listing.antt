@@ -7,18 +7,13 @@ use lib.ListN.{length, getD}
 use Rattle.answer.specs.Answer.{Refusal, badBundle, tooLong}
 use Rattle.bundle.specs.Bundle.{cutOf}
 use Rattle.bundle.specs.declared.Bundle.{Bundle}
-use Rattle.text.specs.Ascii.{ascii}
+use Rattle.text.specs.Ascii.{ascii, row}
 use Rattle.text.specs.Decimal.{decimal}
 use Rattle.text.specs.Hex.{hexBytes}
 use Rattle.text.specs.declared.hex.Ending.{Ending}
 use Rattle.text.specs.declared.hex.Ending.the-variants.{Whole, BadHex, TooLong}
 
--- fields parted by tabs and ended by one newline
-abbrev pub row : List (List ℕ) → List ℕ
-row [] = 10 ∷ []
-row (f ∷ []) = f ++ (10 ∷ [])
-row (f ∷ g ∷ fs) = f ++ (9 ∷ row (g ∷ fs))
-
+-- the first line
 abbrev pub header : List ℕ
 header = row (ascii "bundle" ∷ ascii "tag" ∷ ascii "units" ∷ ascii "slot0" ∷ ascii "slot1" ∷ ascii "slot2" ∷ [])
 

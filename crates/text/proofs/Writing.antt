@@ -4,7 +4,7 @@ use mathlib.Core.Path.{_≡_, ap, _∙_}
 use mathlib.Core.List.{List, [], _∷_, _++_}
 use Prim.Native.Nat.{ℕ, suc, _+_, _≤_}
 use native.Mathlib.Nat.{add-zero, add-suc, suc-add, add-assoc, zero-add}
-use lib.ListN.{length, drop, length-append}
+use lib.ListN.{length, take, drop, length-append}
 use lib.Seq.{append-snoc, sets-eq, length-sets}
 use Rattle.text.specs.Put.{written, Put}
 
@@ -15,10 +15,13 @@ written-append out at (x ∷ a) b = rw (add-suc, ← suc-add) (written-append _ 
 pub written-length : (out : List ℕ) (at : ℕ) (text : List ℕ) → length (written out at text) ≡ length out
 written-length out at text = length-sets out at text
 
--- with room, from the start: the text, then what stood past it
+-- with room: what stood before it, the text, and what stood past it
+pub written-is : (out : List ℕ) (at : ℕ) (text : List ℕ) → at + length text ≤ length out → written out at text ≡ take at out ++ text ++ drop (at + length text) out
+written-is out at text h = sets-eq text out at h
+
 pub written-start : (out text : List ℕ) → length text ≤ length out → written out 0 text ≡ text ++ drop (length text) out
 written-start out text h =
-    sets-eq text out 0 (rw zero-add h) ∙ ap (λ (n : ℕ). text ++ drop n out) (zero-add (length text))
+    written-is out 0 text (rw zero-add h) ∙ ap (λ (n : ℕ). text ++ drop n out) (zero-add (length text))
 
 pub put-then : {out out′ out″ : List ℕ} {at next next′ : ℕ} {a b : List ℕ} → Put out at a out′ next → Put out′ next b out″ next′ → Put out at (a ++ b) out″ next′
 put-then {out} {at = at} {next} {a = a} {b} p q =

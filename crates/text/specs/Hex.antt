@@ -36,6 +36,7 @@ front room (a ∷ b ∷ rest) = pairOf (valueOf a) (valueOf b) room (parted rest
 abbrev pub Bytes : Type 0
 Bytes = List ℕ × Ending
 
+-- a byte and those after it, or the end
 abbrev pub goOn : Front → Bytes → Bytes
 goOn (Byte b) rest = (b ∷ rest .0, rest .1)
 goOn (Stop e) rest = ([], e)
@@ -49,5 +50,6 @@ hexBytes (suc room) text = goOn (front (suc room) text) (hexBytes room (drop 3 t
 abbrev pub decodedAs : Bytes → List ℕ → Decoded × List ℕ
 decodedAs bytes out = (record { count = length (bytes .0); ending = bytes .1 }, written out 0 (bytes .0))
 
+-- the same of a text, where `out` is the room
 unfoldable pub decodedOf : List ℕ → List ℕ → Decoded × List ℕ
 decodedOf text out = decodedAs (hexBytes (length out) text) out

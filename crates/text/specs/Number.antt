@@ -11,8 +11,8 @@ use Rattle.text.specs.declared.number.Grown.the-variants.{Digit, Stop, R
 use Rattle.text.specs.declared.number.Number.{Number}
 use Rattle.text.specs.declared.number.Number.the-variants.{Read, Refused}
 
--- what the byte c makes of n, the number of the digits before it, which `begun` says whether there are any: no digit ends
--- it; a number of 2 ^ 64 or more, and a digit after a leading zero, are none
+-- what the byte c makes of n, the number of the digits before it (`begun`: there are some): no digit ends the number; one of
+-- 2 ^ 64 or more, or with a digit after a leading zero, is refused
 unfoldable pub grownOf : ℕ → ℕ → Bool → Grown
 grownOf c n begun =
     cond (within 48 57 c) (cond (leb (2 ^ 64) (n * 10 + (c - 48)) || (begun && eqb n 0)) Refuse (Digit (n * 10 + (c - 48)))) Stop
@@ -21,6 +21,7 @@ grownOf c n begun =
 abbrev pub endedOf : ℕ → ℕ → ℕ → Number
 endedOf start n next = cond (ltb start next) (Read n next) Refused
 
+-- more digits, the end, or no number
 abbrev pub onward : Grown → (ℕ → Number) → Number → Number
 onward (Digit m) more ended = more m
 onward Stop more ended = ended
