@@ -1,0 +1,95 @@
+-- How long a listing can be: a number below 10 ^ k has at most k digits, so a bundle's line has at most 54 bytes, and a code
+-- of at most 65,536 bytes has at most 4,096 of them. Assumes nothing.
+use mathlib.Core.Path.{_≡_, refl}
+use mathlib.Core.Bool.{Bool, true, false}
+use mathlib.Core.List.{List, _++_}
+use Prim.Native.Nat.{ℕ, zero, suc, _*_, _/_, _%_, _^_, _≤_, _<_}
+use native.Mathlib.Omega.{arith}
+use native.Mathlib.Decide.{ℕ-discrete}
+use lib.Dec.{leb, leb→le, lit<, lit≤}
+use lib.ListN.{length, getD, length-append}
+use Rattle.answer.specs.Answer.{accepted, badBundle}
+use Rattle.table.proofs.Check.{checked}
+use Rattle.bits.proofs.Laws.{part-lt}
+use Rattle.bundle.specs.Bundle.{foundOf, cutOf, bundleOf, refusedOf, numberAt, tagOf}
+use Rattle.bundle.specs.Template.{unitsOf, reserved}
+use Rattle.bundle.proofs.Laws.{cut-not-found, cut-reserved, cut-done}
+use Rattle.bundle.specs.declared.Bundle.{Bundle}
+use Rattle.text.specs.Decimal.{decimal}
+use Rattle.text.proofs.Numerals.{decimal-length}
+use Rattle.lister.specs.Listing.{header, endOf, lineOf, linesOf, restOf, listOf}
+use Rattle.lister.proofs.Lines.{end-reserved, end-shown, shown-length, line-length, rest-length}
+
+record Small (b : Bundle) : Type 0 where
+  tag : b .tag < 2 ^ 5
+  units : length (b .units) ≤ 3
+  slot0 : getD (b .slots) 0 0 < 2 ^ 41
+  slot1 : getD (b .slots) 1 0 < 2 ^ 41
+  slot2 : getD (b .slots) 2 0 < 2 ^ 41
+
+units-three : (tag : ℕ) → tag < 2 ^ 5 → length (unitsOf tag) ≤ 3
+unfolding unitsOf
+units-three tag h = leb→le _ 3 (checked (λ t. leb (length (unitsOf t)) 3) 32 tt tag h)
+
+bundle-small : (n : ℕ) → Small (bundleOf n)
+bundle-small n =
+    record {
+      tag = part-lt n 0 5;
+      units = units-three (tagOf n) (part-lt n 0 5);
+      slot0 = part-lt n 5 41;
+      slot1 = part-lt n 46 41;
+      slot2 = part-lt n 87 41;
+    }
+
+refused-small : (answer tag : ℕ) → tag < 2 ^ 5 → Small (refusedOf answer tag)
+refused-small answer tag h = record { tag = h; units = lit≤ tt; slot0 = lit< tt; slot1 = lit< tt; slot2 = lit< tt }
+
+by-test : {P : Type 0} (t : Bool) → (t ≡ true → P) → (t ≡ false → P) → P
+by-test true f g = f refl
+by-test false f g = g refl
+
+cut-small : (code : List ℕ) (k : ℕ) → Small (cutOf code k)
+cut-small code k =
+    let tag = tagOf (numberAt code k) in
+    elim (ℕ-discrete (foundOf code k) accepted) [
+      | yes f ↦
+          by-test (reserved tag) (λ r. rw (cut-reserved code k f r) (refused-small badBundle tag (part-lt (numberAt code k) 0 5)))
+          (λ r. rw (cut-done code k f r) (bundle-small (numberAt code k)))
+      | no d ↦ rw (cut-not-found code k d) (refused-small (foundOf code k) 0 (lit< tt))
+    ]
+
+digits13 : (n : ℕ) → n < 2 ^ 41 → length (decimal n) ≤ 13
+digits13 n h = decimal-length 12 n (omega arith)
+
+end-most : (b : Bundle) → Small b → length (endOf b) ≤ 46
+end-most b s =
+    elim (ℕ-discrete (b .answer) badBundle) [
+      | yes e ↦ rw (end-reserved b e) (lit≤ tt)
+      | no d ↦
+          rw (end-shown b d, shown-length b)
+          (omega (arith, s .units, digits13 (getD (b .slots) 0 0) (s .slot0), digits13 (getD (b .slots) 1 0) (s .slot1), digits13 (getD (b .slots) 2 0) (s .slot2)))
+    ]
+
+pub line-most : (code : List ℕ) (n : ℕ) → n < 4096 → length (lineOf n (cutOf code n)) ≤ 54
+line-most code n h =
+    let s = cut-small code n in
+    rw (line-length n (cutOf code n))
+    (omega (arith, decimal-length 3 n (omega arith), decimal-length 1 (cutOf code n .tag) (omega (arith, s .tag)), end-most (cutOf code n) s))
+
+pub lines-most : (code : List ℕ) (n : ℕ) → n ≤ 4096 → length (linesOf code n) ≤ 54 * n
+unfolding linesOf
+lines-most code zero h = lit≤ tt
+lines-most code (suc n) h =
+    rw (length-append (linesOf code n) (lineOf n (cutOf code n)))
+    (omega (arith, lines-most code n (omega arith), line-most code n (omega arith)))
+
+pub rest-most : (k : ℕ) → k < 16 → length (restOf k) ≤ 8
+unfolding restOf
+rest-most zero h = lit≤ tt
+rest-most (suc k) h = rw (rest-length (suc k) (omega arith)) (omega (arith, decimal-length 1 (suc k) (omega arith)))
+
+pub list-most : (code : List ℕ) → length code ≤ 65536 → length (listOf code) ≤ 221227
+unfolding listOf
+list-most code h =
+    rw (length-append header (linesOf code (length code / 16) ++ restOf (length code % 16)), length-append (linesOf code (length code / 16)) (restOf (length code % 16)))
+    (omega (arith, lines-most code (length code / 16) (omega arith), rest-most (length code % 16) (omega arith)))

@@ -1,0 +1,28 @@
+-- `lister::fits` meets its contract: no listing is longer than the capacity, and what writing to an output with no room answers is the
+-- length. Assumes nothing.
+use mathlib.Core.Path.{sym, ap, _∙_}
+use Prim.Native.Nat.{ℕ}
+use native.Mathlib.Nat.{le-trans, zero-add}
+use lib.Dec.{leb}
+use borrow.Author.Tests.{le-leb}
+use Rattle.lister.proofs.Lengths.{list-most}
+use borrow.Author.Needs.{needs}
+use Rattle.lister.proofs.fits.Statement.{statement}
+use Rattle.lister.proofs.fits.Tie as tie
+
+returns : tie.Need-returns
+returns c =
+    let a = c .before .before .args in
+    sym (le-leb _ (a .room) (le-trans (list-most (a .code .now) (c .before .before .pre)) (c .if1 .taken)))
+
+slice-aggregate-write : tie.Need-slice-aggregate-write
+slice-aggregate-write c = search needs
+
+write-requires : tie.Need-write-requires
+write-requires c κs = search needs
+
+returns-2 : tie.Need-returns-2
+returns-2 c = ap (λ (n : ℕ). leb n (c .before .before .before .before .before .args .room)) (c .before .write .ensures .place ∙ zero-add _)
+
+pub fits-spec : {M : Type 1} → statement M
+fits-spec = tie.close (tie.spec returns slice-aggregate-write write-requires returns-2)

@@ -1,0 +1,56 @@
+-- The listing of document 01: a header, a line for each bundle, and how many bytes are left over. Assumes nothing.
+use Prim.Native.Nat.{ℕ, zero, suc, _/_, _%_}
+use mathlib.Core.Bool.{cond}
+use mathlib.Core.List.{List, [], _∷_, _++_}
+use lib.Dec.{eqb, ltb}
+use lib.ListN.{length, getD}
+use Rattle.answer.specs.Answer.{Refusal, badBundle, tooLong}
+use Rattle.bundle.specs.Bundle.{cutOf}
+use Rattle.bundle.specs.declared.Bundle.{Bundle}
+use Rattle.text.specs.Ascii.{ascii, row}
+use Rattle.text.specs.Decimal.{decimal}
+use Rattle.text.specs.Hex.{hexBytes}
+use Rattle.text.specs.declared.hex.Ending.{Ending}
+use Rattle.text.specs.declared.hex.Ending.the-variants.{Whole, BadHex, TooLong}
+
+-- the first line
+abbrev pub header : List ℕ
+header = row (ascii "bundle" ∷ ascii "tag" ∷ ascii "units" ∷ ascii "slot0" ∷ ascii "slot1" ∷ ascii "slot2" ∷ [])
+
+-- the end of a bundle's line, after its number and its tag
+unfoldable pub endOf : Bundle → List ℕ
+endOf b =
+    cond (eqb (b .answer) badBundle) (row (ascii "reserved" ∷ []))
+    (row (b .units ∷ decimal (getD (b .slots) 0 0) ∷ decimal (getD (b .slots) 1 0) ∷ decimal (getD (b .slots) 2 0) ∷ []))
+
+-- the line of bundle n
+unfoldable pub lineOf : ℕ → Bundle → List ℕ
+lineOf n b = decimal n ++ (9 ∷ (decimal (b .tag) ++ (9 ∷ endOf b)))
+
+-- the lines of the first n bundles of a code
+unfoldable pub linesOf : List ℕ → ℕ → List ℕ
+linesOf code zero = []
+linesOf code (suc n) = linesOf code n ++ lineOf n (cutOf code n)
+
+-- the line of the bytes left over, where there are any
+unfoldable pub restOf : ℕ → List ℕ
+restOf zero = []
+restOf (suc k) = row (ascii "rest" ∷ decimal (suc k) ∷ [])
+
+-- the listing of a code
+unfoldable pub listOf : List ℕ → List ℕ
+listOf code = header ++ (linesOf code (length code / 16) ++ restOf (length code % 16))
+
+-- which code isn't listed
+abbrev pub listRefusals : List ℕ → List Refusal
+listRefusals code = (tooLong, ltb 65536 (length code)) ∷ []
+
+-- the listing of the bytes that a text gives, or the one line of its fault
+abbrev pub listed : List ℕ → Ending → List ℕ
+listed code Whole = listOf code
+listed code BadHex = row (ascii "badhex" ∷ [])
+listed code TooLong = row (ascii "toolong" ∷ [])
+
+-- the listing of a text
+unfoldable pub listingOf : List ℕ → List ℕ
+listingOf text = listed (hexBytes 65536 text .0) (hexBytes 65536 text .1)

@@ -1,0 +1,7 @@
+pub mod Enough
+pub mod Fronts
+pub mod Numerals
+pub mod Reading
+pub mod RoundTrip
+pub mod Wholes
+pub mod Writing

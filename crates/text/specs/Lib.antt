@@ -1,0 +1,6 @@
+pub mod Ascii
+pub mod Decimal
+pub mod Hex
+pub mod Number
+pub mod Put
+pub mod Whole

@@ -1,0 +1,15 @@
+-- Bytes written into an output at a place. Assumes nothing.
+use Prim.Native.Nat.{ℕ, _+_}
+use mathlib.Core.Path.{_≡_}
+use mathlib.Core.List.{List}
+use lib.ListN.{length}
+use lib.Seq.{sets}
+
+-- `out` with the bytes of `text` from place `at` on; a byte for which there is no place is lost
+abbrev pub written : List ℕ → ℕ → List ℕ → List ℕ
+written out at text = sets out at text
+
+-- `text` was written into `before` at `at`, which gives `after` and the place `next` after it
+pub record Put (before : List ℕ) (at : ℕ) (text after : List ℕ) (next : ℕ) : Type 0 where
+  pub bytes : after ≡ written before at text
+  pub place : next ≡ at + length text
