@@ -1,1 +1,4 @@
 pub mod Laws
+pub mod Rewritten
+pub mod Run
+pub mod Standing
