@@ -12,13 +12,13 @@ use lib.IntN.{ℤ, pos, negsuc}
 use Rattle.operand.specs.Kind.{ofI64, ofU64}
 use Rattle.operand.specs.declared.Operand.{Operand}
 use Rattle.operand.specs.declared.Operand.the-variants.{ImmI64, ImmU64}
+use Rattle.operand.proofs.Kind.{i64-or-not, u64-or-not}
 use Rattle.immediate.specs.Meaning.{SignedFits, Fitting, signedOf, valueOf, rawUp, rawDown, rawSigned, rawUnsigned, rawOf}
 use Rattle.immediate.specs.Immediate.{means}
 use Rattle.immediate.specs.declared.row.Meaning.{Meaning}
 use Rattle.immediate.specs.declared.row.Meaning.the-variants.{None as NoMeaning, Unsigned, Signed}
 use Rattle.immediate.specs.declared.meaning.Raw.{Raw}
 use Rattle.immediate.specs.declared.meaning.Raw.the-variants.{Is, Bad}
-use Rattle.immediate.proofs.Kind.{i64-or-not, u64-or-not}
 use Rattle.immediate.proofs.Units.{half, whole-units}
 
 -- what has a raw number passed the test
