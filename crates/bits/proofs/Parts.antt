@@ -6,7 +6,7 @@ use mathlib.Core.Logic.{_⊎_, inl, inr, ⊎-elim}
 use Prim.Native.Nat.{ℕ, _+_, _/_, _%_, _≤_, _<_, _^_}
 use native.Mathlib.Nat.{mod-one, add-comm, mul-comm}
 use native.Mathlib.Omega.{arith}
-use lib.Dec.{T, leb, leb→le, lit<}
+use lib.Dec.{T, leb, leb→le, le→leb, lit<}
 use lib.Pow.{mod-pow-add}
 use mir.Facts.{and-yes, or-yes}
 use Rattle.bits.specs.Part.{part, above, put, bit}
@@ -25,9 +25,23 @@ scatter-lt m n (p ∷ ps) v t h =
     let s = and-yes (leb (p .0 + p .1) m) (within m ps) t in
     scatter-lt m _ ps _ (s .1) (put-lt n (p .0) (p .1) v m (leb→le _ _ (s .0)) h)
 
--- writes into parts apart
+-- parts apart: one ends where the other begins or before, and so do those that lie within them
 apart-sides : (p q : ℕ × ℕ) → T (apart p q) → (p .0 + p .1 ≤ q .0) ⊎ (q .0 + q .1 ≤ p .0)
 apart-sides p q t = ⊎-elim (λ h. inl (leb→le _ _ h)) (λ h. inr (leb→le _ _ h)) (or-yes (leb (p .0 + p .1) (q .0)) (leb (q .0 + q .1) (p .0)) t)
+
+yes-or : (a b : Bool) → T a ⊎ T b → T (a || b)
+yes-or true b t = tt
+yes-or false b (inl t) = absurd t
+yes-or false b (inr t) = t
+
+pub sides-apart : (p q : ℕ × ℕ) → (p .0 + p .1 ≤ q .0) ⊎ (q .0 + q .1 ≤ p .0) → T (apart p q)
+sides-apart p q h =
+    yes-or (leb (p .0 + p .1) (q .0)) (leb (q .0 + q .1) (p .0)) (⊎-elim (λ l. inl (le→leb _ _ l)) (λ l. inr (le→leb _ _ l)) h)
+
+pub apart-within : (p q r s : ℕ × ℕ) → T (apart r s) → r .0 ≤ p .0 → p .0 + p .1 ≤ r .0 + r .1 → s .0 ≤ q .0 → q .0 + q .1 ≤ s .0 + s .1 → T (apart p q)
+apart-within p q r s t a b c d = sides-apart p q (⊎-elim (λ h. inl (omega arith)) (λ h. inr (omega arith)) (apart-sides r s t))
+
+-- writes into parts apart
 
 part-apart : (n : ℕ) (p q : ℕ × ℕ) (v : ℕ) → T (apart q p) → part (put n (p .0) (p .1) v) (q .0) (q .1) ≡ part n (q .0) (q .1)
 part-apart n p q v t = ⊎-elim (put-below n (p .0) (p .1) v (q .0) (q .1)) (put-above n (p .0) (p .1) v (q .0) (q .1)) (apart-sides q p t)

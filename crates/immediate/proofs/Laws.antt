@@ -68,7 +68,7 @@ opened code k slot family row e =
 pub open-sound : (code : List ℕ) (k slot family : ℕ) (row : Row) → T (good family row) → first (openRefusals code k slot family row) ≡ accepted → Sound slot row
 open-sound code k slot family row g e =
     let o = opened code k slot family row e in
-    sound code k slot family row g (o .some) (o .in-bundle) (o .fit)
+    sound family row g (o .some) code k slot (o .in-bundle) (o .fit)
 
 -- the bundle that was opened
 pub open-whole : (code : List ℕ) (k slot family : ℕ) (row : Row) → first (openRefusals code k slot family row) ≡ accepted → Bytes code → whole (openedOf code k slot family row .halves) ≡ numberAt code k

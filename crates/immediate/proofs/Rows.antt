@@ -1,11 +1,12 @@
--- What is particular to a row, by one computed check over the whole table: a row's parts lie in the bundle and no two meet, its values
--- are of 64 bits, and only rows of X forms have a part in the L slot, which is slot 1 of a bundle whose slot 2 is an X. Assumes nothing.
+-- What is particular to a row, by one computed check over the whole table: a row's parts lie in the form's word and no two meet, its
+-- values are of 64 bits, and only rows of X forms have a part in the L slot, which is slot 1 of a bundle whose slot 2 is an X.
+-- Assumes nothing.
 use mathlib.Core.Path.{_≡_, refl, sym, ap, _∙_, subst}
 use mathlib.Core.Bool.{Bool, true, false, cond, not, _&&_, _||_}
 use mathlib.Core.List.{List, [], _∷_}
 use Prim.Native.Nat.{ℕ, zero, suc, _+_, _-_, _*_, _≤_, _<_, _^_}
 use native.Mathlib.Omega.{arith}
-use borrow.Author.Tests.{eqb-true}
+use borrow.Author.Tests.{eqb-true, eq-eqb}
 use lib.Dec.{T, eqb, leb, ltb, leb→le, ltb→lt, eqb→eq}
 use lib.ListN.{getD}
 use mir.Facts.{and-yes, eqb-no}
@@ -14,10 +15,11 @@ use Rattle.bits.proofs.Laws.{part-lt}
 use Rattle.table.specs.Table.{select}
 use Rattle.table.proofs.Check.{below, checked}
 use Rattle.table.proofs.Held.{every, held}
-use Rattle.bundle.specs.Template.{X, unitsOf}
+use Rattle.bundle.specs.Template.{L, X, unitsOf}
 use Rattle.bundle.specs.Bundle.{numberAt, tagOf}
 use Rattle.field.specs.Field.{placed, bitsOf, readable}
 use Rattle.field.specs.declared.Part.{Part}
+use Rattle.field.proofs.Placed.{inWords}
 use Rattle.immediate.specs.Row.{rowOf, rowsOf, noRow, families}
 use Rattle.immediate.specs.Meaning.{Fitting}
 use Rattle.immediate.specs.Immediate.{Sound, isNone, fits, unitAt, onlyTimes16, onlyTarget}
@@ -56,8 +58,12 @@ lies slot row = readable slot (row .parts) && separate (placed slot (row .parts)
 abbrev stands : ℕ → Row → Bool
 stands family row = cond (inL (row .parts)) (eqb family X && lies 2 row) (lies 0 row && (lies 1 row && lies 2 row))
 
+-- all that is asked of a row
+abbrev whole : ℕ → Row → Bool
+whole family row = leb (bitsOf (row .parts)) 64 && (meant (row .meaning) (bitsOf (row .parts)) && (stands family row && inWords (eqb family X) (row .parts)))
+
 abbrev pub good : ℕ → Row → Bool
-good family row = cond (isNone row) true (leb (bitsOf (row .parts)) 64 && (meant (row .meaning) (bitsOf (row .parts)) && stands family row))
+good family row = cond (isNone row) true (whole family row)
 
 -- the check
 pub row-good : (family number : ℕ) → T (good family (rowOf family number))
@@ -70,12 +76,20 @@ row-good family number =
 abbrev noX : ℕ → Bool
 noX tag = not (eqb (getD (unitsOf tag) 0 0) X) && not (eqb (getD (unitsOf tag) 1 0) X)
 
-x-in-2 : (tag slot : ℕ) → tag < 32 → slot < 3 → getD (unitsOf tag) slot 0 ≡ X → slot ≡ 2
+pub x-in-2 : (tag slot : ℕ) → tag < 32 → slot < 3 → getD (unitsOf tag) slot 0 ≡ X → slot ≡ 2
 unfolding unitsOf
 x-in-2 tag zero t h e = absurd (eqb-no (and-yes (not (eqb (getD (unitsOf tag) 0 0) X)) (not (eqb (getD (unitsOf tag) 1 0) X)) (checked noX 32 tt tag t) .0) e)
 x-in-2 tag (suc zero) t h e = absurd (eqb-no (and-yes (not (eqb (getD (unitsOf tag) 0 0) X)) (not (eqb (getD (unitsOf tag) 1 0) X)) (checked noX 32 tt tag t) .1) e)
 x-in-2 tag (suc (suc zero)) t h e = refl
 x-in-2 tag (suc (suc (suc slot))) t h e = absurd (let g : suc (suc (suc slot)) < 3 = h in omega arith)
+
+-- beside an X stands an L
+abbrev besideX : ℕ → Bool
+besideX tag = cond (eqb (getD (unitsOf tag) 2 0) X) (eqb (getD (unitsOf tag) 1 0) L) true
+
+pub x-beside-l : (tag : ℕ) → tag < 32 → getD (unitsOf tag) 2 0 ≡ X → getD (unitsOf tag) 1 0 ≡ L
+unfolding unitsOf
+x-beside-l tag t e = eqb→eq _ _ (subst (λ (b : Bool). T (cond b (eqb (getD (unitsOf tag) 1 0) L) true)) (eq-eqb (getD (unitsOf tag) 2 0) X e) (checked besideX 32 tt tag t))
 
 three : (P : ℕ → Bool) (slot : ℕ) → slot < 3 → T (P 0 && (P 1 && P 2)) → T (P slot)
 three P zero h t = and-yes (P 0) (P 1 && P 2) t .0
@@ -83,27 +97,34 @@ three P (suc zero) h t = and-yes (P 1) (P 2) (and-yes (P 0) (P 1 && P 2) t .1) .
 three P (suc (suc zero)) h t = and-yes (P 1) (P 2) (and-yes (P 0) (P 1 && P 2) t .1) .1
 three P (suc (suc (suc slot))) h t = absurd (let g : suc (suc (suc slot)) < 3 = h in omega arith)
 
-x-unit : (family unit : ℕ) → family ≡ X → fits family unit ≡ true → unit ≡ X
+pub x-unit : (family unit : ℕ) → family ≡ X → fits family unit ≡ true → unit ≡ X
 x-unit family unit e h = sym (eqb→eq X unit (subst T (sym (sym (ap (λ (f : ℕ). fits f unit) e) ∙ h)) tt))
 
--- a row that fits a slot is sound there
-module _ (code : List ℕ) (k slot family : ℕ) (row : Row) (g : T (good family row)) (some : isNone row ≡ false) (h : slot < 3) (fit : fits family (unitAt code k slot) ≡ true) where
-  goods : T (leb (bitsOf (row .parts)) 64 && (meant (row .meaning) (bitsOf (row .parts)) && stands family row))
-  goods = subst (λ (b : Bool). T (cond b true (leb (bitsOf (row .parts)) 64 && (meant (row .meaning) (bitsOf (row .parts)) && stands family row)))) some g
+module _ (family : ℕ) (row : Row) (g : T (good family row)) (some : isNone row ≡ false) where
+  all : T (leb (bitsOf (row .parts)) 64) × T (meant (row .meaning) (bitsOf (row .parts))) × T (stands family row) × T (inWords (eqb family X) (row .parts))
+  all =
+      let a = and-yes (leb (bitsOf (row .parts)) 64) _ (subst (λ (b : Bool). T (cond b true (whole family row))) some g) in
+      let b = and-yes (meant (row .meaning) (bitsOf (row .parts))) (stands family row && inWords (eqb family X) (row .parts)) (a .1) in
+      let c = and-yes (stands family row) (inWords (eqb family X) (row .parts)) (b .1) in
+      (a .0, b .0, c .0, c .1)
 
-  lies-in : (b : Bool) → inL (row .parts) ≡ b → T (cond b (eqb family X && lies 2 row) (lies 0 row && (lies 1 row && lies 2 row))) → T (lies slot row)
-  lies-in true q t =
-      let s = and-yes (eqb family X) (lies 2 row) t in
-      let unit = x-unit family (unitAt code k slot) (eqb→eq family X (s .0)) fit in
-      subst (λ (n : ℕ). T (lies n row)) (sym (x-in-2 (tagOf (numberAt code k)) slot (part-lt (numberAt code k) 0 5) h unit)) (s .1)
-  lies-in false q t = three (λ n. lies n row) slot h t
+  -- a row's parts lie in the form's word, and those of an X form in the L slot too
+  pub in-words : T (inWords (eqb family X) (row .parts))
+  in-words = all .3
 
-  pub sound : Sound slot row
-  sound =
-      let a = and-yes (leb (bitsOf (row .parts)) 64) (meant (row .meaning) (bitsOf (row .parts)) && stands family row) goods in
-      let b = and-yes (meant (row .meaning) (bitsOf (row .parts))) (stands family row) (a .1) in
-      let l = and-yes (readable slot (row .parts)) (separate (placed slot (row .parts))) (lies-in (inL (row .parts)) refl (b .1)) in
-      record { in-bundle = h; reads = l .0; apart = l .1; bits = leb→le _ _ (a .0); fitting = fitting (row .meaning) (bitsOf (row .parts)) (b .0) }
+  -- a row that fits a slot is sound there
+  module _ (code : List ℕ) (k slot : ℕ) (h : slot < 3) (fit : fits family (unitAt code k slot) ≡ true) where
+    lies-in : (b : Bool) → inL (row .parts) ≡ b → T (cond b (eqb family X && lies 2 row) (lies 0 row && (lies 1 row && lies 2 row))) → T (lies slot row)
+    lies-in true q t =
+        let s = and-yes (eqb family X) (lies 2 row) t in
+        let unit = x-unit family (unitAt code k slot) (eqb→eq family X (s .0)) fit in
+        subst (λ (n : ℕ). T (lies n row)) (sym (x-in-2 (tagOf (numberAt code k)) slot (part-lt (numberAt code k) 0 5) h unit)) (s .1)
+    lies-in false q t = three (λ n. lies n row) slot h t
+
+    pub sound : Sound slot row
+    sound =
+        let l = and-yes (readable slot (row .parts)) (separate (placed slot (row .parts))) (lies-in (inL (row .parts)) refl (all .2)) in
+        record { in-bundle = h; reads = l .0; apart = l .1; bits = leb→le _ _ (all .0); fitting = fitting (row .meaning) (bitsOf (row .parts)) (all .1) }
 
 -- a row whose values are times 16 is the form's own row
 keeps : (P : Row → Type 0) (row : Row) (b : Bool) → P row → P noRow → P (cond b row noRow)

@@ -6,7 +6,7 @@ use lib.Dec.{T, eqb, ltb}
 use lib.IntN.{ℤ}
 use lib.ListN.{getD}
 use Rattle.answer.specs.Answer.{Refusal, first, outcome, accepted, badForm, badSlot, badValue}
-use Rattle.bits.specs.Parts.{gather, separate}
+use Rattle.bits.specs.Parts.{gather, scatter, separate}
 use Rattle.bundle.specs.Template.{M, I, unitsOf}
 use Rattle.bundle.specs.Bundle.{numberAt, tagOf, cutRefusals, halvesOf}
 use Rattle.bundle.specs.declared.half.Halves.{Halves}
@@ -57,6 +57,10 @@ openedOf code k slot family row =
 -- the value that a row reads in a slot of a bundle
 abbrev pub valueIn : Row → ℕ → ℕ → Operand
 valueIn row slot n = valueOf (row .meaning) (bitsOf (row .parts)) (gather n (placed slot (row .parts)))
+
+-- the bundle with a raw number in a row's parts
+abbrev pub written : Row → ℕ → ℕ → ℕ → ℕ
+written row slot n raw = scatter n (placed slot (row .parts)) raw
 
 -- what `immediate` hands back
 unfoldable pub immediateOf : List ℕ → ℕ → ℕ → ℕ → ℕ → Value

@@ -8,9 +8,9 @@ use mir.Facts.{toZ-ofZ}
 use Rattle.operand.specs.Kind.{ofI64}
 use Rattle.operand.specs.Pattern.{patternOf}
 use Rattle.operand.specs.declared.Operand.{Operand}
+use Rattle.operand.proofs.Kind.{kinds, but, not-i64}
 use Rattle.immediate.specs.Meaning.{rawUp, rawDown, rawSigned}
 use Rattle.immediate.specs.declared.meaning.Raw.the-variants.{Bad}
-use Rattle.immediate.proofs.Kind.{not-i64}
 use Rattle.immediate.proofs.Units.{raw-by-pattern-up, raw-by-pattern-down}
 use borrow.Author.Needs.{needs}
 use Rattle.immediate.proofs.meaning.raw_signed.Statement.{statement}
@@ -22,7 +22,7 @@ enum-known-value c = search needs
 returns : tie.Need-returns
 returns c =
     let a = c .before .args in
-    sym (not-i64 (a .value) (rawSigned (a .unit) (a .width)) Bad (c .match .keys2))
+    sym (not-i64 (but 4 kinds) (a .value) (rawSigned (a .unit) (a .width)) Bad tt (c .match .keys2))
 
 pattern-requires : tie.Need-pattern-requires
 pattern-requires c κs = search needs

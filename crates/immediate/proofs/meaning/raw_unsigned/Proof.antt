@@ -4,9 +4,9 @@ use Prim.Native.Nat.{ℕ, _-_, _≤_, _<_, _^_}
 use borrow.Author.Tests.{lt-ltb, le-ltb}
 use Rattle.operand.specs.Kind.{ofU64}
 use Rattle.operand.specs.declared.Operand.{Operand}
+use Rattle.operand.proofs.Kind.{kinds, but, not-u64}
 use Rattle.immediate.specs.Meaning.{rawUnsigned}
 use Rattle.immediate.specs.declared.meaning.Raw.the-variants.{Bad}
-use Rattle.immediate.proofs.Kind.{not-u64}
 use Rattle.immediate.proofs.Units.{below-top, not-below-top}
 use borrow.Author.Needs.{needs}
 use Rattle.immediate.proofs.meaning.raw_unsigned.Statement.{statement}
@@ -18,7 +18,7 @@ enum-known-value c = search needs
 returns : tie.Need-returns
 returns c =
     let a = c .before .args in
-    sym (not-u64 (a .value) (rawUnsigned (a .plus) (a .width)) Bad (c .match .keys2))
+    sym (not-u64 (but 5 kinds) (a .value) (rawUnsigned (a .plus) (a .width)) Bad tt (c .match .keys2))
 
 returns-2 : tie.Need-returns-2
 returns-2 c =

@@ -1,0 +1,1 @@
+// Document 01's cases, proved over what the crates below promise; nothing runs.

@@ -1,0 +1,41 @@
+-- `pattern_in` meets its contract: each arm is the definition's case. Assumes nothing.
+use mathlib.Core.Path.{_≡_, _∙_, sym, ap}
+use mir.Syntax.{w64}
+use mir.Val.{SFits}
+use mir.Facts.{toZ-ofZ}
+use Rattle.operand.specs.Pattern.{patternOf}
+use Rattle.operand.specs.Kind.{ofU64}
+use Rattle.operand.proofs.Kind.{kinds, but, not-i64, not-u64}
+use Rattle.glindorsc.specs.Calls.{patternIn}
+use borrow.Author.Needs.{needs}
+use Rattle.glindorsc.proofs.pattern_in.Statement.{statement}
+use Rattle.glindorsc.proofs.pattern_in.Tie as tie
+
+enum-known-value : tie.Need-enum-known-value
+enum-known-value c = search needs
+
+pattern-requires : tie.Need-pattern-requires
+pattern-requires c κs = search needs
+
+enum-known-value-2 : tie.Need-enum-known-value-2
+enum-known-value-2 c = search needs
+
+returns : tie.Need-returns
+returns c =
+    let v = c .before .before .value .given in
+    let fits : SFits w64 (v .0 .0) = search needs in
+    c .pattern .ensures ∙ ap patternOf (toZ-ofZ fits) ∙ sym (ap patternIn (v .1))
+
+returns-2 : tie.Need-returns-2
+returns-2 c = search needs
+
+returns-3 : tie.Need-returns-3
+returns-3 c =
+    let o = c .before .args .value in
+    let others = but 4 (but 5 kinds) in
+    sym (not-i64 others o patternOf (ofU64 o (λ v. v) 0) tt (c .match .keys3) ∙ not-u64 others o (λ v. v) 0 tt (c .match .keys3))
+
+pub pattern-in-spec : {M : Type 1} → statement M
+pattern-in-spec =
+    tie.close
+    (tie.spec enum-known-value pattern-requires enum-known-value-2 returns returns-2 returns-3)

@@ -1,0 +1,47 @@
+-- What the calls from C and Rust come to: an answer, and numbers that go through an output. Assumes nothing.
+use Prim.Native.Nat.{ℕ}
+use mathlib.Core.Bool.{cond}
+use mathlib.Core.List.{List, _∷_, _++_}
+use lib.Dec.{ltb}
+use lib.ListN.{length, drop}
+use Rattle.answer.specs.Answer.{noRoom}
+use Rattle.bundle.specs.Bundle.{cutOf}
+use Rattle.bundle.specs.declared.Bundle.{Bundle}
+use Rattle.operand.specs.Kind.{ofI64, ofU64}
+use Rattle.operand.specs.Pattern.{patternOf}
+use Rattle.operand.specs.declared.Operand.{Operand}
+use Rattle.immediate.specs.Immediate.{immediateOf, targetOf}
+
+-- an answer, and what the output then holds
+pub record Filled : Type 0 where
+  pub answer : ℕ
+  pub out : List ℕ
+
+-- a cut bundle's seven numbers: the tag, the units, the slots
+abbrev pub numbersOf : Bundle → List ℕ
+numbersOf b = b .tag ∷ (b .units ++ b .slots)
+
+-- a cut, refused or not, fills the first seven places of the output; an output of fewer places is refused and kept
+unfoldable pub cutCall : List ℕ → ℕ → List ℕ → Filled
+cutCall code k out =
+    cond (ltb (length out) 7) (record { answer = noRoom; out = out })
+    (record { answer = cutOf code k .answer; out = numbersOf (cutOf code k) ++ drop 7 out })
+
+-- an answer, and the number that is then in the output
+pub record Answered : Type 0 where
+  pub answer : ℕ
+  pub number : ℕ
+
+-- the 64-bit pattern of an immediate, and 0 of any other operand
+abbrev pub patternIn : Operand → ℕ
+patternIn o = ofI64 o patternOf (ofU64 o (λ v. v) 0)
+
+unfoldable pub immediateCall : List ℕ → ℕ → ℕ → ℕ → ℕ → Answered
+immediateCall code k slot family number =
+    let read = immediateOf code k slot family number in
+    record { answer = read .answer; number = patternIn (read .value) }
+
+unfoldable pub targetCall : List ℕ → ℕ → ℕ → ℕ → ℕ → ℕ → Answered
+targetCall code k slot family number address =
+    let place = targetOf code k slot family number address in
+    record { answer = place .answer; number = place .address }
