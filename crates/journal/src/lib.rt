@@ -40,10 +40,10 @@ pub fn edit(
     ensures { λ r. ⌜ _≡_ {A = Outcome} (record { answer = r .answer; journal = r .journal; code = now (code .exit) }) (editOf (now (code .entry)) journal bundle slot family number value) ⌝ }
 {
     let plan = planned(code, bundle, slot, family, number, value);
-    let refusal = plan.answer;
-    if refusal != ACCEPTED {
+    let unfit = plan.answer;
+    if unfit != ACCEPTED {
         return Edited {
-            answer: refusal,
+            answer: unfit,
             journal,
         };
     }

@@ -1,0 +1,16 @@
+-- Two outcomes that the contract of `edit` or `undo` allows for one input are equal: each contract is an equation with one definition.
+-- Assumes nothing.
+use mathlib.Core.Path.{_≡_}
+use mathlib.Core.List.{List}
+use Prim.Native.Nat.{ℕ}
+use Rattle.answer.proofs.Laws.{one-outcome}
+use Rattle.operand.specs.declared.Operand.{Operand}
+use Rattle.journal.specs.Edit.{Outcome, editOf, undoOf}
+use Rattle.journal.specs.declared.records.Journal.{Journal}
+
+pub edit-unique : (code : List ℕ) (journal : Journal) (bundle slot family number : ℕ) (value : Operand) {r s : Outcome}
+    → r ≡ editOf code journal bundle slot family number value → s ≡ editOf code journal bundle slot family number value → r ≡ s
+edit-unique code journal bundle slot family number value = one-outcome
+
+pub undo-unique : (code : List ℕ) (journal : Journal) {r s : Outcome} → r ≡ undoOf code journal → s ≡ undoOf code journal → r ≡ s
+undo-unique code journal = one-outcome
