@@ -1,0 +1,98 @@
+// The commands, by name: first those that numbers follow, then those that text follows too. Each answers
+// where the output stands then, and leaves it where it was given if the line doesn't read: `error` is then
+// written for it.
+ghost use Prim.Native.Nat.{_≤_};
+
+mod code;
+mod cut;
+mod find;
+mod get;
+mod join;
+mod put;
+mod sum;
+
+use crate::line;
+use crate::part;
+
+pub struct Done {
+    pub length: usize,
+    pub at: usize,
+}
+
+const CODE: u64 = 0;
+
+const PUT: u64 = 6;
+
+// A line on a code of that length, in its room.
+pub fn answer(line: &[u8], code: &mut [u8], length: usize, out: &mut [u8], at: usize) -> Done {
+    let end = part::first(line, 0, b' ');
+    let command = place(b"code get sum find cut join put", &line[0..end]);
+    let f = line::fields(line, end, count(command));
+    let of = f.of;
+    let rest = part::within(line, f.at);
+    if !f.ok {
+        return Done { length, at };
+    }
+    if command == CODE {
+        return code::answer(of[0], &line[rest..], code, length, out, at);
+    }
+    let n = part::within(code, length);
+    Done {
+        length,
+        at: on_code(command, of, &line[rest..], &mut code[0..n], out, at),
+    }
+}
+
+// How many numbers follow the name.
+fn count(command: u64) -> usize
+    ensures { λ r. ⌜ r ≤ 6 ⌝ }
+{
+    match command {
+        2 => 0,
+        1 => 2,
+        5 => 5,
+        _ => 1,
+    }
+}
+
+fn on_code(
+    command: u64,
+    of: [u64; 6],
+    rest: &[u8],
+    code: &mut [u8],
+    out: &mut [u8],
+    at: usize,
+) -> usize {
+    if command == PUT {
+        return put::answer(of[0], rest, code, out, at);
+    }
+    if 0 < rest.len() {
+        return at;
+    }
+    match command {
+        1 => get::answer(of[0], of[1], code, out, at),
+        2 => sum::answer(code, out, at),
+        3 => find::answer(of[0], code, out, at),
+        4 => cut::answer(of[0], code, out, at),
+        5 => join::answer(of, out, at),
+        _ => at,
+    }
+}
+
+// Which of the names it is, counted from 0, or a number past them.
+fn place(names: &[u8], name: &[u8]) -> u64 {
+    let mut k: u64 = 0;
+    let mut from = 0;
+    while from < names.len() {
+        let end = part::first(names, from, b' ');
+        if end < from {
+            return u64::MAX;
+        }
+        if check::same(&names[from..end], name) {
+            return k;
+        }
+        from = end + 1;
+        k += 1;
+    }
+    u64::MAX
+}
