@@ -8,6 +8,7 @@ mod cut;
 mod find;
 mod get;
 mod join;
+mod operands;
 mod put;
 mod sum;
 
@@ -19,14 +20,27 @@ pub struct Done {
     pub at: usize,
 }
 
+// Places in the list of names.
 const CODE: u64 = 0;
 
-const PUT: u64 = 6;
+const GET: u64 = 1;
+
+const SUM: u64 = 2;
+
+const FIND: u64 = 3;
+
+const CUT: u64 = 4;
+
+const JOIN: u64 = 5;
+
+const OPERANDS: u64 = 6;
+
+const PUT: u64 = 7;
 
 // A line on a code of that length, in its room.
 pub fn answer(line: &[u8], code: &mut [u8], length: usize, out: &mut [u8], at: usize) -> Done {
     let end = part::first(line, 0, b' ');
-    let command = place(b"code get sum find cut join put", &line[0..end]);
+    let command = place(b"code get sum find cut join operands put", &line[0..end]);
     let f = line::fields(line, end, count(command));
     let of = f.of;
     let rest = part::within(line, f.at);
@@ -48,9 +62,10 @@ fn count(command: u64) -> usize
     ensures { λ r. ⌜ r ≤ 6 ⌝ }
 {
     match command {
-        2 => 0,
-        1 => 2,
-        5 => 5,
+        SUM => 0,
+        GET => 2,
+        OPERANDS => 4,
+        JOIN => 5,
         _ => 1,
     }
 }
@@ -70,11 +85,12 @@ fn on_code(
         return at;
     }
     match command {
-        1 => get::answer(of[0], of[1], code, out, at),
-        2 => sum::answer(code, out, at),
-        3 => find::answer(of[0], code, out, at),
-        4 => cut::answer(of[0], code, out, at),
-        5 => join::answer(of, out, at),
+        GET => get::answer(of[0], of[1], code, out, at),
+        SUM => sum::answer(code, out, at),
+        FIND => find::answer(of[0], code, out, at),
+        CUT => cut::answer(of[0], code, out, at),
+        JOIN => join::answer(of, out, at),
+        OPERANDS => operands::answer(of, out, at),
         _ => at,
     }
 }

@@ -5,6 +5,7 @@ ghost use lib.ListN.{length};
 mod bytes;
 mod command;
 mod line;
+mod operand_text;
 mod out;
 mod part;
 mod session;
