@@ -7,10 +7,12 @@ mod code;
 mod cut;
 mod find;
 mod get;
+mod immediates;
 mod join;
 mod operands;
 mod put;
 mod sum;
+mod target;
 
 use crate::line;
 use crate::part;
@@ -35,12 +37,16 @@ const JOIN: u64 = 5;
 
 const OPERANDS: u64 = 6;
 
-const PUT: u64 = 7;
+const IMMEDIATE: u64 = 7;
+
+const TARGET: u64 = 8;
+
+const PUT: u64 = 9;
 
 // A line on a code of that length, in its room.
 pub fn answer(line: &[u8], code: &mut [u8], length: usize, out: &mut [u8], at: usize) -> Done {
     let end = part::first(line, 0, b' ');
-    let command = place(b"code get sum find cut join operands put", &line[0..end]);
+    let command = part::place(b"code get sum find cut join operands immediate target put", &line[0..end]);
     let f = line::fields(line, end, count(command));
     let of = f.of;
     let rest = part::within(line, f.at);
@@ -64,8 +70,8 @@ fn count(command: u64) -> usize
     match command {
         SUM => 0,
         GET => 2,
-        OPERANDS => 4,
-        JOIN => 5,
+        OPERANDS | IMMEDIATE => 4,
+        JOIN | TARGET => 5,
         _ => 1,
     }
 }
@@ -91,24 +97,8 @@ fn on_code(
         CUT => cut::answer(of[0], code, out, at),
         JOIN => join::answer(of, out, at),
         OPERANDS => operands::answer(of, out, at),
+        IMMEDIATE => immediates::answer(of, code, out, at),
+        TARGET => target::answer(of, code, out, at),
         _ => at,
     }
-}
-
-// Which of the names it is, counted from 0, or a number past them.
-fn place(names: &[u8], name: &[u8]) -> u64 {
-    let mut k: u64 = 0;
-    let mut from = 0;
-    while from < names.len() {
-        let end = part::first(names, from, b' ');
-        if end < from {
-            return u64::MAX;
-        }
-        if check::same(&names[from..end], name) {
-            return k;
-        }
-        from = end + 1;
-        k += 1;
-    }
-    u64::MAX
 }

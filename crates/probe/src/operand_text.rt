@@ -2,9 +2,15 @@
 use crate::line;
 use crate::line::Number;
 use crate::out;
+use crate::part;
+use operand::ApplicationRegister;
+use operand::BranchRegister;
+use operand::ControlRegister;
+use operand::FloatRegister;
 use operand::GPRegister;
 use operand::IndirectionReg;
 use operand::Operand;
+use operand::PredicateRegister;
 
 const HALF: u64 = 1 << 63;
 
@@ -58,4 +64,117 @@ fn indirect(out: &mut [u8], at: usize, i: IndirectionReg, r: GPRegister) -> usiz
         IndirectionReg::Pmd => numbered(out, at, b" Ind:Pmd:", r.0),
         IndirectionReg::Rr => numbered(out, at, b" Ind:Rr:", r.0),
     }
+}
+
+pub enum Parsed {
+    Of(Operand),
+    Bad,
+}
+
+// A name, or a name with a number after it.
+pub fn read(s: &[u8]) -> Parsed {
+    let at = part::below(s, b':');
+    let name = &s[0..at];
+    if at == s.len() {
+        return named(part::place(b"None PSR PSR_l PSR_um PR IP", name));
+    }
+    let kind = part::place(b"I U G F P B AR CR Mem", name);
+    if kind == 0 {
+        return integer(&s[at..]);
+    }
+    match line::decimal(&s[at..]) {
+        Number::Of(n) => with_number(kind, name, n),
+        Number::Bad => Parsed::Bad,
+    }
+}
+
+fn named(place: u64) -> Parsed {
+    match place {
+        0 => Parsed::Of(Operand::None),
+        1 => Parsed::Of(Operand::PSR),
+        2 => Parsed::Of(Operand::PSR_l),
+        3 => Parsed::Of(Operand::PSR_um),
+        4 => Parsed::Of(Operand::PR),
+        5 => Parsed::Of(Operand::IP),
+        _ => Parsed::Bad,
+    }
+}
+
+// A number from -2^63 on and below 2^63.
+fn integer(s: &[u8]) -> Parsed {
+    if s.len() == 0 {
+        return Parsed::Bad;
+    }
+    if s[0] == b'-' {
+        return negative(&s[1..]);
+    }
+    let Number::Of(n) = line::decimal(s) else {
+        return Parsed::Bad;
+    };
+    if HALF <= n {
+        return Parsed::Bad;
+    }
+    Parsed::Of(Operand::ImmI64(operand::integer(n)))
+}
+
+fn negative(s: &[u8]) -> Parsed {
+    let Number::Of(n) = line::decimal(s) else {
+        return Parsed::Bad;
+    };
+    if n == 0 {
+        return Parsed::Bad;
+    }
+    if HALF < n {
+        return Parsed::Bad;
+    }
+    Parsed::Of(Operand::ImmI64(operand::integer(u64::MAX - n + 1)))
+}
+
+fn with_number(kind: u64, name: &[u8], n: u64) -> Parsed {
+    if kind == 1 {
+        return Parsed::Of(Operand::ImmU64(n));
+    }
+    if 255 < n {
+        return Parsed::Bad;
+    }
+    register(kind, name, (n % 256) as u8)
+}
+
+fn register(kind: u64, name: &[u8], r: u8) -> Parsed {
+    match kind {
+        2 => Parsed::Of(Operand::GPRegister(GPRegister(r))),
+        3 => Parsed::Of(Operand::FloatRegister(FloatRegister(r))),
+        4 => Parsed::Of(Operand::PredicateRegister(PredicateRegister(r))),
+        5 => Parsed::Of(Operand::BranchRegister(BranchRegister(r))),
+        6 => Parsed::Of(Operand::ApplicationRegister(ApplicationRegister(r))),
+        7 => Parsed::Of(Operand::ControlRegister(ControlRegister(r))),
+        8 => Parsed::Of(Operand::Memory(GPRegister(r))),
+        _ => indirection(
+            part::place(
+                b"Ind:Cpuid: Ind:Dbr: Ind:Dtr: Ind:Ibr: Ind:Itr: Ind:Msr: Ind:Pkr: Ind:Pmc: Ind:Pmd: Ind:Rr:",
+                name,
+            ),
+            r,
+        ),
+    }
+}
+
+fn indirection(place: u64, r: u8) -> Parsed {
+    match place {
+        0 => indirect_of(IndirectionReg::Cpuid, r),
+        1 => indirect_of(IndirectionReg::Dbr, r),
+        2 => indirect_of(IndirectionReg::Dtr, r),
+        3 => indirect_of(IndirectionReg::Ibr, r),
+        4 => indirect_of(IndirectionReg::Itr, r),
+        5 => indirect_of(IndirectionReg::Msr, r),
+        6 => indirect_of(IndirectionReg::Pkr, r),
+        7 => indirect_of(IndirectionReg::Pmc, r),
+        8 => indirect_of(IndirectionReg::Pmd, r),
+        9 => indirect_of(IndirectionReg::Rr, r),
+        _ => Parsed::Bad,
+    }
+}
+
+fn indirect_of(i: IndirectionReg, r: u8) -> Parsed {
+    Parsed::Of(Operand::Indirection(i, GPRegister(r)))
 }

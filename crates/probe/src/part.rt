@@ -54,3 +54,35 @@ pub fn shift(s: &mut [u8], from: usize) {
         i += 1;
     }
 }
+
+// Which of the names it is, counted from 0, or a number past them.
+pub fn place(names: &[u8], name: &[u8]) -> u64 {
+    let mut k: u64 = 0;
+    let mut from = 0;
+    while from < names.len() {
+        let end = first(names, from, b' ');
+        if end < from {
+            return u64::MAX;
+        }
+        if check::same(&names[from..end], name) {
+            return k;
+        }
+        from = end + 1;
+        k += 1;
+    }
+    u64::MAX
+}
+
+// Where a byte below that one first stands, or the slice's length.
+pub fn below(s: &[u8], b: u8) -> usize
+    ensures { λ r. ⌜ r ≤ length (now (s .entry)) ⌝ }
+{
+    let mut i = 0;
+    while i < s.len() {
+        if s[i] < b {
+            return i;
+        }
+        i += 1;
+    }
+    i
+}

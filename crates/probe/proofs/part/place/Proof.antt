@@ -1,9 +1,9 @@
--- `command::place`: the place is at most one past the names, and no name is counted before its place.
+-- `part::place`: the place is at most one past the names, and no name is counted before its place.
 use Prim.Native.Nat.{_≤_, _+_, _-_}
 use borrow.Author.Needs.{needs}
 use lib.ListN.{length}
-use Rattle.probe.proofs.command.place.Statement.{statement}
-use Rattle.probe.proofs.command.place.Tie as tie
+use Rattle.probe.proofs.part.place.Statement.{statement}
+use Rattle.probe.proofs.part.place.Tie as tie
 
 abbrev Inv-loop : tie.InvT-loop
 Inv-loop names name k₀ from₀ k from = (from ≤ length names + 1) × (k ≤ from)
