@@ -46,7 +46,10 @@ const PUT: u64 = 9;
 // A line on a code of that length, in its room.
 pub fn answer(line: &[u8], code: &mut [u8], length: usize, out: &mut [u8], at: usize) -> Done {
     let end = part::first(line, 0, b' ');
-    let command = part::place(b"code get sum find cut join operands immediate target put", &line[0..end]);
+    let command = part::place(
+        b"code get sum find cut join operands immediate target put",
+        &line[0..end],
+    );
     let f = line::fields(line, end, count(command));
     let of = f.of;
     let rest = part::within(line, f.at);

@@ -73,6 +73,24 @@ pub fn place(names: &[u8], name: &[u8]) -> u64 {
     u64::MAX
 }
 
+// The word at a place in a list, counted from 0, or nothing.
+pub fn word(names: &[u8], place: u64) -> &[u8] {
+    let mut k: u64 = 0;
+    let mut from = 0;
+    while from < names.len() {
+        let end = first(names, from, b' ');
+        if end < from {
+            return &names[0..0];
+        }
+        if k == place {
+            return &names[from..end];
+        }
+        from = end + 1;
+        k += 1;
+    }
+    &names[0..0]
+}
+
 // Where a byte below that one first stands, or the slice's length.
 pub fn below(s: &[u8], b: u8) -> usize
     ensures { λ r. ⌜ r ≤ length (now (s .entry)) ⌝ }

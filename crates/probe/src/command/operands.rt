@@ -10,15 +10,15 @@ pub fn answer(of: [u64; 6], out: &mut [u8], at: usize) -> usize {
     let to = out::number(out, name, read.answer as u64);
     let reading = read.reading;
     let last = reading.position;
-    let end = position(out, to, last);
+    let end = out::text(out, to, &[b' ', position(last)]);
     shown(out, end, reading)
 }
 
-fn position(out: &mut [u8], at: usize, p: Position) -> usize {
+fn position(p: Position) -> u8 {
     match p {
-        Position::None => out::text(out, at, b" -"),
-        Position::First => out::text(out, at, b" 0"),
-        Position::Second => out::text(out, at, b" 1"),
+        Position::None => b'-',
+        Position::First => b'0',
+        Position::Second => b'1',
     }
 }
 
