@@ -83,7 +83,7 @@ editOf code journal k slot family number value =
     (record {
       answer = accepted;
       journal = pushOf journal (recordOf code k slot family number value);
-      code = rewritten code k (editedNumber (numberAt code k) slot family number value)
+      code = rewritten code k (editedNumber (numberAt code k) slot family number value);
     })
     (record { answer = answer; journal = journal; code = code })
 

@@ -5,14 +5,19 @@ ghost use Prim.Native.Nat.{_≤_};
 
 mod code;
 mod cut;
+mod edit;
 mod find;
 mod get;
 mod immediates;
 mod join;
+mod journals;
 mod operands;
+mod place;
 mod put;
+mod records;
 mod sum;
 mod target;
+mod undo;
 
 use crate::line;
 use crate::part;
@@ -22,7 +27,11 @@ pub struct Done {
     pub at: usize,
 }
 
-// Places in the list of names.
+const NAMES: [u8; 88] =
+    *b"code get sum find cut join operands immediate target put journal place records undo edit";
+
+// Places in the list of names: first the commands that leave the journal alone, then the others; the
+// last of both have text after their numbers.
 const CODE: u64 = 0;
 
 const GET: u64 = 1;
@@ -43,13 +52,27 @@ const TARGET: u64 = 8;
 
 const PUT: u64 = 9;
 
-// A line on a code of that length, in its room.
-pub fn answer(line: &[u8], code: &mut [u8], length: usize, out: &mut [u8], at: usize) -> Done {
+const JOURNAL: u64 = 10;
+
+const PLACE: u64 = 11;
+
+const RECORDS: u64 = 12;
+
+const UNDO: u64 = 13;
+
+const EDIT: u64 = 14;
+
+// A line on a code of that length, in its room, and on a journal.
+pub fn answer(
+    line: &[u8],
+    code: &mut [u8],
+    length: usize,
+    kept: &mut [u64],
+    out: &mut [u8],
+    at: usize,
+) -> Done {
     let end = part::first(line, 0, b' ');
-    let command = part::place(
-        b"code get sum find cut join operands immediate target put",
-        &line[0..end],
-    );
+    let command = part::place(&NAMES, &line[0..end]);
     let f = line::fields(line, end, count(command));
     let of = f.of;
     let rest = part::within(line, f.at);
@@ -62,7 +85,7 @@ pub fn answer(line: &[u8], code: &mut [u8], length: usize, out: &mut [u8], at: u
     let n = part::within(code, length);
     Done {
         length,
-        at: on_code(command, of, &line[rest..], &mut code[0..n], out, at),
+        at: called(command, of, &line[rest..], &mut code[0..n], kept, out, at),
     }
 }
 
@@ -71,28 +94,40 @@ fn count(command: u64) -> usize
     ensures { λ r. ⌜ r ≤ 6 ⌝ }
 {
     match command {
-        SUM => 0,
+        SUM | RECORDS | UNDO => 0,
         GET => 2,
-        OPERANDS | IMMEDIATE => 4,
+        OPERANDS | IMMEDIATE | EDIT => 4,
         JOIN | TARGET => 5,
+        PLACE => 6,
         _ => 1,
     }
 }
 
-fn on_code(
+fn called(
     command: u64,
     of: [u64; 6],
     rest: &[u8],
     code: &mut [u8],
+    kept: &mut [u64],
     out: &mut [u8],
     at: usize,
 ) -> usize {
     if command == PUT {
         return put::answer(of[0], rest, code, out, at);
     }
+    if command == EDIT {
+        return edit::answer(of, rest, code, kept, out, at);
+    }
     if 0 < rest.len() {
         return at;
     }
+    if command < PUT {
+        return on_code(command, of, code, out, at);
+    }
+    on_journal(command, of, code, kept, out, at)
+}
+
+fn on_code(command: u64, of: [u64; 6], code: &[u8], out: &mut [u8], at: usize) -> usize {
     match command {
         GET => get::answer(of[0], of[1], code, out, at),
         SUM => sum::answer(code, out, at),
@@ -102,6 +137,23 @@ fn on_code(
         OPERANDS => operands::answer(of, out, at),
         IMMEDIATE => immediates::answer(of, code, out, at),
         TARGET => target::answer(of, code, out, at),
+        _ => at,
+    }
+}
+
+fn on_journal(
+    command: u64,
+    of: [u64; 6],
+    code: &mut [u8],
+    kept: &mut [u64],
+    out: &mut [u8],
+    at: usize,
+) -> usize {
+    match command {
+        JOURNAL => journals::answer(of[0], kept, out, at),
+        PLACE => place::answer(of, kept, out, at),
+        RECORDS => records::answer(kept, out, at),
+        UNDO => undo::answer(code, kept, out, at),
         _ => at,
     }
 }

@@ -4,6 +4,7 @@ ghost use lib.ListN.{length};
 
 mod bytes;
 mod command;
+mod kept;
 mod line;
 mod operand_text;
 mod out;
@@ -26,6 +27,7 @@ fn code_room() -> [u8; 65600]
 fn main() {
     let mut text = room();
     let mut code = code_room();
+    let mut kept = [0u64; 321];
     let mut out = room();
-    session::run(&mut text, &mut code, &mut out);
+    session::run(&mut text, &mut code, &mut kept, &mut out);
 }

@@ -22,7 +22,7 @@ pub struct State {
 
 // A proved loop has to end, and nothing says that the input does. So the turns are counted down, from a
 // number that no run uses up.
-pub fn run(text: &mut [u8], code: &mut [u8], out: &mut [u8]) {
+pub fn run(text: &mut [u8], code: &mut [u8], kept: &mut [u64], out: &mut [u8]) {
     let mut s = State {
         held: 0,
         cut: false,
@@ -36,7 +36,7 @@ pub fn run(text: &mut [u8], code: &mut [u8], out: &mut [u8]) {
             last(s, out);
             return;
         }
-        s = block(text, held, code, out, s);
+        s = block(text, held, code, kept, out, s);
         turns -= 1;
     }
 }
@@ -58,15 +58,22 @@ fn last(s: State, out: &mut [u8]) {
 }
 
 // Answers the whole lines that are held, and keeps what stands after them.
-fn block(text: &mut [u8], held: usize, code: &mut [u8], out: &mut [u8], s: State) -> State {
+fn block(
+    text: &mut [u8],
+    held: usize,
+    code: &mut [u8],
+    kept: &mut [u64],
+    out: &mut [u8],
+    s: State,
+) -> State {
     let n = part::within(text, held);
-    let t = lines(&text[0..n], code, out, s);
+    let t = lines(&text[0..n], code, kept, out, s);
     write(out, t.at);
-    kept(text, n, t)
+    left(text, n, t)
 }
 
 // What is left of the text goes to its front. Where no line ends in the whole of it, it is dropped.
-fn kept(text: &mut [u8], n: usize, t: State) -> State {
+fn left(text: &mut [u8], n: usize, t: State) -> State {
     let used = t.held;
     if used == 0 && n == text.len() {
         return State {
@@ -87,7 +94,7 @@ fn kept(text: &mut [u8], n: usize, t: State) -> State {
 }
 
 // Answers each line that ends in the text. How much of the text that was is `held` of what it answers.
-fn lines(text: &[u8], code: &mut [u8], out: &mut [u8], s: State) -> State {
+fn lines(text: &[u8], code: &mut [u8], kept: &mut [u64], out: &mut [u8], s: State) -> State {
     let mut t = s;
     t.held = 0;
     let mut from = 0;
@@ -99,7 +106,7 @@ fn lines(text: &[u8], code: &mut [u8], out: &mut [u8], s: State) -> State {
         if end < from {
             return t;
         }
-        t = line(&text[from..end], code, out, t);
+        t = line(&text[from..end], code, kept, out, t);
         from = end + 1;
         t.held = from;
     }
@@ -107,9 +114,9 @@ fn lines(text: &[u8], code: &mut [u8], out: &mut [u8], s: State) -> State {
 }
 
 // One line, and a newline after its answer.
-fn line(text: &[u8], code: &mut [u8], out: &mut [u8], s: State) -> State {
+fn line(text: &[u8], code: &mut [u8], kept: &mut [u64], out: &mut [u8], s: State) -> State {
     let at = flushed(out, s.at);
-    let done = answered(text, code, out, s, at);
+    let done = answered(text, code, kept, out, s, at);
     State {
         held: s.held,
         cut: false,
@@ -118,7 +125,14 @@ fn line(text: &[u8], code: &mut [u8], out: &mut [u8], s: State) -> State {
     }
 }
 
-fn answered(text: &[u8], code: &mut [u8], out: &mut [u8], s: State, at: usize) -> command::Done {
+fn answered(
+    text: &[u8],
+    code: &mut [u8],
+    kept: &mut [u64],
+    out: &mut [u8],
+    s: State,
+    at: usize,
+) -> command::Done {
     let length = s.length;
     if s.cut {
         return command::Done { length, at };
@@ -126,7 +140,7 @@ fn answered(text: &[u8], code: &mut [u8], out: &mut [u8], s: State, at: usize) -
     if LONGEST < text.len() {
         return command::Done { length, at };
     }
-    command::answer(text, code, length, out, at)
+    command::answer(text, code, length, kept, out, at)
 }
 
 // A line that wrote nothing doesn't read.

@@ -71,9 +71,9 @@ returns-3 c =
     let done = edit-planned (now (a .code)) (a .bundle) (a .slot) (a .family) (a .number) (a .value) (a .journal) planned ∙ is-room e2 in
     let journal = c .pushed .ensures ∙ ap (λ (p : Plan). pushOf (a .journal) (record { bundle = a .bundle; old = p .old; new = p .new })) plan in
     let code =
-      c .before .before .before .rewrite .ensures
-      ∙ ap (λ (p : Plan). rewritten (now (a .code)) (a .bundle) (whole (p .new))) plan
-      ∙ ap (rewritten (now (a .code)) (a .bundle)) (whole-halves _ (edited-lt (now (a .code)) (a .bundle) (a .slot) (a .family) (a .number) (a .value) planned (λ i. known .slice-known .given i .fits))) in
+    c .before .before .before .rewrite .ensures
+    ∙ ap (λ (p : Plan). rewritten (now (a .code)) (a .bundle) (whole (p .new))) plan
+    ∙ ap (rewritten (now (a .code)) (a .bundle)) (whole-halves _ (edited-lt (now (a .code)) (a .bundle) (a .slot) (a .family) (a .number) (a .value) planned (λ i. known .slice-known .given i .fits))) in
     (λ i. record { answer = accepted; journal = journal i; code = code i })
     ∙ sym (edit-done (now (a .code)) (a .bundle) (a .slot) (a .family) (a .number) (a .value) (a .journal) done)
 

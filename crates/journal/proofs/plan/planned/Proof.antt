@@ -63,7 +63,7 @@ returns c =
     let refused : first (openRefusals (now (a .code)) (a .bundle) (a .slot) (a .family) (rowOf (a .family) (a .number))) ≡ accepted → ⊥ = λ e. c .before .if1 .taken (answer o ∙ e) in
     c .unplanned .ensures
     ∙ refused-by (now (a .code)) (a .bundle) (a .slot) (a .family) (a .number) (a .value) _
-      (plan-not-open (now (a .code)) (a .bundle) (a .slot) (a .family) (a .number) (a .value) refused ∙ sym (answer o)) (c .before .if1 .taken)
+    (plan-not-open (now (a .code)) (a .bundle) (a .slot) (a .family) (a .number) (a .value) refused ∙ sym (answer o)) (c .before .if1 .taken)
 
 width-requires : tie.Need-width-requires
 width-requires c κs = is-sound (c .before) .bits
@@ -98,7 +98,7 @@ returns-2 c =
     let a = e .before .before .before .before .args in
     c .unplanned2 .ensures
     ∙ refused-by (now (a .code)) (a .bundle) (a .slot) (a .family) (a .number) (a .value) 6
-      (plan-bad (now (a .code)) (a .bundle) (a .slot) (a .family) (a .number) (a .value) (done e) (sym (raw-is r) ∙ c .before .enum-told .given .1)) (eqb-false 6 0 refl)
+    (plan-bad (now (a .code)) (a .bundle) (a .slot) (a .family) (a .number) (a .value) (done e) (sym (raw-is r) ∙ c .before .enum-told .given .1)) (eqb-false 6 0 refl)
 
 cast-scatter : tie.Need-cast-scatter
 cast-scatter c = let h = is-sound (c .before .before .before .before .before .before .before) .in-bundle in omega arith
@@ -121,9 +121,9 @@ returns-3 c =
     let low : h .low < 2 ^ 64 = omega (arith, c .scatter .ok) in
     let high : h .high < 2 ^ 64 = omega (arith, c .scatter .ok) in
     let new-is =
-      c .scatter .ensures
-      ∙ ap₂ (λ (m : ℕ) (r : Row). scatter m (placed (a .slot) (r .parts)) (raw .0 .0)) n (row-is o)
-      ∙ ap (λ (r : Raw). scatter (numberAt (now (a .code)) (a .bundle)) (placed (a .slot) (row .parts)) (rawIn r)) (sym raw-of) in
+    c .scatter .ensures
+    ∙ ap₂ (λ (m : ℕ) (r : Row). scatter m (placed (a .slot) (r .parts)) (raw .0 .0)) n (row-is o)
+    ∙ ap (λ (r : Raw). scatter (numberAt (now (a .code)) (a .bundle)) (placed (a .slot) (row .parts)) (rawIn r)) (sym raw-of) in
     let new = sym (halves-whole (h .low) (h .high) low high) ∙ ap halvesOf new-is in
     (λ i. record { answer = e .if1 .left i; old = old i; new = new i })
     ∙ sym (plan-done (now (a .code)) (a .bundle) (a .slot) (a .family) (a .number) (a .value) (plan-good (now (a .code)) (a .bundle) (a .slot) (a .family) (a .number) (a .value) (done e) (raw .0 .0) raw-of))

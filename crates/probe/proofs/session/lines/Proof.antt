@@ -1,4 +1,4 @@
--- `session::lines`: the place stays within the text, and the lent buffers keep their lengths.
+-- `session::lines`: the place stays within the text, and the lent slices keep their lengths.
 use Prim.Native.Nat.{_≤_, _-_}
 use borrow.Author.Needs.{needs}
 use mathlib.Core.Path.{_≡_}
@@ -7,10 +7,10 @@ use Rattle.probe.proofs.session.lines.Statement.{statement}
 use Rattle.probe.proofs.session.lines.Tie as tie
 
 abbrev Inv-loop : tie.InvT-loop
-Inv-loop text code₀ out₀ t₀ from₀ code out t from = (from ≤ length text) × (length code ≡ length code₀) × (length out ≡ length out₀)
+Inv-loop text code₀ kept₀ out₀ t₀ from₀ code kept out t from = (from ≤ length text) × (length code ≡ length code₀) × (length kept ≡ length kept₀) × (length out ≡ length out₀)
 
 abbrev μ-loop : tie.MeasureT-loop
-μ-loop text code₀ out₀ t₀ from₀ code out t from = length text - from
+μ-loop text code₀ kept₀ out₀ t₀ from₀ code kept out t from = length text - from
 
 loop-holds : tie.Need-loop-holds Inv-loop μ-loop
 loop-holds c = search needs
@@ -24,14 +24,20 @@ same-length c = search needs
 same-length-2 : tie.Need-same-length-2 Inv-loop μ-loop
 same-length-2 c = search needs
 
-returns : tie.Need-returns Inv-loop μ-loop
-returns c = search needs
-
 same-length-3 : tie.Need-same-length-3 Inv-loop μ-loop
 same-length-3 c = search needs
 
+returns : tie.Need-returns Inv-loop μ-loop
+returns c = search needs
+
 same-length-4 : tie.Need-same-length-4 Inv-loop μ-loop
 same-length-4 c = search needs
+
+same-length-5 : tie.Need-same-length-5 Inv-loop μ-loop
+same-length-5 c = search needs
+
+same-length-6 : tie.Need-same-length-6 Inv-loop μ-loop
+same-length-6 c = search needs
 
 returns-2 : tie.Need-returns-2 Inv-loop μ-loop
 returns-2 c = search needs
@@ -54,11 +60,14 @@ loop-less c = search needs
 loop-again : tie.Need-loop-again Inv-loop μ-loop
 loop-again c = search needs
 
-same-length-5 : tie.Need-same-length-5 Inv-loop μ-loop
-same-length-5 c = search needs
+same-length-7 : tie.Need-same-length-7 Inv-loop μ-loop
+same-length-7 c = search needs
 
-same-length-6 : tie.Need-same-length-6 Inv-loop μ-loop
-same-length-6 c = search needs
+same-length-8 : tie.Need-same-length-8 Inv-loop μ-loop
+same-length-8 c = search needs
+
+same-length-9 : tie.Need-same-length-9 Inv-loop μ-loop
+same-length-9 c = search needs
 
 returns-3 : tie.Need-returns-3 Inv-loop μ-loop
 returns-3 c = search needs
@@ -73,9 +82,11 @@ lines-spec =
     first-requires
     same-length
     same-length-2
-    returns
     same-length-3
+    returns
     same-length-4
+    same-length-5
+    same-length-6
     returns-2
     part-line-start
     part-line-end
@@ -83,6 +94,7 @@ lines-spec =
     add-from
     loop-less
     loop-again
-    same-length-5
-    same-length-6
+    same-length-7
+    same-length-8
+    same-length-9
     returns-3)

@@ -1,4 +1,4 @@
--- `session::run`: the turns that are left fall, and the lent buffers keep their lengths.
+-- `session::run`: the turns that are left fall, and the lent slices keep their lengths.
 use Prim.Native.Nat.{_<_}
 use borrow.Author.Needs.{needs}
 use mathlib.Core.Path.{_≡_}
@@ -7,10 +7,10 @@ use Rattle.probe.proofs.session.run.Statement.{statement}
 use Rattle.probe.proofs.session.run.Tie as tie
 
 abbrev Inv-loop : tie.InvT-loop
-Inv-loop text₀ code₀ out₀ s₀ turns₀ text code out s turns = (turns < 18446744073709551616) × (length text ≡ length text₀) × (length code ≡ length code₀) × (length out ≡ length out₀)
+Inv-loop text₀ code₀ kept₀ out₀ s₀ turns₀ text code kept out s turns = (turns < 18446744073709551616) × (length text ≡ length text₀) × (length code ≡ length code₀) × (length kept ≡ length kept₀) × (length out ≡ length out₀)
 
 abbrev μ-loop : tie.MeasureT-loop
-μ-loop text₀ code₀ out₀ s₀ turns₀ text code out s turns = turns
+μ-loop text₀ code₀ kept₀ out₀ s₀ turns₀ text code kept out s turns = turns
 
 loop-holds : tie.Need-loop-holds Inv-loop μ-loop
 loop-holds c = search needs
@@ -30,6 +30,9 @@ same-length-2 c = search needs
 same-length-3 : tie.Need-same-length-3 Inv-loop μ-loop
 same-length-3 c = search needs
 
+same-length-4 : tie.Need-same-length-4 Inv-loop μ-loop
+same-length-4 c = search needs
+
 returns : tie.Need-returns Inv-loop μ-loop
 returns c = search needs
 
@@ -45,14 +48,17 @@ loop-less c = search needs
 loop-again : tie.Need-loop-again Inv-loop μ-loop
 loop-again c = search needs
 
-same-length-4 : tie.Need-same-length-4 Inv-loop μ-loop
-same-length-4 c = search needs
-
 same-length-5 : tie.Need-same-length-5 Inv-loop μ-loop
 same-length-5 c = search needs
 
 same-length-6 : tie.Need-same-length-6 Inv-loop μ-loop
 same-length-6 c = search needs
+
+same-length-7 : tie.Need-same-length-7 Inv-loop μ-loop
+same-length-7 c = search needs
+
+same-length-8 : tie.Need-same-length-8 Inv-loop μ-loop
+same-length-8 c = search needs
 
 returns-2 : tie.Need-returns-2 Inv-loop μ-loop
 returns-2 c = search needs
@@ -69,12 +75,14 @@ run-spec =
     same-length
     same-length-2
     same-length-3
+    same-length-4
     returns
     block-requires
     sub-turns
     loop-less
     loop-again
-    same-length-4
     same-length-5
     same-length-6
+    same-length-7
+    same-length-8
     returns-2)
