@@ -1,0 +1,36 @@
+// `operands F N WORD L`: the last-written position and five operands.
+use crate::operand_text;
+use crate::out;
+use operand::Position;
+use operand::Reading;
+
+pub fn answer(of: [u64; 6], out: &mut [u8], at: usize) -> usize {
+    let read = readers::operands(of[0], of[1], of[2], of[3]);
+    let name = out::text(out, at, b"operands");
+    let to = out::number(out, name, read.answer as u64);
+    let reading = read.reading;
+    let last = reading.position;
+    let end = out::text(out, to, &[b' ', position(last)]);
+    shown(out, end, reading)
+}
+
+fn position(p: Position) -> u8 {
+    match p {
+        Position::None => b'-',
+        Position::First => b'0',
+        Position::Second => b'1',
+    }
+}
+
+fn shown(out: &mut [u8], at: usize, reading: Reading) -> usize {
+    let operands = reading.operands;
+    let mut to = at;
+    let mut i = 0;
+    while i < 5 {
+        let one = operands[i];
+        let o = one.0;
+        to = operand_text::write(out, to, o);
+        i += 1;
+    }
+    to
+}

@@ -1,0 +1,26 @@
+// `sum`: the code's length, and a number that its bytes make.
+ghost use Prim.Native.Nat.{_<_};
+use crate::out;
+
+const PRIME: u64 = 4294967291;
+
+pub fn answer(code: &[u8], out: &mut [u8], at: usize) -> usize {
+    let to = out::text(out, at, b"sum");
+    out::numbers(out, to, &[code.len() as u64, of(code)])
+}
+
+fn of(code: &[u8]) -> u64 {
+    let mut h: u64 = 0;
+    let mut i = 0;
+    while i < code.len() {
+        h = (h * 257 + wide(code[i]) + 1) % PRIME;
+        i += 1;
+    }
+    h
+}
+
+fn wide(b: u8) -> u64
+    ensures { λ r. ⌜ r < 256 ⌝ }
+{
+    b as u64
+}

@@ -1,0 +1,511 @@
+"""Lines for `probe`: boundary cases, every refusal and every pair of them that can apply, and random runs.
+
+Each function takes a `Talk`, which keeps the lines with what the model answers to them.
+"""
+import itertools
+
+from model import FORMS, HUGE, PLACES, ROW, UNITS, WORD, Model, operand, sheet
+from standing import Standing
+
+LENGTHS = (0, 1, 15, 16, 17, 31, 32, 33, 48, 100, 65520, 65535, 65536, 65537, 65552, 65600)
+EDGES = (0, 1, 2, 15, 16, 31, 32, 255, 256, 4094, 4095, 4096, 65535, 65536, 1 << 32, (1 << 41) - 1, 1 << 41, (1 << 41) + 1,
+         (1 << 59) - 1, (1 << 60) - 1, 1 << 60, (1 << 60) + 1, 1 << 63, HUGE - 16, HUGE - 1)
+LETTERS = [ord(letter) for letter in FORMS]
+
+
+class Talk:
+    """Lines and answers, with the refusals that applied to each kind of call, alone and in pairs."""
+
+    def __init__(self, random):
+        self.random, self.model = random, Model()
+        self.lines, self.answers, self.seen = [], [], {}
+
+    def __call__(self, line):
+        line = line if isinstance(line, bytes) else line.encode()
+        answer = self.model.answer(line)
+        self.lines.append(line)
+        self.answers.append(answer)
+        if self.model.reasons:
+            applying = [number for number, applies in self.model.reasons if applies]
+            seen = self.seen.setdefault(line.split(b" ")[0].decode(), set())
+            seen.update([(0, 0)] if not applying else itertools.combinations_with_replacement(applying, 2))
+        return answer
+
+    def fill(self, length):
+        """A code of that length with random bytes, its tags as they come."""
+        self(f"code {length}")
+        for at in range(0, length, 65536):
+            self(f"put {at} {self.random.randbytes(min(65536, length - at)).hex()}")
+        self("sum")
+
+    def bundle(self, n, tag):
+        """Puts a random bundle with that tag, where it lies in the code."""
+        data = (self.random.getrandbits(128) & ~31 | tag).to_bytes(16, "little")
+        self(f"put {16 * n} {data.hex()}")
+
+    def any_number(self):
+        return self.random.choice((self.random.choice(EDGES), self.random.randrange(70), self.random.getrandbits(64)))
+
+
+# ---- the protocol
+
+SAMPLES = (
+    "code 40", "put 0 00ff10", "put 3 -", "get 0 4", "sum", "find 0", "cut 1", "join 20 16 1 2 3", "operands 77 49 0 0",
+    "immediate 0 2 66 1", "target 0 2 66 1 16", "journal 3", "place 2 1 2 3 4 5", "records", "edit 0 2 66 1 I-16", "undo",
+    "sheet 100", "load 70617463686573093020",
+)
+
+
+def protocol(talk, known):
+    """Lines that don't read, made from lines that do: none of them changes anything."""
+    random = talk.random
+    talk("code 40")
+    samples = [line for line in SAMPLES if line.split()[0] in known]
+    for line in samples:
+        name, *fields = line.split(" ")
+        spoilt = ["", " ", line + " ", " " + line, line + " 0", line.upper(), name[:-1], name + "x", line.replace(" ", "  ", 1),
+                  line.replace(" ", "\t"), line + "\r", name, "error", line + "\0", "-" + line]
+        for i in range(len(fields)):
+            for field in ("", "-", "+1", "01", "00", "-1", "1.0", "0x1", "1_0", str(HUGE), str(HUGE * 10), "9" * 40, "ff0", "FF", "0g", "x"):
+                spoilt.append(" ".join([name] + fields[:i] + [field] + fields[i + 1:]))
+            spoilt.append(" ".join([name] + fields[:i] + fields[i + 1:]))
+        for one in spoilt:
+            talk(one)
+            talk("sum")
+    for length in (399998, 400000, 400001, 400002, 524287, 524288, 524289, 1500000):
+        talk("code 40")
+        talk("put 0 " + "0" * (length - 6))
+        talk("x" * length)
+        talk("get 0 16")
+    talk("code 65600")
+    talk(f"put 0 {random.randbytes(65600).hex()}")
+    talk("sum")
+    for at, length in ((0, 1024), (0, 1025), (65600, 0), (65600, 1), (65601, 0), (65599, 1), (HUGE - 1, 1), (HUGE - 1, 2), (64576, 1024), (64577, 1024)):
+        talk(f"get {at} {length}")
+        talk(f"put {at} {'ab' * length or '-'}")
+    for line in ("code 65600", "code 65601", "code 0", "sum", "get 0 0", "get 0 1", "put 0 -", "put 0 00"):
+        talk(line)
+
+
+# ---- bundles
+
+def bundles(talk):
+    random = talk.random
+    for length in LENGTHS:
+        talk.fill(length)
+        around = {max(0, length // 16 + by) for by in (-2, -1, 0, 1, 2)} | set(EDGES) | {random.randrange(4100) for _ in range(20)}
+        for n in sorted(around):
+            talk(f"find {n}")
+            talk(f"cut {n}")
+            talk(f"get {16 * n} 16")
+    for tag in range(32):
+        for where in (0, 7):
+            talk("code 128")
+            talk.bundle(where, tag)
+            talk(f"cut {where}")
+            talk(f"find {where}")
+    talk.fill(65537)
+    for tag in range(32):
+        talk.bundle(tag, tag)
+        talk(f"cut {tag}")
+    for _ in range(3):
+        talk.fill(65536)
+        for n in range(0, 4096, random.choice((3, 5, 7))):
+            talk(f"cut {n}")
+    joins(talk)
+
+
+def joins(talk):
+    random = talk.random
+    words = (0, 1, WORD - 1, WORD, WORD + 1, 1 << 40, HUGE - 1)
+    for tag in (*range(34), 48, 255, 256, 272, 1 << 32, HUGE - 16, HUGE - 1):
+        for length in (0, 15, 16, 17, 64):
+            talk(f"join {length} {tag} {' '.join(str(random.getrandbits(41)) for _ in range(3))}")
+        for _ in range(6):
+            talk(f"join {random.randrange(66)} {tag} {' '.join(str(random.choice(words)) for _ in range(3))}")
+    for length in range(67):
+        talk(f"join {length} 16 {' '.join(str(random.getrandbits(41)) for _ in range(3))}")
+    for slot in range(3):
+        for word in words:
+            talk(f"join 16 1 {' '.join(str(word if k == slot else 0) for k in range(3))}")
+    for _ in range(2000):
+        talk(f"join 16 {random.choice(list(UNITS))} {' '.join(str(random.getrandbits(41)) for _ in range(3))}")
+
+
+# ---- operands: what is refused
+
+def refused_operands(talk):
+    for family in (*range(256), 256 + 65, 256 + 77, (1 << 32) + 77, HUGE - 1):
+        for number in (0, 1, 5, 6, 9, 10, 11, 16, 17, 48, 49, 255, 256, 257, 256 + 48, (1 << 32) + 1, HUGE - 1):
+            talk(f"operands {family} {number} {talk.random.choice((0, WORD - 1, WORD, HUGE - 1))} {talk.random.choice((0, WORD, HUGE - 1))}")
+    for family, count in FORMS.items():
+        for number in range(1, count + 1):
+            for word, l in itertools.product((0, WORD - 1, WORD, WORD + 1, HUGE - 1), repeat=2):
+                talk(f"operands {ord(family)} {number} {word} {l}")
+
+
+# ---- immediates
+
+def forms(random):
+    """A family and a number: mostly with a row, else a form with none, else no form."""
+    kind = random.random()
+    if kind < 0.75:
+        name = random.choice(list(ROW))
+        return ord(name[0]), int(name[1:])
+    if kind < 0.9:
+        family = random.choice(list(FORMS))
+        return ord(family), random.randrange(1, FORMS[family] + 1)
+    return random.choice((*LETTERS, 73, 76, 97, 0, 256 + 77, HUGE - 1)), random.choice((0, 1, 10, 11, 17, 49, 256 + 1, HUGE - 1))
+
+
+def fitting(random, family):
+    """A tag and a slot that such a form fits."""
+    letters = "IM" if family == 65 else chr(family) if family < 128 else "M"
+    pairs = [(tag, slot) for tag, units in UNITS.items() for slot in range(3) if units[slot] in letters]
+    return random.choice(pairs) if pairs else (random.randrange(32), random.randrange(3))
+
+
+def values(row):
+    """Numbers about a row's ends, and far outside."""
+    near = [row.low, row.high, 0, row.step, -row.step, 1, -1, 8, 15, 17, 1 << 20, 1 << 21, 1 << 62, (1 << 63) - 1, -(1 << 63), HUGE - 1, HUGE - 16]
+    for end in (row.low, row.high):
+        near += [end + by for by in (-16, -1, 1, 16, -row.step, row.step)]
+    return sorted(set(near))
+
+
+def operands_of(row):
+    """Every operand to try on a row: its numbers of both kinds, and the other kinds."""
+    for value in values(row):
+        if -(1 << 63) <= value < 1 << 63:
+            yield f"I{value}"
+        if 0 <= value < HUGE:
+            yield f"U{value}"
+    yield from OTHERS
+
+
+OTHERS = ("None", "G0", "G255", "F1", "P6", "B3", "AR64", "CR20", "Mem12", "PSR", "PSR_l", "PSR_um", "PR", "IP", "Ind:Rr:12", "Ind:Cpuid:0")
+
+
+def slots_of_rows():
+    """Each form with a row, with each tag and slot that it fits."""
+    for name in ROW:
+        for tag, units in UNITS.items():
+            for slot in range(3):
+                if units[slot] in ("IM" if name[0] == "A" else name[0]):
+                    yield name, tag, slot
+
+
+def immediates(talk):
+    random = talk.random
+    for name, tag, slot in slots_of_rows():
+        form = f"{slot} {ord(name[0])} {name[1:]}"
+        talk("code 48")
+        for _ in range(6):
+            talk.bundle(1, tag)
+            talk(f"immediate 1 {form}")
+            talk(f"target 1 {form} {random.getrandbits(60) * 16}")
+            talk(f"target 1 {form} {random.choice(EDGES)}")
+    for _ in range(12000):
+        talk.random_code()
+        n, slot, family, number = talk.random_place()
+        talk(f"immediate {n} {slot} {family} {number}")
+        talk(f"target {n} {slot} {family} {number} {random.choice((random.getrandbits(60) * 16, talk.any_number()))}")
+
+
+def random_code(talk):
+    """Now and then another code, most of them small; about one in eight too long."""
+    random = talk.random
+    if random.random() < 0.02 or not talk.lines:
+        talk.fill(random.choice((*LENGTHS, 48, 48, 160, 160, 320, 320)))
+
+
+def random_place(talk):
+    """Bundle, slot, family and number, each of them wrong now and then; the bundle's tag is often one that fits."""
+    random = talk.random
+    family, number = forms(random)
+    tag, slot = fitting(random, family)
+    inside = len(talk.model.code) // 16
+    n = random.randrange(inside) if inside and random.random() < 0.85 else random.choice((inside, inside + 1, *EDGES))
+    if n < inside and random.random() < 0.7:
+        talk.bundle(n, random.randrange(32) if random.random() < 0.2 else tag)
+    if random.random() < 0.1:
+        slot = random.choice((0, 1, 2, 3, 4, 255, 256, 258, HUGE - 1))
+    return n, slot, family, number
+
+
+Talk.random_code, Talk.random_place = random_code, random_place
+
+
+# ---- the journal
+
+def shown(talk, n=None):
+    """The whole code and journal, and a bundle."""
+    talk("sum")
+    talk("records")
+    if n is not None and 16 * n + 16 <= len(talk.model.code):
+        talk(f"get {16 * n} 16")
+
+
+def value_for(random, family, number):
+    row = ROW.get(f"{chr(family)}{number}") if family < 128 else None
+    if row is None or random.random() < 0.08:
+        return random.choice((*OTHERS, "I16", "U16", "I1", "U1", f"I{-(1 << 63)}", f"U{HUGE - 1}"))
+    if random.random() < 0.15:
+        return random.choice(list(operands_of(row)))
+    value = random.choice((row.low, row.high, row.low + random.randrange(1 << row.width) * row.step))
+    return f"{'I' if row.signed else 'U'}{value}"
+
+
+def row_edits(talk):
+    """Each row's ends and just outside, in every slot that it fits, with the neighbouring bits at random."""
+    for name, tag, slot in slots_of_rows():
+        talk("code 48")
+        talk("journal 0")
+        for value in operands_of(ROW[name]):
+            talk.bundle(1, tag)
+            talk(f"edit 1 {slot} {ord(name[0])} {name[1:]} {value}")
+            talk("get 0 48")
+            talk(f"immediate 1 {slot} {ord(name[0])} {name[1:]}")
+            if talk.random.random() < 0.5:
+                talk("undo")
+            if talk.model.count > 40:
+                talk("journal 0")
+        shown(talk)
+
+
+def runs(talk, count, calls):
+    """Runs from an empty journal, with nothing else writing the code: demand 3 is worked out beside the model."""
+    random = talk.random
+    for _ in range(count):
+        talk.fill(random.choice((16, 17, 47, 48, 160, 160, 160, 320, 320, 1000, 65520, 65535, 65536) if random.random() < 0.1 else (48, 80, 160, 170)))
+        inside = len(talk.model.code) // 16
+        busy = [random.randrange(inside) for _ in range(random.choice((1, 2, 5)))]
+        for n in busy:
+            talk.bundle(n, random.choice(list(UNITS)))
+        talk("journal 0")
+        standing = Standing(talk.model.code)
+        undoing = random.choice((0.1, 0.3, 0.5))
+        for _ in range(calls):
+            step(talk, standing, busy, undoing)
+        while standing.edits:
+            undo(talk, standing)
+        assert talk.model.code == standing.first, "undoing all edits doesn't give the first code"
+
+
+def step(talk, standing, busy, undoing):
+    """One edit or undo, predicted with no journal, and then the whole code and journal."""
+    random = talk.random
+    if random.random() < undoing:
+        return undo(talk, standing)
+    n = random.choice(busy)
+    units = UNITS.get(standing.code[16 * n] % 32, "MII")
+    slot = random.randrange(3)
+    names = [name for name in ROW if units[slot] in ("IM" if name[0] == "A" else name[0])] or list(ROW)
+    name = random.choice(names)
+    family, number = ord(name[0]), int(name[1:])
+    if random.random() < 0.15:
+        n, slot, (family, number) = random.choice((n, talk.any_number())), random.choice((slot, 3, HUGE - 1)), forms(random)
+    value = value_for(random, family, number)
+    taken = talk(f"edit {n} {slot} {family} {number} {value}") == "edit 0"
+    same(talk, standing, taken, standing.edit(n, slot, family, number, *operand(value)), n)
+
+
+def undo(talk, standing):
+    n = standing.edits[-1][0] if standing.edits else None
+    taken = talk("undo") == "undo 0"
+    same(talk, standing, taken, standing.undo(), n)
+
+
+def same(talk, standing, taken, predicted, n):
+    assert taken == predicted, f"demand 3 predicts another answer to {talk.lines[-1]}"
+    assert talk.model.code == standing.code, f"demand 3 gives another code after {talk.lines[-1]}"
+    assert talk.model.count == len(standing.edits), f"demand 3 gives another count after {talk.lines[-1]}"
+    shown(talk, n)
+
+
+def full(talk):
+    """The 65th edit is refused by 7; after an undo it is taken."""
+    talk("code 16")
+    talk("put 0 30000000004000000000800000000080")
+    talk("journal 0")
+    for i in range(PLACES + 2):
+        talk(f"edit 0 2 66 1 I{16 * i}")
+        shown(talk, 0)
+    for _ in range(2):
+        talk("undo")
+        talk("edit 0 2 66 1 I-16")
+        talk("edit 0 2 66 1 I-32")
+        shown(talk, 0)
+    for _ in range(PLACES + 2):
+        talk("undo")
+        shown(talk, 0)
+
+
+def refusals(talk, count):
+    """Edits and undos on journals and codes of every kind, so that refusals meet."""
+    random = talk.random
+    for _ in range(count):
+        talk.random_code()
+        if random.random() < 0.4:
+            any_journal(talk)
+        if random.random() < 0.3:
+            talk("undo")
+        else:
+            n, slot, family, number = talk.random_place()
+            talk(f"edit {n} {slot} {family} {number} {value_for(random, family, number)}")
+        if random.random() < 0.5:
+            talk("undo")
+        if random.random() < 0.2 and len(talk.model.code) >= 16:
+            talk(f"put {16 * random.randrange(len(talk.model.code) // 16)} {random.randbytes(1).hex()}")
+        shown(talk)
+
+
+def any_journal(talk):
+    """A journal that fits the code or doesn't, valid or not."""
+    random, code = talk.random, talk.model.code
+    count = random.choice((0, 1, 2, 3, 20, 63, 64, 65, 66, 1 << 32, HUGE - 1))
+    talk(f"journal {count}")
+    inside = max(1, len(code) // 16)
+    for i in range(min(count, PLACES)):
+        n = random.choice((random.randrange(inside), random.randrange(4096)))
+        old, new = random.getrandbits(128), random.getrandbits(128)
+        if random.random() < 0.6 and 16 * n + 16 <= len(code):
+            new = int.from_bytes(code[16 * n:16 * n + 16], "little")
+        talk(f"place {i} {n} {old % HUGE} {old >> 64} {new % HUGE} {new >> 64}")
+    last = min(count, PLACES) - 1
+    if random.random() < 0.25 and last >= 0:
+        talk(f"place {random.choice((last, random.randrange(last + 1)))} {random.choice((4096, 4097, 1 << 60, HUGE - 1))} 0 0 0 0")
+    if random.random() < 0.25 and last < PLACES - 1:
+        one = [0] * 5
+        one[random.randrange(5)] = random.choice((1, HUGE - 1))
+        talk(f"place {random.choice((last + 1, PLACES - 1))} {' '.join(map(str, one))}")
+
+
+def journals(talk):
+    full(talk)
+    row_edits(talk)
+    runs(talk, 120, 300)
+    refusals(talk, 20000)
+
+
+# ---- sheets
+
+def small_sheets():
+    return (sheet([(0, 70368744177712, 9223372036863164416, 70368744177712, 9223372105582641152)]),
+            sheet([(4095, 0, 1, HUGE - 1, 10), (7, 1 << 63, 20, 300, 4000)]))
+
+
+def load(talk, data):
+    talk(f"load {data.hex() or '-'}")
+
+
+def damaged(talk):
+    """Texts that are no sheets, or are by chance: after each the journal is shown."""
+    random = talk.random
+    for text in small_sheets():
+        talk("journal 65")
+        for at in range(len(text)):
+            for byte in range(256):
+                load(talk, text[:at] + bytes([byte]) + text[at + 1:])
+            load(talk, text[:at] + text[at + 1:])
+            for byte in b"\t\n0123 +-\r":
+                load(talk, text[:at] + bytes([byte]) + text[at:])
+            load(talk, text[:at])
+        talk("records")
+    head = b"patches\t"
+    record = b"1\t2\t3\t4\t5\n"
+    for text in (b"", head, head + b"0", head + b"0\n", head + b"00\n", head + b"+0\n", head + b"0\n\n", head + b" 0\n", head + b"0\r\n",
+                 head + b"-\n", head + b"1\n", head + b"0\n" + record, head + b"1\n" + record, head + b"1\n" + record[:-1],
+                 head + b"2\n" + record, head + b"1\n" + record * 2, b"Patches\t0\n", b"patches 0\n", b"patches\t0\t\n", b"\n" + head + b"0\n",
+                 b"\xef\xbb\xbf" + head + b"0\n", head + b"\xd9\xa0\n"):
+        talk("journal 65")
+        load(talk, text)
+        talk("records")
+    for field in range(5):
+        for value in ("0", "00", "01", "+1", "-1", " 1", "1 ", "", "4095", "4096", "65536", str(HUGE - 1), str(HUGE), str(HUGE + 1), str(HUGE * 10), "9" * 30, "0" * 21, "1.0", "0x1", "1e3", "1\r"):
+            fields = ["1", "2", "3", "4", "5"]
+            fields[field] = value
+            load(talk, head + b"1\n" + "\t".join(fields).encode() + b"\n")
+            talk("records")
+    for count in (0, 1, 2, 63, 64, 65, 66, 100, 1024):
+        for said in (count - 1, count, count + 1, HUGE + count):
+            load(talk, head + str(said).encode() + b"\n" + record * count)
+            talk("records")
+    for size in (1, 100, 5706, 5707, 5708, 65536, 199990):
+        load(talk, head + b"0\n" + b"\n" * size)
+        load(talk, random.randbytes(size))
+    talk("records")
+
+
+def written(talk):
+    """Sheets of journals of every kind into outputs of every length about their own, and loaded again."""
+    random = talk.random
+    talk("journal 64")
+    for i in range(PLACES):
+        talk(f"place {i} 4095 {' '.join([str(HUGE - 1)] * 4)}")
+    for length in (5706, 5707, 5708, 130000, 130001, 0):
+        talk(f"sheet {length}")
+    talk("records")
+    for _ in range(1500):
+        talk.random_code()
+        any_journal(talk)
+        text = sheet(talk.model.places[:min(PLACES, talk.model.count)])
+        for length in {0, len(text) - 1, len(text), len(text) + 1, random.randrange(6000)}:
+            talk(f"sheet {length}")
+        if random.random() < 0.5:
+            any_journal(talk)
+        load(talk, text)
+        talk("records")
+
+
+def sheets_in_runs(talk):
+    """Demand 3 with the sheet written and loaded between the calls of a run."""
+    random = talk.random
+    for _ in range(40):
+        talk.fill(160)
+        busy = list(range(10))
+        for n in busy:
+            talk.bundle(n, random.choice(list(UNITS)))
+        talk("journal 0")
+        standing = Standing(talk.model.code)
+        for _ in range(60):
+            if random.random() < 0.2:
+                text = talk("sheet 6000").split(" ")[3]
+                talk(f"load {text}")
+                shown(talk)
+            step(talk, standing, busy, 0.3)
+        while standing.edits:
+            undo(talk, standing)
+
+
+def sheets(talk):
+    written(talk)
+    damaged(talk)
+    sheets_in_runs(talk)
+
+
+# ---- stages, by the crate that brings them
+
+STAGES = {
+    "bundle": (("code", "put", "get", "sum", "find", "cut", "join"), bundles),
+    "readers": (("operands",), refused_operands),
+    "immediate": (("immediate", "target"), immediates),
+    "journal": (("journal", "place", "records", "edit", "undo"), journals),
+    "sheet": (("sheet", "load"), sheets),
+}
+
+# every pair of refusals (in 01's order) that can apply together; not among them: 1 with 2 and with 9, 8 with 1 and with 9
+TOGETHER = {
+    "find": "10 1", "cut": "10 1 2", "join": "4 2 12", "operands": "3 4", "immediate": "10 1 2 3 5", "target": "10 1 2 3 5 6",
+    "edit": "10 1 2 3 5 6 11 7", "undo": "10 11 8 1 9", "sheet": "11 12", "load": "13",
+}
+APART = {(1, 2), (1, 9), (8, 1), (8, 9)}
+
+
+def unseen(seen, known):
+    """The refusals and pairs of them that the lines so far don't have."""
+    for call, numbers in TOGETHER.items():
+        if call in known:
+            wanted = {(0, 0), *itertools.combinations_with_replacement(map(int, numbers.split()), 2)} - APART
+            for pair in sorted(wanted - seen.get(call, set())):
+                yield f"{call} {pair[0]} {pair[1]}"

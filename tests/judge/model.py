@@ -1,0 +1,408 @@
+"""Document 01 and the lines of `probe`, in Python: what each line is to be answered.
+
+Written from the two papers and not from the Rattle. A `Model` answers line by line, as the program does.
+"""
+import inspect
+import re
+
+UNITS = {
+    **dict.fromkeys(range(0, 4), "MII"), **dict.fromkeys((4, 5), "MLX"), **dict.fromkeys(range(8, 12), "MMI"),
+    **dict.fromkeys((12, 13), "MFI"), **dict.fromkeys((14, 15), "MMF"), **dict.fromkeys((16, 17), "MIB"),
+    **dict.fromkeys((18, 19), "MBB"), **dict.fromkeys((22, 23), "BBB"), **dict.fromkeys((24, 25), "MMB"),
+    **dict.fromkeys((28, 29), "MFB"),
+}
+FORMS = {letter: count for letter, count in (("A", 10), ("B", 9), ("F", 16), ("M", 48), ("X", 5))}
+
+# the immediates: forms, parts (word bits, both ends meant, to value bits; L before those of slot 1), meaning
+ROWS = """
+A2 A10                 27..28>0                                             plus-one
+A3 A8 M30              13..19>0 36>7                                        signed
+A4                     13..19>0 27..32>7 36>13                              signed
+A5                     13..19>0 27..35>7 22..26>16 36>21                    signed
+M3 M8 M15              13..19>0 27>7 36>8                                   signed
+M5 M10                 6..12>0 27>7 36>8                                    signed
+M17                    13..15>0                                             signed
+M20 M21                6..12>0 20..32>7 36>20                               times-16
+M22 M23 B1 B2 B3       13..32>0 36>20                                       times-16
+F14                    6..25>0 36>20                                        times-16
+M37 M48 F15 F16 B9     6..25>0 36>20                                        unsigned
+M44                    6..26>0 31..32>21 36>23                              unsigned
+X1 X5                  6..25>0 36>20 L0..40>21                              unsigned
+X2                     13..19>0 27..35>7 22..26>16 21>21 L0..40>22 36>63    unsigned
+X3 X4                  13..32>0 L2..40>20 36>59                             times-16
+"""
+MOST, WORD, PLACES = 65536, 1 << 41, 64
+HUGE = 1 << 64
+
+
+class Row:
+    """One immediate: where its bits are, and which numbers it holds."""
+
+    def __init__(self, parts, meaning):
+        self.parts = []
+        for part in parts:
+            word, first, last, to = re.fullmatch(r"(L?)(\d+)(?:\.\.(\d+))?>(\d+)", part).groups()
+            self.parts.append((1 if word else 0, int(first), int(last or first) - int(first) + 1, int(to)))
+        self.width = sum(width for _, _, width, _ in self.parts)
+        self.meaning = meaning
+        self.signed = meaning in ("signed", "times-16")
+        self.step = 16 if meaning == "times-16" else 1
+        low = -(1 << (self.width - 1)) if self.signed else int(meaning == "plus-one")
+        self.low, self.high = low * self.step, (low + (1 << self.width) - 1) * self.step
+
+    def read(self, words):
+        raw = sum((words[which] >> place) % (1 << width) << to for which, place, width, to in self.parts)
+        if self.signed and raw >> (self.width - 1):
+            raw -= 1 << self.width
+        return (raw + (self.meaning == "plus-one")) * self.step
+
+    def takes(self, value):
+        return self.low <= value <= self.high and value % self.step == 0
+
+    def write(self, words, value):
+        raw = (value // self.step - (self.meaning == "plus-one")) % (1 << self.width)
+        words = list(words)
+        for which, place, width, to in self.parts:
+            mask = (1 << width) - 1
+            words[which] = words[which] & ~(mask << place) | (raw >> to & mask) << place
+        return words
+
+
+def table():
+    rows = {}
+    for line in ROWS.strip().splitlines():
+        words = line.split()
+        parts = [word for word in words if ">" in word]
+        for form in words[: words.index(parts[0])]:
+            rows[form] = Row(parts, words[-1])
+    return rows
+
+
+ROW = table()
+
+
+def is_form(family, number):
+    return 0 <= family < 128 and 1 <= number <= FORMS.get(chr(family), 0)
+
+
+def row_of(family, number):
+    return ROW.get(f"{chr(family)}{number}") if is_form(family, number) else None
+
+
+def fits(family, units, slot):
+    if family == ord("X"):
+        return units == "MLX" and slot == 2
+    return units[slot] in ("IM" if family == ord("A") else chr(family))
+
+
+class Bundle:
+    """Sixteen bytes: a tag and three words."""
+
+    def __init__(self, data):
+        number = int.from_bytes(data, "little")
+        self.tag = number % 32
+        self.words = [number >> 5 + 41 * k & WORD - 1 for k in range(3)]
+        self.units = UNITS.get(self.tag)
+
+    def data(self):
+        return (self.tag + sum(word << 5 + 41 * k for k, word in enumerate(self.words))).to_bytes(16, "little")
+
+    def with_value(self, slot, row, value):
+        own, l = row.write([self.words[slot], self.words[1]], value)
+        if any(which for which, _, _, _ in row.parts):
+            self.words[1] = l
+        self.words[slot] = own
+        return self.data()
+
+
+def bundle_at(code, number):
+    return Bundle(code[16 * number:16 * number + 16]) if 16 * number + 16 <= len(code) else None
+
+
+def first(reasons):
+    """The number of the first refusal that applies, and 0 where none does."""
+    return next((number for number, applies in reasons if applies), 0)
+
+
+# ---- operands as text
+
+NAMES = {"None": None, "PSR": None, "PSR_l": None, "PSR_um": None, "PR": None, "IP": None}
+OPERAND = re.compile(
+    r"(?P<kind>G|F|P|B|AR|CR|Mem|Ind:(?:Cpuid|Dbr|Dtr|Ibr|Itr|Msr|Pkr|Pmc|Pmd|Rr):)(?P<register>0|[1-9][0-9]{0,2})"
+    r"|I(?P<signed>0|-?[1-9][0-9]{0,18})|U(?P<unsigned>0|[1-9][0-9]{0,19})")
+
+
+def operand(text):
+    """(kind, number) of an operand's text, or nothing."""
+    if text in NAMES:
+        return text, 0
+    found = OPERAND.fullmatch(text)
+    if not found:
+        return None
+    if found["signed"]:
+        value = int(found["signed"])
+        return ("I", value) if -(1 << 63) <= value < 1 << 63 else None
+    if found["unsigned"]:
+        value = int(found["unsigned"])
+        return ("U", value) if value < HUGE else None
+    return (found["kind"], int(found["register"])) if int(found["register"]) < 256 else None
+
+
+# ---- sheets
+
+DECIMAL = rb"(0|[1-9][0-9]*)"
+HEAD, RECORD = re.compile(rb"patches\t" + DECIMAL), re.compile(rb"\t".join([DECIMAL] * 5))
+
+
+def sheet(records):
+    lines = [f"patches\t{len(records)}"] + ["\t".join(map(str, one)) for one in records]
+    return "".join(line + "\n" for line in lines).encode()
+
+
+def loaded(text):
+    """The records of a sheet, or nothing where the text is none."""
+    lines = text.split(b"\n")
+    head = HEAD.fullmatch(lines[0])
+    if lines[-1] or not head or int(head[1]) > PLACES or int(head[1]) != len(lines) - 2:
+        return None
+    records = [RECORD.fullmatch(line) for line in lines[1:-1]]
+    if not all(records):
+        return None
+    records = [tuple(map(int, one.groups())) for one in records]
+    if any(one[0] > 4095 or max(one) >= HUGE for one in records):
+        return None
+    return records
+
+
+# ---- the lines
+
+NUMBER = re.compile(rb"0|[1-9][0-9]{0,19}")
+HEX = re.compile(rb"-|(?:[0-9a-f]{2})+")
+PRIME = 4294967291
+POWERS = [1]
+while len(POWERS) < 65601:
+    POWERS.append(POWERS[-1] * 257 % PRIME)
+
+
+class Unread(Exception):
+    """A line that doesn't read, or that the program doesn't have."""
+
+
+def number(field):
+    if not NUMBER.fullmatch(field) or int(field) >= HUGE:
+        raise Unread
+    return int(field)
+
+
+def data(field):
+    if not HEX.fullmatch(field):
+        raise Unread
+    return b"" if field == b"-" else bytes.fromhex(field.decode())
+
+
+def text(given):
+    return given.hex() or "-"
+
+
+class Model:
+    """The state of `probe`: a code and a journal. `reasons` has what applied to the last call."""
+
+    def __init__(self):
+        self.code, self.hash = bytearray(), 0
+        self.count, self.places, self.shown = 0, [(0,) * 5] * PLACES, {}
+        self.reasons = []
+
+    def answer(self, line):
+        fields = line.split(b" ")
+        self.reasons = []
+        try:
+            name = fields[0].decode("ascii")
+            if len(line) > 400000 or COUNT.get(name, len(fields)) != len(fields) - 1:
+                raise Unread
+            return getattr(self, "on_" + name)(*fields[1:])
+        except (Unread, UnicodeDecodeError):
+            return "error"
+
+    def refused(self, reasons):
+        self.reasons = reasons
+        return first(reasons)
+
+    # the code
+
+    def write(self, at, given):
+        for i, byte in enumerate(given, at):
+            self.hash += (byte - self.code[i]) * POWERS[len(self.code) - 1 - i]
+        self.hash %= PRIME
+        self.code[at:at + len(given)] = given
+
+    def on_code(self, length):
+        length = number(length)
+        if length > 65600:
+            raise Unread
+        self.code, self.hash = bytearray(length), sum(POWERS[:length]) % PRIME
+        return "ok"
+
+    def on_put(self, at, given):
+        at, given = number(at), data(given)
+        if at + len(given) > len(self.code):
+            raise Unread
+        self.write(at, given)
+        return "ok"
+
+    def on_get(self, at, length):
+        at, length = number(at), number(length)
+        if length > 1024 or at + length > len(self.code):
+            raise Unread
+        return f"bytes {text(self.code[at:at + length])}"
+
+    def on_sum(self):
+        return f"sum {len(self.code)} {self.hash}"
+
+    # bundles
+
+    def of_bundle(self, n):
+        """What finding refuses, and the bundle where its bytes lie in the code."""
+        bundle = bundle_at(self.code, n)
+        return [(10, len(self.code) > MOST), (1, bundle is None)], bundle
+
+    def on_find(self, n):
+        n = number(n)
+        reasons, bundle = self.of_bundle(n)
+        answer = self.refused(reasons)
+        return f"find {answer} {text(b'' if answer else bundle.data())}"
+
+    def on_cut(self, n):
+        reasons, bundle = self.of_bundle(number(n))
+        answer = self.refused(reasons + [(2, bundle and bundle.units is None)])
+        if answer:
+            return f"cut {answer} {bundle.tag if answer == 2 else 0} - 0 0 0"
+        return f"cut 0 {bundle.tag} {bundle.units} {' '.join(map(str, bundle.words))}"
+
+    def on_join(self, length, tag, w0, w1, w2):
+        length, tag, words = number(length), number(tag), [number(w0), number(w1), number(w2)]
+        if length > 64:
+            raise Unread
+        answer = self.refused([(4, max(words) >= WORD or tag > 31), (2, tag < 32 and tag not in UNITS), (12, length < 16)])
+        out = bytearray([238] * length)
+        if not answer:
+            out[:16] = (tag + sum(word << 5 + 41 * k for k, word in enumerate(words))).to_bytes(16, "little")
+        return f"join {answer} {text(out)}"
+
+    # operands: what is refused; what is read is for the oracle to say
+
+    def on_operands(self, family, form, word, l):
+        family, form, word, l = number(family), number(form), number(word), number(l)
+        bad = word >= WORD or (family == ord("X") and l >= WORD)
+        answer = self.refused([(3, not is_form(family, form)), (4, bad)])
+        return f"operands {answer} - None None None None None" if answer else None
+
+    # immediates
+
+    def of_slot(self, n, slot, family, form, row):
+        """What is refused before a value is looked at."""
+        reasons, bundle = self.of_bundle(n)
+        units = bundle.units if bundle else None
+        unfit = bool(slot <= 2 and units and is_form(family, form) and not fits(family, units, slot))
+        return reasons + [(2, bundle and not units), (3, row is None), (5, slot > 2 or unfit)], bundle
+
+    def on_immediate(self, n, slot, family, form):
+        n, slot, family, form = number(n), number(slot), number(family), number(form)
+        row = row_of(family, form)
+        reasons, bundle = self.of_slot(n, slot, family, form, row)
+        answer = self.refused(reasons)
+        if answer:
+            return f"immediate {answer} None"
+        return f"immediate 0 {'I' if row.signed else 'U'}{row.read([bundle.words[slot], bundle.words[1]])}"
+
+    def on_target(self, n, slot, family, form, address):
+        n, slot, family, form, address = map(number, (n, slot, family, form, address))
+        row = row_of(family, form)
+        row = row if row and row.step == 16 else None
+        reasons, bundle = self.of_slot(n, slot, family, form, row)
+        answer = self.refused(reasons + [(6, address % 16 != 0)])
+        if answer:
+            return f"target {answer} 0"
+        return f"target 0 {(address + row.read([bundle.words[slot], bundle.words[1]])) % HUGE}"
+
+    # the journal
+
+    def valid(self):
+        standing, rest = self.places[:self.count], self.places[self.count:]
+        return self.count <= PLACES and all(one[0] <= 4095 for one in standing) and not any(map(any, rest))
+
+    def place(self, i, one):
+        self.places[i] = one
+        self.shown[i] = f" {i}:" + ":".join(map(str, one)) if any(one) else ""
+
+    def halves(self, n):
+        given = self.code[16 * n:16 * n + 16]
+        return int.from_bytes(given[:8], "little"), int.from_bytes(given[8:], "little")
+
+    def on_journal(self, count):
+        self.count, self.places, self.shown = number(count), [(0,) * 5] * PLACES, {}
+        return "ok"
+
+    def on_place(self, i, bundle, old_low, old_high, new_low, new_high):
+        i, one = number(i), tuple(map(number, (bundle, old_low, old_high, new_low, new_high)))
+        if i >= PLACES:
+            raise Unread
+        self.place(i, one)
+        return "ok"
+
+    def on_records(self):
+        return f"records {self.count}" + "".join(self.shown[i] for i in sorted(self.shown))
+
+    def on_edit(self, n, slot, family, form, value):
+        n, slot, family, form = number(n), number(slot), number(family), number(form)
+        value = operand(value.decode("ascii"))
+        if value is None:
+            raise Unread
+        kind, value = value
+        row = row_of(family, form)
+        reasons, bundle = self.of_slot(n, slot, family, form, row)
+        wrong = kind not in "IU" or bool(row and (kind != ("I" if row.signed else "U") or not row.takes(value)))
+        answer = self.refused(reasons + [(6, wrong), (11, not self.valid()), (7, self.count == PLACES)])
+        if not answer:
+            old = self.halves(n)
+            self.write(16 * n, bundle.with_value(slot, row, value))
+            self.place(self.count, (n, *old, *self.halves(n)))
+            self.count += 1
+        return f"edit {answer}"
+
+    def on_undo(self):
+        n, *halves = self.places[self.count - 1] if 0 < self.count <= PLACES else (None,) * 5
+        inside = n is not None and 16 * n + 16 <= len(self.code)
+        stale = inside and list(self.halves(n)) != halves[2:]
+        answer = self.refused([
+            (10, len(self.code) > MOST), (11, not self.valid()), (8, self.count == 0),
+            (1, n is not None and not inside), (9, stale)])
+        if not answer:
+            self.count -= 1
+            self.write(16 * n, halves[0].to_bytes(8, "little") + halves[1].to_bytes(8, "little"))
+            self.place(self.count, (0,) * 5)
+        return f"undo {answer}"
+
+    # sheets
+
+    def on_sheet(self, length):
+        length = number(length)
+        if length > 130000:
+            raise Unread
+        wanted = sheet(self.places[:self.count]) if self.count <= PLACES else b""
+        answer = self.refused([(11, not self.valid()), (12, length < len(wanted))])
+        wanted = b"" if answer else wanted
+        return f"sheet {answer} {len(wanted)} {text(wanted)} {length - len(wanted)}"
+
+    def on_load(self, given):
+        records = loaded(data(given))
+        answer = self.refused([(13, records is None)])
+        if not answer:
+            self.on_journal(b"%d" % len(records))
+            for i, one in enumerate(records):
+                self.place(i, one)
+        return f"load {answer}"
+
+
+# how many fields follow each name
+COUNT = {name[3:]: len(inspect.signature(method).parameters) - 1
+         for name, method in vars(Model).items() if name.startswith("on_")}

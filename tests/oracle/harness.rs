@@ -1,0 +1,181 @@
+
+// Appended to 000's lib.rs: answers lines about its private readers and about how it cuts a bundle.
+//   F N WORD L     POS O0 O1 O2 O3 O4: what the reader of that form reads (F the family's byte)
+//   parts F N WORD L   the bit parts that it looks at on the way, as 6..13, those of the L word after an L
+//   cut HEX32      TAG UNITS W0 W1 W2, or TAG BadBundle W0 W1 W2
+fn main() {
+    harness::main()
+}
+
+mod harness {
+    use super::*;
+    use bitvec::trace;
+    use std::io::{BufRead, Write};
+
+    type Bits = BitArray<Lsb0, u8>;
+    type Read = (Option<u8>, [Operand; 5]);
+
+    /// The encoding of that name, its name being the family's letter and the number.
+    fn named<E: Copy + fmt::Debug>(all: &[E], family: u8, number: u64) -> Option<E> {
+        let name = format!("{}{}", char::from(family), number);
+        all.iter().copied().find(|one| format!("{one:?}") == name)
+    }
+
+    fn read(family: u8, number: u64, bits: &Bits) -> Option<Read> {
+        let (word, l) = (&bits[0..41], &bits[64..105]);
+        thread_local!(static LAST: core::cell::Cell<Option<(u8, u64, Form)>> = const { core::cell::Cell::new(None) });
+        let form = match LAST.with(|last| last.get()) {
+            Some((f, n, form)) if f == family && n == number => form,
+            _ => form(family, number)?,
+        };
+        LAST.with(|last| last.set(Some((family, number, form))));
+        Some(match form {
+            Form::A(encoding) => read_a_operands(encoding, word),
+            Form::B(encoding) => read_b_operands(encoding, word),
+            Form::F(encoding) => read_f_operands(encoding, word),
+            Form::M(encoding) => read_m_operands(encoding, word),
+            Form::X(encoding) => read_l_operands(encoding, word, l),
+        })
+    }
+
+    #[derive(Copy, Clone)]
+    enum Form {
+        A(OperandEncodingA),
+        B(OperandEncodingB),
+        F(OperandEncodingF),
+        M(OperandEncodingM),
+        X(OperandEncodingX),
+    }
+
+    fn form(family: u8, number: u64) -> Option<Form> {
+        match family {
+            b'A' => {
+                use OperandEncodingA::*;
+                named(&[A1, A2, A3, A4, A5, A6, A7, A8, A9, A10], family, number).map(Form::A)
+            }
+            b'B' => {
+                use OperandEncodingB::*;
+                named(&[B1, B2, B3, B4, B5, B6, B7, B8, B9], family, number).map(Form::B)
+            }
+            b'F' => {
+                use OperandEncodingF::*;
+                named(&[F1, F2, F3, F4, F5, F6, F7, F8, F9, F10, F11, F12, F13, F14, F15, F16], family, number).map(Form::F)
+            }
+            b'M' => {
+                use OperandEncodingM::*;
+                let all = [
+                    M1, M2, M3, M4, M5, M6, M7, M8, M9, M10, M11, M12, M13, M14, M15, M16, M17, M18, M19, M20, M21, M22, M23, M24,
+                    M25, M26, M27, M28, M29, M30, M31, M32, M33, M34, M35, M36, M37, M38, M39, M40, M41, M42, M43, M44, M45, M46, M47, M48,
+                ];
+                named(&all, family, number).map(Form::M)
+            }
+            b'X' => {
+                use OperandEncodingX::*;
+                named(&[X1, X2, X3, X4, X5], family, number).map(Form::X)
+            }
+            _ => None,
+        }
+    }
+
+    fn write_operand(out: &mut impl Write, operand: &Operand) -> std::io::Result<()> {
+        match operand {
+            Operand::None => write!(out, " None"),
+            Operand::GPRegister(r) => write!(out, " G{}", r.0),
+            Operand::FloatRegister(r) => write!(out, " F{}", r.0),
+            Operand::PredicateRegister(r) => write!(out, " P{}", r.0),
+            Operand::BranchRegister(r) => write!(out, " B{}", r.0),
+            Operand::ApplicationRegister(r) => write!(out, " AR{}", r.0),
+            Operand::ControlRegister(r) => write!(out, " CR{}", r.0),
+            Operand::ImmI64(n) => write!(out, " I{n}"),
+            Operand::ImmU64(n) => write!(out, " U{n}"),
+            Operand::Memory(r) => write!(out, " Mem{}", r.0),
+            Operand::PSR => write!(out, " PSR"),
+            Operand::PSR_l => write!(out, " PSR_l"),
+            Operand::PSR_um => write!(out, " PSR_um"),
+            Operand::PR => write!(out, " PR"),
+            Operand::IP => write!(out, " IP"),
+            Operand::Indirection(of, r) => write!(out, " Ind:{of:?}:{}", r.0),
+        }
+    }
+
+    /// The reading of a line `F N WORD L`.
+    fn reading(out: &mut impl Write, fields: &[&str]) -> Option<()> {
+        let (family, number, bits) = asked(fields)?;
+        let (position, operands) = read(family, number, &bits)?;
+        match position {
+            Some(n) => write!(out, "{n}").ok()?,
+            None => write!(out, "-").ok()?,
+        }
+        for operand in &operands {
+            write_operand(out, operand).ok()?;
+        }
+        Some(())
+    }
+
+    fn asked(fields: &[&str]) -> Option<(u8, u64, Bits)> {
+        let [family, number, word, l] = fields else { return None };
+        let bits = Bits::of_words(word.parse().ok()?, l.parse().ok()?);
+        Some((family.parse().ok()?, number.parse().ok()?, bits))
+    }
+
+    fn parts(out: &mut impl Write, fields: &[&str]) -> Option<()> {
+        let (family, number, bits) = asked(fields)?;
+        trace::begin();
+        let known = read(family, number, &bits);
+        let all = trace::end();
+        known?;
+        // the first two are the words themselves
+        for (i, part) in all[2..].iter().enumerate() {
+            let (mark, base) = if part.start < 64 { ("", 0) } else { ("L", 64) };
+            let gap = if i == 0 { "" } else { " " };
+            write!(out, "{gap}{mark}{}..{}", part.start - base, part.end - base).ok()?;
+        }
+        Some(())
+    }
+
+    /// The start of `decode_into` on sixteen bytes: the tag that it stores, whether it refuses, and
+    /// the three words as it cuts them itself. What comes after, the choice of an opcode, is no
+    /// part of this and may panic.
+    fn cut(out: &mut impl Write, fields: &[&str]) -> Option<()> {
+        let [hex] = fields else { return None };
+        let mut bytes = [0; 16];
+        for i in 0..16 {
+            bytes[i] = u8::from_str_radix(hex.get(i * 2..i * 2 + 2)?, 16).ok()?;
+        }
+        let mut bundle = InstructionBundle::default();
+        trace::begin();
+        let ended = std::panic::catch_unwind(core::panic::AssertUnwindSafe(|| {
+            InstDecoder::default().decode_into(&mut bundle, &mut yaxpeax_arch::Bytes(&bytes))
+        }));
+        let taken = trace::end();
+        let bits = Bits::of_bytes(bytes);
+        let units = match ended {
+            Ok(Err(DecodeError::BadBundle)) => String::from("BadBundle"),
+            Ok(Err(other)) => format!("{other:?}"),
+            Ok(Ok(())) | Err(_) => BUNDLE_TAGS[usize::from(bundle.bundle_tag())]?.0.iter().map(|unit| format!("{unit}")).collect(),
+        };
+        write!(out, "{} {units}", bundle.bundle_tag()).ok()?;
+        // the first part taken is the tag's
+        for word in taken.get(1..4)? {
+            write!(out, " {}", bits[word.clone()].load::<u64>()).ok()?;
+        }
+        Some(())
+    }
+
+    pub fn main() {
+        std::panic::set_hook(Box::new(|_| ()));
+        let mut out = std::io::BufWriter::with_capacity(1 << 20, std::io::stdout().lock());
+        let mut input = std::io::BufReader::with_capacity(1 << 20, std::io::stdin().lock());
+        let mut line = String::new();
+        while 0 < input.read_line(&mut line).expect("standard input") {
+            let fields: Vec<&str> = line.trim_end().split(' ').collect();
+            let known = match fields[0] {
+                "cut" => cut(&mut out, &fields[1..]),
+                "parts" => parts(&mut out, &fields[1..]),
+                _ => reading(&mut out, &fields),
+            };
+            out.write_all(if known.is_some() { b"\n" } else { b"error\n" }).expect("standard output");
+            line.clear();
+        }
+    }
+}
