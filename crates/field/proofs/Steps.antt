@@ -81,12 +81,3 @@ module _ (n slot : ℕ) (ps : List Part) (i : ℕ) (h : i < length ps) where
 -- what is gathered has as many bits as the parts
 pub gathered-lt : (n slot : ℕ) (ps : List Part) → gather n (placed slot ps) < 2 ^ bitsOf ps
 gathered-lt n slot ps = subst (λ (k : ℕ). gather n (placed slot ps) < 2 ^ k) (bits-placed slot ps) (gather-lt n (placed slot ps))
-
--- parts that can be read lie within the bundle
-pub readable-within : (slot : ℕ) (ps : List Part) → T (readable slot ps) → T (within 128 (placed slot ps))
-readable-within slot [] t = tt
-readable-within slot (p ∷ ps) t =
-    let a = and-yes (inBundle slot p && leb (p .1 + bitsOf ps) 64) (readable slot ps) t in
-    let b = and-yes (inBundle slot p) (leb (p .1 + bitsOf ps) 64) (a .0) in
-    let c = and-yes (ltb (p .0) 128 && ltb (p .1) 64 && ltb (standsAt slot (p .0)) 128) (leb (standsAt slot (p .0) + p .1) 128) (b .0) in
-    yes-and (leb (standsAt slot (p .0) + p .1) 128) (within 128 (placed slot ps)) (c .1) (readable-within slot ps (a .1))

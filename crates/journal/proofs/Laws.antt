@@ -9,20 +9,18 @@ use mir.Facts.{and-yes}
 use Rattle.answer.specs.Answer.{Refusal, accepted, badValue, first}
 use Rattle.answer.proofs.Laws.{none-applies, first-on, first-stop, accepts, refuses, answered}
 use Rattle.bundle.specs.Bundle.{numberAt, halvesOf, whole}
-use Rattle.bits.proofs.Parts.{scatter-lt}
 use Rattle.bundle.proofs.Bytes.{Bytes}
 use Rattle.bundle.proofs.Laws.{cut-found, number-at-lt}
 use Rattle.bundle.proofs.Lies.{Lies, lies}
 use Rattle.operand.specs.declared.Operand.{Operand}
 use Rattle.immediate.specs.Row.{rowOf}
-use Rattle.field.specs.Field.{placed}
-use Rattle.field.proofs.Steps.{readable-within}
 use Rattle.immediate.specs.Immediate.{Sound, openRefusals}
 use Rattle.immediate.proofs.Rows.{row-good}
 use Rattle.immediate.proofs.Laws.{opened, open-sound}
+use Rattle.immediate.proofs.Written.{written-lt}
 use Rattle.immediate.specs.declared.meaning.Raw.{Raw}
 use Rattle.immediate.specs.declared.meaning.Raw.the-variants.{Is, Bad}
-use Rattle.journal.specs.Edit.{isBad, rawFor, editedNumber, planRefusals, planOf, noHalves, rewritten, recordOf, editRefusals, editOf, undoRefusals, undoOf}
+use Rattle.journal.specs.Edit.{isBad, rawIn, rawFor, editedNumber, planRefusals, planOf, noHalves, rewritten, recordOf, editRefusals, editOf, undoRefusals, undoOf}
 use Rattle.journal.specs.Journal.{placesValid, validOf, roomRefusals, pushOf, lastOf, popOf}
 use Rattle.journal.specs.declared.records.Journal.{Journal}
 use Rattle.journal.specs.declared.plan.Plan.{Plan}
@@ -72,10 +70,18 @@ module _ (code : List ℕ) (k slot family number : ℕ) (value : Operand) where
   pub plan-sound : first (planRefusals code k slot family number value) ≡ accepted → Sound slot (rowOf family number)
   plan-sound e = open-sound code k slot family (rowOf family number) (row-good family number) (plan-opened e)
 
+  -- and its value has a raw number
+  pub plan-raw : first (planRefusals code k slot family number value) ≡ accepted → rawFor (rowOf family number) value ≡ Is (rawIn (rawFor (rowOf family number) value))
+  plan-raw e = let n = none-applies (planRefusals code k slot family number value) tt e in some (rawFor (rowOf family number) value) (n .1 .1 .1 .1 .1 .0)
+    where
+      some : (r : Raw) → isBad r ≡ false → r ≡ Is (rawIn r)
+      some (Is raw) h = refl
+      some Bad h = absurd (subst T h tt)
+
   -- an edited bundle is a number below 2 ^ 128
   pub edited-lt : first (planRefusals code k slot family number value) ≡ accepted → Bytes code → editedNumber (numberAt code k) slot family number value < 2 ^ 128
   edited-lt e b =
-      scatter-lt 128 (numberAt code k) (placed slot (rowOf family number .parts)) _ (readable-within slot (rowOf family number .parts) (plan-sound e .reads))
+      written-lt slot (rowOf family number) (plan-sound e) (numberAt code k) _
       (number-at-lt code k (cut-found code k (opened code k slot family (rowOf family number) (plan-opened e) .cut)) b)
 
   module _ (journal : Journal) where

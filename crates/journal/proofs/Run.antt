@@ -20,12 +20,15 @@ use Rattle.bundle.proofs.Bytes.{Bytes}
 use Rattle.bundle.proofs.Halves.{whole-halves}
 use Rattle.bundle.proofs.Laws.{number-at-lt}
 use Rattle.bundle.proofs.Lies.{Lies, found-when}
+use Rattle.immediate.specs.Row.{rowOf}
+use Rattle.immediate.specs.Immediate.{valueIn}
+use Rattle.immediate.proofs.Written.{read-written}
 use Rattle.journal.specs.Journal.{validOf, roomRefusals, lastOf, popOf}
 use Rattle.journal.specs.Edit.{Outcome, rewritten, sameHalves, editedNumber, editRefusals, editOf, undoRefusals, undoOf, recordOf}
-use Rattle.journal.specs.Demand3.{Edit, Call, edit, undo, step, run, made, madeAll, unfit, answerTo, taken, after, standing, recordsOf, journalOf, expected, immediateOf, OnlyItsBits, thenUndo, Holds, Demand3}
+use Rattle.journal.specs.Demand3.{Edit, Call, edit, undo, step, run, made, madeAll, unfit, answerTo, taken, after, standing, recordsOf, journalOf, expected, bitsOf, SetsOnlyItsBits, thenUndo, Holds, Demand3}
 use Rattle.journal.specs.declared.records.Record.{Record}
 use Rattle.journal.specs.declared.records.Journal.{Journal}
-use Rattle.journal.proofs.Laws.{plan-lies, edited-lt, edit-refused-by, edit-done, edit-unplanned, edit-planned, undo-refused, undo-done}
+use Rattle.journal.proofs.Laws.{plan-lies, plan-sound, plan-raw, edited-lt, edit-refused-by, edit-done, edit-unplanned, edit-planned, undo-refused, undo-done}
 use Rattle.journal.proofs.Rewritten.{rewritten-before, rewritten-past, rewritten-number, rewritten-length, rewritten-twice, rewritten-bytes, rewritten-own}
 use Rattle.journal.proofs.Standing.{Low, low-snoc, plus-one, journal-valid, pushed-is, last-is, popped-is}
 
@@ -71,12 +74,16 @@ module _ (code : List ℕ) (e : Edit) (fits : Fits code e) where
         ∙ ap (rewritten code (e .bundle)) (whole-halves _ (number-at-lt code (e .bundle) (found-when code (e .bundle) in-code) b))
         ∙ rewritten-own code (e .bundle) in-code b
 
-    only-its-bits : OnlyItsBits code e
+    only-its-bits : SetsOnlyItsBits code e
     unfolding made
     only-its-bits =
         record {
+          value =
+              ap (valueIn (rowOf (e .family) (e .number)) (e .slot)) made-number
+              ∙ read-written (e .slot) (rowOf (e .family) (e .number)) (plan-sound code (e .bundle) (e .slot) (e .family) (e .number) (e .value) fits) (numberAt code (e .bundle)) _ (e .value)
+              (plan-raw code (e .bundle) (e .slot) (e .family) (e .number) (e .value) fits);
           before = rewritten-before code (e .bundle) in-code (newNumber code e);
-          bits = λ i t. ap (λ (n : ℕ). bit n i) made-number ∙ scatter-bit (numberAt code (e .bundle)) i (immediateOf e) _ t;
+          bits = λ i t. ap (λ (n : ℕ). bit n i) made-number ∙ scatter-bit (numberAt code (e .bundle)) i (bitsOf e) _ t;
           past = rewritten-past code (e .bundle) in-code (newNumber code e);
         }
 
@@ -254,7 +261,7 @@ module _ (code : List ℕ) (b : Bytes code) (short : length code ≤ 65536) wher
         journal-is = reached calls .1;
         next-is = next calls;
         edits-only = λ e a.
-            subst (λ (c : List ℕ). OnlyItsBits c e) (sym (reached calls .0))
+            subst (λ (c : List ℕ). SetsOnlyItsBits c e) (sym (reached calls .0))
             (only-its-bits (madeAll code es) e (taken-fits es (all-stand calls) e (sym (answer (edit e)) ∙ a) .0) (all-bytes es (all-stand calls)));
         refused-keeps = λ call d.
             let same = refuses (answerTo code es call) (taken es call) es (λ a. d (answer call ∙ a)) in (

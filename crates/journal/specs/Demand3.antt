@@ -14,6 +14,7 @@ use Rattle.bundle.specs.Bundle.{numberAt}
 use Rattle.field.specs.Field.{placed}
 use Rattle.operand.specs.declared.Operand.{Operand}
 use Rattle.immediate.specs.Row.{rowOf}
+use Rattle.immediate.specs.Immediate.{valueIn}
 use Rattle.journal.specs.Journal.{noRecord, fresh}
 use Rattle.journal.specs.Edit.{Outcome, rewritten, editedNumber, planRefusals, recordOf, editOf, undoOf}
 use Rattle.journal.specs.declared.records.Record.{Record}
@@ -95,13 +96,14 @@ expected code es call =
     }
 
 -- the bits of an edit's immediate in its bundle
-abbrev pub immediateOf : Edit → Parts
-immediateOf e = placed (e .slot) (rowOf (e .family) (e .number) .parts)
+abbrev pub bitsOf : Edit → Parts
+bitsOf e = placed (e .slot) (rowOf (e .family) (e .number) .parts)
 
--- an edit changes no bit but those of its immediate
-pub record OnlyItsBits (code : List ℕ) (e : Edit) : Type 0 where
+-- an edit sets the bits of its one immediate and no other
+pub record SetsOnlyItsBits (code : List ℕ) (e : Edit) : Type 0 where
+  pub value : valueIn (rowOf (e .family) (e .number)) (e .slot) (numberAt (made code e) (e .bundle)) ≡ e .value
   pub before : take (16 * e .bundle) (made code e) ≡ take (16 * e .bundle) code
-  pub bits : (i : ℕ) → T (apartFrom (i, 1) (immediateOf e)) → bit (numberAt (made code e) (e .bundle)) i ≡ bit (numberAt code (e .bundle)) i
+  pub bits : (i : ℕ) → T (apartFrom (i, 1) (bitsOf e)) → bit (numberAt (made code e) (e .bundle)) i ≡ bit (numberAt code (e .bundle)) i
   pub past : drop (16 * e .bundle + 16) (made code e) ≡ drop (16 * e .bundle + 16) code
 
 -- the calls, and then so many undos
@@ -113,7 +115,7 @@ pub record Holds (code : List ℕ) (calls : List Call) : Type 0 where
   pub code-is : run code calls .code ≡ madeAll code (standing code calls)
   pub journal-is : run code calls .journal ≡ journalOf code (standing code calls)
   pub next-is : (call : Call) → run code (call ∷ calls) ≡ expected code (standing code calls) call
-  pub edits-only : (e : Edit) → run code (edit e ∷ calls) .answer ≡ accepted → OnlyItsBits (run code calls .code) e
+  pub edits-only : (e : Edit) → run code (edit e ∷ calls) .answer ≡ accepted → SetsOnlyItsBits (run code calls .code) e
   pub refused-keeps : (call : Call) → (run code (call ∷ calls) .answer ≡ accepted → ⊥)
       → (run code (call ∷ calls) .code ≡ run code calls .code) × (run code (call ∷ calls) .journal ≡ run code calls .journal)
   pub undo-refused : (run code (undo ∷ calls) .answer ≡ accepted → ⊥) → standing code calls ≡ []

@@ -5,15 +5,14 @@ use mathlib.Core.List.{List, [], _∷_, _++_}
 use lib.Dec.{eqb, ltb}
 use lib.ListN.{length, take, drop}
 use Rattle.answer.specs.Answer.{Refusal, first, outcome, accepted, exhaustedInput, badValue, empty, stale, tooLong, badJournal}
-use Rattle.bits.specs.Parts.{scatter}
 use Rattle.bundle.specs.Bytes.{bytes}
 use Rattle.bundle.specs.Bundle.{numberAt, halvesOf, whole}
 use Rattle.bundle.specs.declared.half.Halves.{Halves}
-use Rattle.field.specs.Field.{placed, bitsOf}
+use Rattle.field.specs.Field.{bitsOf}
 use Rattle.operand.specs.declared.Operand.{Operand}
 use Rattle.immediate.specs.Row.{rowOf}
 use Rattle.immediate.specs.Meaning.{rawOf}
-use Rattle.immediate.specs.Immediate.{openRefusals}
+use Rattle.immediate.specs.Immediate.{openRefusals, written}
 use Rattle.immediate.specs.declared.row.Row.{Row}
 use Rattle.immediate.specs.declared.meaning.Raw.{Raw}
 use Rattle.immediate.specs.declared.meaning.Raw.the-variants.{Is, Bad}
@@ -38,7 +37,7 @@ rawFor row value = rawOf (row .meaning) (bitsOf (row .parts)) value
 -- a bundle's number with a value in a form's immediate
 abbrev pub editedNumber : ℕ → ℕ → ℕ → ℕ → Operand → ℕ
 editedNumber n slot family number value =
-    scatter n (placed slot (rowOf family number .parts)) (rawIn (rawFor (rowOf family number) value))
+    written (rowOf family number) slot n (rawIn (rawFor (rowOf family number) value))
 
 -- the code with bundle k made anew
 unfoldable pub rewritten : List ℕ → ℕ → ℕ → List ℕ
