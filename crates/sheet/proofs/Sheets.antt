@@ -42,3 +42,9 @@ lines-within (r ∷ rs) (suc i) (suc n) h =
 pub sheet-length : (j : Journal) → length (sheetOf j) ≡ length (decimal (j .count)) + 9 + length (linesOf (take (j .count) (j .records)))
 unfolding sheetOf
 sheet-length j = length-append (headerOf (j .count)) (linesOf (take (j .count) (j .records))) ∙ omega (arith, header-length (j .count))
+
+-- the line of record i ends within the sheet
+pub line-within : (j : Journal) (i : ℕ) → i < j .count → i < length (j .records) → length (decimal (j .count)) + 9 + length (linesOf (take i (j .records))) + length (lineOf (getD (j .records) i noRecord)) ≤ length (sheetOf j)
+line-within j i h l =
+    let e = ap length (lines-more (j .records) i l) ∙ length-append (linesOf (take i (j .records))) (lineOf (getD (j .records) i noRecord)) in
+    omega (arith, e, sheet-length j, lines-within (j .records) (i + 1) (j .count) (omega arith))

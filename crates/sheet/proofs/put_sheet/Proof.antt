@@ -1,64 +1,86 @@
+-- `sheet::put_sheet` meets its contract: the first line and the records' lines, one after the other. The loop's invariant: the lines of
+-- the first `i` records are written. Assumes nothing.
+use mathlib.Core.Path.{_≡_, refl, sym, ap, _∙_}
+use mathlib.Core.List.{List, _∷_, []}
+use Prim.Native.Nat.{ℕ, _+_, _-_, _≤_, _<_}
+use native.Mathlib.Nat.{le-antisymm, add-zero}
+use native.Mathlib.Omega.{arith}
+use borrow.Author.Needs.{needs}
+use lib.ListN.{length, take, getD, length-map}
+use Rattle.journal.specs.Journal.{noRecord}
+use Rattle.text.specs.Put.{Put}
+use Rattle.text.specs.Decimal.{decimal}
+use Rattle.text.proofs.Writing.{put-then, put-length, field-length}
+use Rattle.sheet.specs.Sheet.{lineOf, linesOf, sheetOf}
+use Rattle.sheet.proofs.Sheets.{lines-more, lines-within, sheet-length, line-within}
 use Rattle.sheet.proofs.put_sheet.Statement.{statement}
 use Rattle.sheet.proofs.put_sheet.Tie as tie
-use Rattle.sheet.proofs.put_sheet.Reads as reads
-use Rattle.sheet.proofs.put_sheet.Lts as lts
-use Rattle.sheet.proofs.line.put_line.Reads as put-line-reads
-use Rattle.text.proofs.put_field.Reads as put-field-reads
-use Rattle.text.proofs.put_text.Reads as put-text-reads
 
 abbrev Inv-loop : tie.InvT-loop
-Inv-loop out₀ journal count start at₀ i₀ out at i = ?
+Inv-loop out₀ journal count start at₀ i₀ out at i = (i ≤ count) × Put out₀ at₀ (linesOf (take i (journal .records))) out at
 
 abbrev μ-loop : tie.MeasureT-loop
-μ-loop out₀ journal count start at₀ i₀ out at i = ?
+μ-loop out₀ journal count start at₀ i₀ out at i = count - i
 
--- src/lib.rt:67:40
+-- an array of 64 has as many elements
+places : (c : tie.Start Inv-loop μ-loop) → length (c .args .t2 .records) ≡ 64
+places c = sym (length-map (c .args .t2 .records) _) ∙ c .good .1 .0 .1 .1 .1 .0 .1 .0 .1
+
+-- record i, at which a turn is
+module _ (c : tie.In-loop Inv-loop μ-loop) where
+  in-place : c .before .loop .i < length (c .before .before .before .before .before .before .before .before .before .before .before .before .args .t2 .records)
+  in-place = omega (arith, places (c .before .before .before .before .before .before .before .before .before .before .before .before), c .loop-test .taken)
+
+-- the place after the first line
+after-head : (c : tie.At-loop Inv-loop μ-loop) → c .before .before .before .put-field .result ≡ length (decimal (c .before .before .before .before .before .before .before .before .before .before .before .args .t2 .count)) + 9
+after-head c = omega (arith, c .before .before .before .put-field .ensures .place, c .before .before .before .before .before .before .before .put-text .ensures .place, field-length (decimal (c .before .before .before .before .before .before .before .before .before .before .before .args .t2 .count)) 10)
+
 slice-aggregate-put-text : tie.Need-slice-aggregate-put-text Inv-loop μ-loop
-slice-aggregate-put-text c = ?
+slice-aggregate-put-text c = search needs
 
--- src/lib.rt:67:9
 put-text-requires : tie.Need-put-text-requires Inv-loop μ-loop
-put-text-requires c κs = ?
+put-text-requires c κs = omega arith
 
--- src/lib.rt:68:9
 put-field-requires : tie.Need-put-field-requires Inv-loop μ-loop
-put-field-requires c κs = ?
+put-field-requires c κs = omega (arith, sheet-length (c .before .before .before .before .before .before .before .args .t2))
 
--- src/lib.rt:70:5
 loop-holds : tie.Need-loop-holds Inv-loop μ-loop
-loop-holds c = ?
+loop-holds c = (omega arith, record { bytes = refl; place = sym (add-zero _) })
 
--- src/lib.rt:71:21
 mul-place : tie.Need-mul-place Inv-loop μ-loop
-mul-place c = ?
+mul-place c = search needs
 
--- src/lib.rt:71:21
 element-copy-out-place : tie.Need-element-copy-out-place Inv-loop μ-loop
-element-copy-out-place c = ?
+element-copy-out-place c = omega (arith, in-place c)
 
--- src/lib.rt:72:9
 put-line-requires : tie.Need-put-line-requires Inv-loop μ-loop
-put-line-requires c κs = ?
+put-line-requires c κs =
+    let l = c .before .before .before in
+    let j = l .before .before .before .before .before .before .before .before .before .before .before .args .t2 in
+    omega (arith, l .loop .inv .1 .place, after-head l, line-within j (l .loop .i) (c .before .before .loop-test .taken) (in-place (c .before .before)))
 
--- src/lib.rt:73:9
 add-i : tie.Need-add-i Inv-loop μ-loop
-add-i c = ?
+add-i c = omega arith
 
--- src/lib.rt:70:5
 loop-less : tie.Need-loop-less Inv-loop μ-loop
-loop-less c = ?
+loop-less c = omega arith
 
--- src/lib.rt:70:5
 loop-again : tie.Need-loop-again Inv-loop μ-loop
-loop-again c = ?
+loop-again c =
+    let l = c .before .before .before .before .before .before in
+    let j = l .before .before .before .before .before .before .before .before .before .before .before .args .t2 in
+    (omega arith, rw (lines-more (j .records) (l .loop .i) (in-place (c .before .before .before .before .before))) (put-then (l .loop .inv .1) (c .before .before .put-line .ensures)))
 
--- src/lib.rt:62:1
 same-length : tie.Need-same-length Inv-loop μ-loop
-same-length c = ?
+same-length c = put-length (put-then (c .before .before .before .before .before .before .before .before .put-text .ensures) (put-then (c .before .before .before .before .put-field .ensures) (c .before .loop .inv .1)))
 
--- src/lib.rt:62:1
 returns : tie.Need-returns Inv-loop μ-loop
-returns c = ?
+unfolding sheetOf
+returns c =
+    let l = c .before .loop in
+    let j = c .before .before .before .before .before .before .before .before .before .before .before .before .args .t2 in
+    let e : l .i ≡ j .count = le-antisymm (l .inv .0) (c .loop-test .left) in
+    put-then (c .before .before .before .before .before .before .before .before .put-text .ensures) (put-then (c .before .before .before .before .put-field .ensures) (rw e at (l .inv .1)))
 
 pub put-sheet-spec : {M : Type 1} → statement M
 put-sheet-spec =
