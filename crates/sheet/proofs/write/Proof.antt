@@ -1,39 +1,71 @@
+-- `sheet::write` meets its contract: a case of writing a whole text at each return. Assumes nothing.
+use mathlib.Core.Path.{_≡_, refl, sym, ap, _∙_}
+use mathlib.Core.Bool.{true}
+use Prim.Native.Nat.{_≤_}
 use borrow.Author.Needs.{needs}
+use borrow.Author.Tests.{leb-true, leb-false, eqb-false, not-true, not-false}
+use lib.ListN.{length, length-map}
+use Rattle.answer.specs.Answer.{first, accepted, badJournal}
+use Rattle.journal.specs.Journal.{validOf}
+use Rattle.journal.specs.declared.records.Journal.{Journal}
+use Rattle.journal.proofs.Laws.{valid-count}
+use Rattle.text.proofs.Wholes.{whole-refused, whole-no-room, whole-put}
+use Rattle.sheet.specs.Held.{Held}
+use Rattle.sheet.specs.Sheet.{sheetOf, writeRefusals}
+use Rattle.sheet.proofs.Lengths.{sheet-most}
+use Rattle.sheet.proofs.Owned.{owned}
 use Rattle.sheet.proofs.write.Statement.{statement}
 use Rattle.sheet.proofs.write.Tie as tie
-use Rattle.sheet.proofs.write.Reads as reads
-use Rattle.sheet.proofs.write.Lts as lts
-use Rattle.journal.proofs.valid.Reads as valid-reads
-use Rattle.sheet.proofs.fits.Reads as fits-reads
-use Rattle.sheet.proofs.put_sheet.Reads as put-sheet-reads
 
--- src/lib.rt:30:9
+held : (c : tie.Start) → Held (c .args .journal)
+held c =
+    let array = c .good .0 .1 .1 .1 .0 in
+    let rs = c .args .journal .records in
+    record {
+      places = sym (length-map rs _) ∙ array .1 .0 .1;
+      old = λ i. owned rs (array .0) i (array .1 .1) .0;
+      new = λ i. owned rs (array .0) i (array .1 .1) .1;
+    }
+
+is-valid : (c : tie.Else1) → validOf (c .before .before .before .args .journal) ≡ true
+is-valid c = sym (c .before .valid .ensures) ∙ not-false _ (c .if1 .left)
+
+none-refuses : (c : tie.Else1) → first (writeRefusals (c .before .before .before .args .journal)) ≡ accepted
+none-refuses c = rw (is-valid c)
+
+short : (c : tie.Else1) → (c .before .before .before .args .journal .count ≤ 64) × (length (sheetOf (c .before .before .before .args .journal)) ≤ 5707)
+short c =
+    let j = c .before .before .before .args .journal in
+    (valid-count j (is-valid c), sheet-most j (held (c .before .before .before)) (is-valid c))
+
 valid-requires : tie.Need-valid-requires
 valid-requires c κs = search needs
 
--- src/lib.rt:31:9
 returns : tie.Need-returns
-returns c = ?
+returns c =
+    let j = c .before .before .before .args .journal in
+    whole-refused (writeRefusals j) _ _ badJournal (rw (sym (c .before .valid .ensures) ∙ not-true _ (c .if1 .taken))) (eqb-false badJournal accepted refl)
 
--- src/lib.rt:36:8
 fits-requires : tie.Need-fits-requires
-fits-requires c κs = ?
+fits-requires c κs = short c
 
--- src/lib.rt:37:13
 put-sheet-requires : tie.Need-put-sheet-requires
-put-sheet-requires c κs = ?
+put-sheet-requires c κs = short (c .before .before .before)
 
--- src/lib.rt:38:9
 same-length : tie.Need-same-length
 same-length c = search needs
 
--- src/lib.rt:38:9
 returns-2 : tie.Need-returns-2
-returns-2 c = ?
+returns-2 c =
+    let e = c .before .before .before .before .before .before in
+    let j = e .before .before .before .args .journal in
+    whole-put (writeRefusals j) _ _ tt (none-refuses e) (leb-true _ _ (sym (c .before .before .before .before .before .fits2 .ensures) ∙ c .before .before .before .before .if2 .taken)) (c .before .before .put-sheet .ensures)
 
--- src/lib.rt:27:1
 returns-3 : tie.Need-returns-3
-returns-3 c = ?
+returns-3 c =
+    let e = c .before .before in
+    let j = e .before .before .before .args .journal in
+    whole-no-room (writeRefusals j) _ _ tt (none-refuses e) (leb-false _ _ (sym (c .before .fits2 .ensures) ∙ c .if2 .left))
 
 pub write-spec : {M : Type 1} → statement M
 write-spec =
