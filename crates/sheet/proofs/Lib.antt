@@ -1,3 +1,4 @@
 pub mod Lengths
 pub mod Owned
+pub mod Reading
 pub mod Sheets

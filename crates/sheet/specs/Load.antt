@@ -1,5 +1,5 @@
 -- The journal that a sheet is of: `patches`, a tab, the count, a line for each record, and nothing after it. Assumes nothing.
-use Prim.Native.Nat.{ℕ, zero, suc}
+use Prim.Native.Nat.{ℕ, zero, suc, _+_}
 use mathlib.Core.Bool.{Bool, true, false, cond, _&&_}
 use mathlib.Core.List.{List, [], _∷_}
 use mathlib.Core.Option.{Option, none, some}
@@ -42,7 +42,7 @@ startsWith (c ∷ cs) (d ∷ text) = eqb d c && startsWith cs text
 -- a number at a place that ends in the byte `end`, which isn't 0, and the place after it
 unfoldable pub fieldAt : List ℕ → ℕ → ℕ → Number
 fieldAt text at end =
-    afterNumber (numberOf text at) (λ n next. cond (leb (length text) next) number.Refused (cond (eqb (getD text next 0) end) (number.Read n (suc next)) number.Refused)) number.Refused
+    afterNumber (numberOf text at) (λ n next. cond (leb (length text) next) number.Refused (cond (eqb (getD text next 0) end) (number.Read n (next + 1)) number.Refused)) number.Refused
 
 -- two numbers parted by a tab
 unfoldable pub halvesAt : List ℕ → ℕ → ℕ → Pair
@@ -66,7 +66,7 @@ placed j i r = record { count = j .count; records = set (j .records) i r }
 -- the journal with the records of as many lines as are left, from place i on; the text ends after them
 unfoldable pub filled : List ℕ → ℕ → ℕ → ℕ → Journal → Option Journal
 filled text at i zero j = cond (eqb at (length text)) (some j) none
-filled text at i (suc left) j = afterLine (lineAt text at) (λ r next. filled text next (suc i) left (placed j i r)) none
+filled text at i (suc left) j = afterLine (lineAt text at) (λ r next. filled text next (i + 1) left (placed j i r)) none
 
 -- the count that the first line gives, and the place after that line
 unfoldable pub headOf : List ℕ → Number
