@@ -12,7 +12,10 @@ use lib.Seq.{drop-cons}
 use borrow.Author.Tests.{le-leb, lt-leb, eq-eqb, ne-eqb}
 use Rattle.text.specs.declared.number.Number.the-variants.{Read, Refused}
 use Rattle.text.specs.Number.{numberOf}
-use Rattle.sheet.specs.Load.{startsWith, fieldAt}
+use Rattle.bundle.specs.declared.half.Halves.{Halves}
+use Rattle.sheet.specs.declared.line.Line.the-variants as line
+use Rattle.sheet.specs.declared.line.Pair.the-variants as pair
+use Rattle.sheet.specs.Load.{startsWith, fieldAt, halvesAt, lineAt}
 
 and-false : (t : Bool) → (t && false) ≡ false
 and-false true = refl
@@ -49,3 +52,43 @@ module _ (text : List ℕ) (at end : ℕ) where
     pub field-ended : next < length text → getD text next 0 ≡ end → Read n (next + 1) ≡ fieldAt text at end
     unfolding fieldAt
     field-ended h d = rw (e, lt-leb (length text) next h, eq-eqb (getD text next 0) end d)
+
+-- halves, by the fields that they are made of
+module _ (text : List ℕ) (at end : ℕ) where
+  pub halves-none : fieldAt text at 9 ≡ Refused → pair.Refused ≡ halvesAt text at end
+  unfolding halvesAt
+  halves-none e = rw e
+
+  module _ (low middle : ℕ) (e : fieldAt text at 9 ≡ Read low middle) where
+    pub halves-one : fieldAt text middle end ≡ Refused → pair.Refused ≡ halvesAt text at end
+    unfolding halvesAt
+    halves-one d = rw (e, d)
+
+    pub halves-both : (high next : ℕ) → fieldAt text middle end ≡ Read high next → pair.Read (record { low = low; high = high }) next ≡ halvesAt text at end
+    unfolding halvesAt
+    halves-both high next d = rw (e, d)
+
+-- a line, by the field and the halves that it is made of
+module _ (text : List ℕ) (at : ℕ) where
+  pub line-none : fieldAt text at 9 ≡ Refused → line.Refused ≡ lineAt text at
+  unfolding lineAt
+  line-none e = rw e
+
+  module _ (bundle first : ℕ) (e : fieldAt text at 9 ≡ Read bundle first) where
+    pub line-far : 4095 < bundle → line.Refused ≡ lineAt text at
+    unfolding lineAt
+    line-far h = rw (e, lt-leb bundle 4095 h)
+
+    module _ (near : bundle ≤ 4095) where
+      pub line-no-old : halvesAt text first 9 ≡ pair.Refused → line.Refused ≡ lineAt text at
+      unfolding lineAt
+      line-no-old o = rw (e, le-leb bundle 4095 near, o)
+
+      module _ (old : Halves) (second : ℕ) (o : halvesAt text first 9 ≡ pair.Read old second) where
+        pub line-no-new : halvesAt text second 10 ≡ pair.Refused → line.Refused ≡ lineAt text at
+        unfolding lineAt
+        line-no-new n = rw (e, le-leb bundle 4095 near, o, n)
+
+        pub line-whole : (new : Halves) (next : ℕ) → halvesAt text second 10 ≡ pair.Read new next → line.Read (record { bundle = bundle; old = old; new = new }) next ≡ lineAt text at
+        unfolding lineAt
+        line-whole new next n = rw (e, le-leb bundle 4095 near, o, n)
