@@ -13,9 +13,12 @@ use borrow.Author.Tests.{le-leb, lt-leb, eq-eqb, ne-eqb}
 use Rattle.text.specs.declared.number.Number.the-variants.{Read, Refused}
 use Rattle.text.specs.Number.{numberOf}
 use Rattle.bundle.specs.declared.half.Halves.{Halves}
+use Rattle.journal.specs.Journal.{fresh}
+use Rattle.journal.specs.declared.records.Journal.{Journal}
+use Rattle.journal.specs.declared.records.Record.{Record}
 use Rattle.sheet.specs.declared.line.Line.the-variants as line
 use Rattle.sheet.specs.declared.line.Pair.the-variants as pair
-use Rattle.sheet.specs.Load.{startsWith, fieldAt, halvesAt, lineAt}
+use Rattle.sheet.specs.Load.{startsWith, fieldAt, halvesAt, lineAt, placed, filled, headOf, journalOf, answerOf, loadOf}
 
 and-false : (t : Bool) → (t && false) ≡ false
 and-false true = refl
@@ -92,3 +95,44 @@ module _ (text : List ℕ) (at : ℕ) where
         pub line-whole : (new : Halves) (next : ℕ) → halvesAt text second 10 ≡ pair.Read new next → line.Read (record { bundle = bundle; old = old; new = new }) next ≡ lineAt text at
         unfolding lineAt
         line-whole new next n = rw (e, le-leb bundle 4095 near, o, n)
+
+-- the lines that are left
+module _ (text : List ℕ) (at i count : ℕ) (j : Journal) where
+  module _ (h : i < count) where
+    left : count - i ≡ suc (count - (i + 1))
+    left = omega arith
+
+    pub filled-on : (r : Record) (next : ℕ) → lineAt text at ≡ line.Read r next → filled text at i (count - i) j ≡ filled text next (i + 1) (count - (i + 1)) (placed j i r)
+    unfolding filled
+    filled-on r next e = rw (left, e)
+
+    pub filled-not : lineAt text at ≡ line.Refused → filled text at i (count - i) j ≡ none
+    unfolding filled
+    filled-not e = rw (left, e)
+
+  module _ (h : count ≤ i) where
+    done : count - i ≡ 0
+    done = omega arith
+
+    pub filled-whole : at ≡ length text → filled text at i (count - i) j ≡ some j
+    unfolding filled
+    filled-whole e = rw (done, eq-eqb at (length text) e)
+
+    pub filled-trailing : (at ≡ length text → ⊥) → filled text at i (count - i) j ≡ none
+    unfolding filled
+    filled-trailing d = rw (done, ne-eqb at (length text) d)
+
+-- what loading comes to, by the first line
+module _ (given : Journal) (text : List ℕ) where
+  pub load-no-head : headOf text ≡ Refused → loadOf given text ≡ answerOf given none
+  unfolding loadOf journalOf
+  load-no-head e = rw e
+
+  module _ (count at : ℕ) (e : headOf text ≡ Read count at) where
+    pub load-many : 64 < count → loadOf given text ≡ answerOf given none
+    unfolding loadOf journalOf
+    load-many h = rw (e, lt-leb count 64 h)
+
+    pub load-lines : count ≤ 64 → loadOf given text ≡ answerOf given (filled text at 0 (count - 0) (record { count = count; records = fresh .records }))
+    unfolding loadOf journalOf
+    load-lines h = let z : count - 0 ≡ count = omega arith in rw (e, le-leb count 64 h, z)
