@@ -86,3 +86,95 @@ no-halves e = let z : _≡_ {A = ℕ} 0 1 = cc in omega arith
 
 no-line : {r : Record} {next : ℕ} → line.Refused ≡ line.Read r next → ⊥
 no-line e = let z : _≡_ {A = ℕ} 0 1 = cc in omega arith
+
+-- what is read stands there
+pub record FieldRead (text : List ℕ) (at n end next : ℕ) : Type 0 where
+  pub stands : Stands text at (field n end) next
+  pub below : n < 2 ^ 64
+
+pub record HalvesRead (text : List ℕ) (at : ℕ) (h : Halves) (end next : ℕ) : Type 0 where
+  pub stands : Stands text at (halves h end) next
+  pub words : Words h
+
+pub record LineRead (text : List ℕ) (at : ℕ) (r : Record) (next : ℕ) : Type 0 where
+  pub stands : Stands text at (lineOf r) next
+  pub near : r .bundle ≤ 4095
+  pub old : Words (r .old)
+  pub new : Words (r .new)
+
+module _ (text : List ℕ) where
+  ended : (at k middle end : ℕ) → numberOf text at ≡ Read k middle → middle < length text → getD text middle 0 ≡ end → FieldRead text at k end (middle + 1)
+  ended at k middle end e h d =
+      let i = read-decimal text at k middle e in
+      let rest : drop middle text ≡ end ∷ drop (middle + 1) text = drop-cons text middle 0 h ∙ rw (d, add-one) in
+      record {
+        stands = record {
+          found = i .found ∙ ap (λ (l : List ℕ). decimal k ++ l) rest ∙ sym (append-snoc (decimal k) end (drop (middle + 1) text));
+          place = omega (arith, i .place, length-append (decimal k) (end ∷ []));
+        };
+        below = i .below;
+      }
+
+  field-cases : (at n end next : ℕ) (m : Number) → numberOf text at ≡ m → fieldAt text at end ≡ Read n next → FieldRead text at n end next
+  field-cases at n end next Refused e f = absurd (no-number (field-none text at end e ∙ f))
+  field-cases at n end next (Read k middle) e f =
+      elim (decLt middle (length text)) [
+        | yes h ↦ elim (ℕ-discrete (getD text middle 0) end) [
+          | yes d ↦
+              let g : Read k (middle + 1) ≡ Read n next = field-ended text at end k middle e h d ∙ f in
+              let v : k ≡ n = cc in
+              let p : middle + 1 ≡ next = cc in
+              rw (← v, ← p) (ended at k middle end e h d)
+          | no d ↦ absurd (no-number (field-other text at end k middle e h d ∙ f))
+        ]
+        | no h ↦ absurd (no-number (field-past text at end k middle e (omega arith) ∙ f))
+      ]
+
+  pub field-read : (at n end next : ℕ) → fieldAt text at end ≡ Read n next → FieldRead text at n end next
+  field-read at n end next f = field-cases at n end next (numberOf text at) refl f
+
+  module _ (at : ℕ) (h : Halves) (end next : ℕ) (f : halvesAt text at end ≡ pair.Read h next) where
+    halves-second : (low middle : ℕ) → fieldAt text at 9 ≡ Read low middle → (m : Number) → fieldAt text middle end ≡ m → HalvesRead text at h end next
+    halves-second low middle e Refused d = absurd (no-halves (halves-one text at end low middle e d ∙ f))
+    halves-second low middle e (Read high last) d =
+        let g : pair.Read (record { low = low; high = high }) last ≡ pair.Read h next = halves-both text at end low middle e high last d ∙ f in
+        let v : record { low = low; high = high } ≡ h = cc in
+        let p : last ≡ next = cc in
+        let l = field-read at low 9 middle e in
+        let u = field-read middle high end last d in
+        rw (← v, ← p) (record { stands = stands-then (l .stands) (u .stands); words = record { low = l .below; high = u .below } })
+
+    halves-first : (m : Number) → fieldAt text at 9 ≡ m → HalvesRead text at h end next
+    halves-first Refused e = absurd (no-halves (halves-none text at end e ∙ f))
+    halves-first (Read low middle) e = halves-second low middle e (fieldAt text middle end) refl
+
+    pub halves-read : HalvesRead text at h end next
+    halves-read = halves-first (fieldAt text at 9) refl
+
+  module _ (at : ℕ) (r : Record) (next : ℕ) (f : lineAt text at ≡ line.Read r next) where
+    line-third : (bundle first : ℕ) → fieldAt text at 9 ≡ Read bundle first → bundle ≤ 4095 → (old : Halves) (second : ℕ) → halvesAt text first 9 ≡ pair.Read old second → (m : Pair) → halvesAt text second 10 ≡ m → LineRead text at r next
+    line-third bundle first e near old second o pair.Refused n = absurd (no-line (line-no-new text at bundle first e near old second o n ∙ f))
+    line-third bundle first e near old second o (pair.Read new last) n =
+        let g : line.Read (record { bundle = bundle; old = old; new = new }) last ≡ line.Read r next = line-whole text at bundle first e near old second o new last n ∙ f in
+        let v : record { bundle = bundle; old = old; new = new } ≡ r = cc in
+        let p : last ≡ next = cc in
+        let b = field-read at bundle 9 first e in
+        let x = halves-read first old 9 second o in
+        let y = halves-read second new 10 last n in
+        rw (← v, ← p)
+        (record { stands = rw (line-parts (record { bundle = bundle; old = old; new = new })) (stands-then (b .stands) (stands-then (x .stands) (y .stands))); near = near; old = x .words; new = y .words })
+
+    line-second : (bundle first : ℕ) → fieldAt text at 9 ≡ Read bundle first → bundle ≤ 4095 → (m : Pair) → halvesAt text first 9 ≡ m → LineRead text at r next
+    line-second bundle first e near pair.Refused o = absurd (no-line (line-no-old text at bundle first e near o ∙ f))
+    line-second bundle first e near (pair.Read old second) o = line-third bundle first e near old second o (halvesAt text second 10) refl
+
+    line-first : (m : Number) → fieldAt text at 9 ≡ m → LineRead text at r next
+    line-first Refused e = absurd (no-line (line-none text at e ∙ f))
+    line-first (Read bundle first) e =
+        elim (decLt 4095 bundle) [
+          | yes h ↦ absurd (no-line (line-far text at bundle first e h ∙ f))
+          | no h ↦ line-second bundle first e (omega arith) (halvesAt text first 9) refl
+        ]
+
+    pub line-read : LineRead text at r next
+    line-read = line-first (fieldAt text at 9) refl
