@@ -1,0 +1,48 @@
+-- Loading is the inverse of writing: a valid journal's sheet loads as that journal, and what loads is the sheet of the journal that it
+-- gives. Both by induction on the lines, of which each is read where it stands. Assumes nothing.
+use mathlib.Core.Path.{_≡_, refl, sym, ap, _∙_, subst}
+use mathlib.Core.Bool.{Bool, true, false, cond, _&&_}
+use mathlib.Core.List.{List, [], _∷_, _++_, append-assoc, append-nil}
+use mathlib.Core.Option.{Option, none, some}
+use Prim.Native.Nat.{ℕ, zero, suc, _+_, _≤_, _<_}
+use native.Mathlib.Omega.{arith}
+use native.Mathlib.Decide.{decLt, ℕ-discrete}
+use lib.Dec.{T, eqb, leb, eqb→eq}
+use lib.ListN.{length, set, take, drop, replicate, length-append, length-drop, length-replicate, take-append-drop}
+use lib.Seq.{append-snoc, drop-length, set-at, take-at, length-take-le}
+use mir.Facts.{and-yes}
+use borrow.Author.Tests.{eq-eqb, ne-eqb, le-leb, lt-leb}
+use Rattle.answer.specs.Answer.{accepted}
+use Rattle.journal.specs.Journal.{noRecord, fresh, placesValid, validOf}
+use Rattle.journal.specs.declared.Edited.{Edited}
+use Rattle.journal.specs.declared.records.Journal.{Journal}
+use Rattle.journal.specs.declared.records.Record.{Record}
+use Rattle.journal.proofs.Laws.{valid-count}
+use Rattle.text.specs.Ascii.{ascii}
+use Rattle.text.specs.declared.number.Number.{Number}
+use Rattle.text.specs.declared.number.Number.the-variants.{Read, Refused}
+use Rattle.sheet.specs.declared.line.Line.{Line}
+use Rattle.sheet.specs.declared.line.Line.the-variants as line
+use Rattle.sheet.specs.Held.{Held, LoadsWritten, LoadsOnlyWritten}
+use Rattle.sheet.specs.Load.{startsWith, fieldAt, lineAt, filled, headOf, journalOf, loadOf}
+use Rattle.sheet.specs.Sheet.{lineOf, linesOf, headerOf, sheetOf}
+use Rattle.sheet.proofs.Lengths.{valid-places}
+use Rattle.sheet.proofs.Places.{Good, AllGood, good-append, good-free, good-at, standing-good, rest-free, places-good}
+use Rattle.sheet.proofs.Stands.{Stands, field, stands-parts, stands-then, field-back, field-read, line-back, line-read}
+
+-- the journal of some places
+abbrev of : ℕ → List Record → Journal
+of count rs = record { count = count; records = rs }
+
+-- the lines of good records are read as those records, into the places q after p
+fill-back : (text : List ℕ) (count : ℕ) (rs : List Record) (at i : ℕ) (p q : List Record) → length p ≡ i → length rs ≤ length q → AllGood rs → Stands text at (linesOf rs) (length text)
+    → filled text at i (length rs) (of count (p ++ q)) ≡ some (of count (p ++ (rs ++ drop (length rs) q)))
+unfolding filled
+fill-back text count [] at i p q l h a s = rw (eq-eqb at (length text) (omega (arith, s .place)))
+fill-back text count (r ∷ rs) at i p [] l h a s = absurd (omega arith)
+fill-back text count (r ∷ rs) at i p (x ∷ q) l h a s =
+    let t = stands-parts (lineOf r) s in
+    let e = line-back text at _ r (a .0 .near) (a .0 .old) (a .0 .new) (t .0) in
+    let o : length (p ++ (r ∷ [])) ≡ i + 1 = length-append p (r ∷ []) ∙ rw l in
+    let placed : set (p ++ (x ∷ q)) i r ≡ (p ++ (r ∷ [])) ++ q = set-at p x q r i l ∙ sym (append-snoc p r q) in
+    rw (e, placed) (fill-back text count rs _ (i + 1) (p ++ (r ∷ [])) q o (omega arith) (a .1) (t .1) ∙ ap (λ (z : List Record). some (of count z)) (append-snoc p r (rs ++ drop (length rs) q)))
