@@ -46,3 +46,33 @@ fill-back text count (r ∷ rs) at i p (x ∷ q) l h a s =
     let o : length (p ++ (r ∷ [])) ≡ i + 1 = length-append p (r ∷ []) ∙ rw l in
     let placed : set (p ++ (x ∷ q)) i r ≡ (p ++ (r ∷ [])) ++ q = set-at p x q r i l ∙ sym (append-snoc p r q) in
     rw (e, placed) (fill-back text count rs _ (i + 1) (p ++ (r ∷ [])) q o (omega arith) (a .1) (t .1) ∙ ap (λ (z : List Record). some (of count z)) (append-snoc p r (rs ++ drop (length rs) q)))
+
+whole-stands : (text : List ℕ) → Stands text 0 text (length text)
+whole-stands text = record { found = sym (ap (λ (l : List ℕ). text ++ l) (drop-length text) ∙ append-nil text); place = omega arith }
+
+-- a text that begins with the first line and goes on with the lines
+record Begun (text : List ℕ) (count : ℕ) (rest : List ℕ) : Type 0 where
+  at : ℕ
+  head : headOf text ≡ Read count at
+  lines : Stands text at rest (length text)
+
+begun : (text : List ℕ) (count : ℕ) (rest : List ℕ) → count ≤ 64 → text ≡ headerOf count ++ rest → Begun text count rest
+unfolding headOf
+begun text count rest few e =
+    let s : Stands text 0 (headerOf count ++ rest) (length text) = subst (λ (l : List ℕ). Stands text 0 l (length text)) e (whole-stands text) in
+    let p = stands-parts (ascii "patches\t") {b = field count 10 ++ rest} s in
+    let q = stands-parts (field count 10) (p .1) in
+    let starts : startsWith (ascii "patches\t") text ≡ true = ap (startsWith (ascii "patches\t")) e in
+    record { at = 8 + length (field count 10); head = rw starts (field-back text 8 count 10 _ (omega arith) (omega arith) (q .0)); lines = q .1 }
+
+pub load-written : LoadsWritten
+unfolding loadOf journalOf sheetOf
+load-written given j held v =
+    let few = valid-count j v in
+    let rs = take (j .count) (j .records) in
+    let long : length rs ≡ j .count = length-take-le (j .count) (j .records) (omega (arith, held .places)) in
+    let b = begun (sheetOf j) (j .count) (linesOf rs) few refl in
+    let fill = rw long at (fill-back (sheetOf j) (j .count) rs (b .at) 0 [] (replicate 64 noRecord) refl (omega (arith, long)) (standing-good j held v few) (b .lines)) in
+    let free = rest-free (j .count) 0 (j .count) 64 (j .records) (valid-places j v) (held .places) (omega arith) in
+    let places : rs ++ drop (j .count) (replicate 64 noRecord) ≡ j .records = rw (← free) (take-append-drop (j .count) (j .records)) in
+    rw (b .head, le-leb (j .count) 64 few, fill) (λ i. record { answer = accepted; journal = of (j .count) (places i) })
