@@ -76,3 +76,75 @@ load-written given j held v =
     let free = rest-free (j .count) 0 (j .count) 64 (j .records) (valid-places j v) (held .places) (omega arith) in
     let places : rs ++ drop (j .count) (replicate 64 noRecord) ≡ j .records = rw (← free) (take-append-drop (j .count) (j .records)) in
     rw (b .head, le-leb (j .count) 64 few, fill) (λ i. record { answer = accepted; journal = of (j .count) (places i) })
+
+no-journal : {j : Journal} → none ≡ some j → ⊥
+no-journal e = let z : _≡_ {A = ℕ} 0 1 = cc in omega arith
+
+-- what was read into the places q after p
+record Filled (text : List ℕ) (at count left : ℕ) (p q : List Record) (j : Journal) : Type 0 where
+  rs : List Record
+  long : length rs ≡ left
+  good : AllGood rs
+  is : j ≡ of count (p ++ (rs ++ drop left q))
+  lines : Stands text at (linesOf rs) (length text)
+
+-- the line at a place, and what comes after it
+fill-line : (text : List ℕ) (count left at i : ℕ) (p : List Record) (x : Record) (q : List Record) (j : Journal) → length p ≡ i
+    → ((r : Record) (next : ℕ) → filled text next (i + 1) left (of count ((p ++ (r ∷ [])) ++ q)) ≡ some j → Filled text next count left (p ++ (r ∷ [])) q j)
+    → (m : Line) → lineAt text at ≡ m → filled text at i (suc left) (of count (p ++ (x ∷ q))) ≡ some j → Filled text at count (suc left) p (x ∷ q) j
+unfolding filled
+fill-line text count left at i p x q j l more line.Refused e f = absurd (no-journal (rw e at f))
+fill-line text count left at i p x q j l more (line.Read r next) e f =
+    let placed : set (p ++ (x ∷ q)) i r ≡ (p ++ (r ∷ [])) ++ q = set-at p x q r i l ∙ sym (append-snoc p r q) in
+    let on = more r next (rw (e, placed) at f) in
+    let read = line-read text at r next e in
+    record {
+      rs = r ∷ on .rs;
+      long = ap suc (on .long);
+      good = (record { near = read .near; old = read .old; new = read .new }, on .good);
+      is = on .is ∙ ap (of count) (append-snoc p r (on .rs ++ drop left q));
+      lines = stands-then (read .stands) (on .lines);
+    }
+
+fill-read : (text : List ℕ) (count left at i : ℕ) (p q : List Record) (j : Journal) → length p ≡ i → left ≤ length q → filled text at i left (of count (p ++ q)) ≡ some j → Filled text at count left p q j
+unfolding filled
+fill-read text count zero at i p q j l h f =
+    elim (ℕ-discrete at (length text)) [
+      | yes e ↦
+          let g : some (of count (p ++ q)) ≡ some j = rw (eq-eqb at (length text) e) at f in
+          let v : of count (p ++ q) ≡ j = cc in
+          record { rs = []; long = refl; good = tt; is = sym v; lines = record { found = ap (λ (k : ℕ). drop k text) e; place = omega (arith, e) } }
+      | no d ↦ absurd (no-journal (rw (ne-eqb at (length text) d) at f))
+    ]
+fill-read text count (suc left) at i p [] j l h f = absurd (omega arith)
+fill-read text count (suc left) at i p (x ∷ q) j l h f =
+    fill-line text count left at i p x q j l
+    (λ r next g. fill-read text count left next (i + 1) (p ++ (r ∷ [])) q j (length-append p (r ∷ []) ∙ rw l) (omega arith) g)
+    (lineAt text at) refl f
+
+-- a text begins with some bytes where it says so
+starts-is : (start text : List ℕ) → startsWith start text ≡ true → text ≡ start ++ drop (length start) text
+starts-is [] text e = refl
+starts-is (c ∷ start) [] e = absurd (let z : _≡_ {A = ℕ} 0 1 = cc in omega arith)
+starts-is (c ∷ start) (d ∷ text) e =
+    let p = and-yes (eqb d c) (startsWith start text) (subst T (sym e) tt) in
+    let s = starts-is start text (T-true (startsWith start text) (p .1)) in
+    λ i. eqb→eq d c (p .0) i ∷ s i
+  where
+    T-true : (t : Bool) → T t → t ≡ true
+    T-true true h = refl
+    T-true false h = absurd h
+
+-- the first line that was read
+record Headed (text : List ℕ) (count at : ℕ) : Type 0 where
+  starts : text ≡ ascii "patches\t" ++ drop 8 text
+  counts : Stands text 8 (field count 10) at
+
+headed : (text : List ℕ) (count at : ℕ) → headOf text ≡ Read count at → Headed text count at
+unfolding headOf
+headed text count at e = go (startsWith (ascii "patches\t") text) refl
+  where
+    go : (t : Bool) → startsWith (ascii "patches\t") text ≡ t → Headed text count at
+    go false s = absurd (let f : Refused ≡ Read count at = rw s at e in let z : _≡_ {A = ℕ} 0 1 = cc in omega arith)
+    go true s = record { starts = starts-is (ascii "patches\t") text s; counts = field-read text 8 count 10 at (rw s at e) .stands }
+
