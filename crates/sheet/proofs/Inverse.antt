@@ -24,7 +24,7 @@ use Rattle.text.specs.declared.number.Number.the-variants.{Read, Refused}
 use Rattle.sheet.specs.declared.line.Line.{Line}
 use Rattle.sheet.specs.declared.line.Line.the-variants as line
 use Rattle.sheet.specs.Held.{Held, LoadsWritten, LoadsOnlyWritten}
-use Rattle.sheet.specs.Load.{startsWith, fieldAt, lineAt, filled, headOf, journalOf, loadOf}
+use Rattle.sheet.specs.Load.{startsWith, fieldAt, lineAt, filled, headOf, journalOf, answerOf, loadOf}
 use Rattle.sheet.specs.Sheet.{lineOf, linesOf, headerOf, sheetOf}
 use Rattle.sheet.proofs.Lengths.{valid-places}
 use Rattle.sheet.proofs.Places.{Good, AllGood, good-append, good-free, good-at, standing-good, rest-free, places-good}
@@ -148,3 +148,58 @@ headed text count at e = go (startsWith (ascii "patches\t") text) refl
     go false s = absurd (let f : Refused ≡ Read count at = rw s at e in let z : _≡_ {A = ℕ} 0 1 = cc in omega arith)
     go true s = record { starts = starts-is (ascii "patches\t") text s; counts = field-read text 8 count 10 at (rw s at e) .stands }
 
+-- a valid journal, and the text its sheet
+abbrev SheetOf : List ℕ → Journal → Type 0
+SheetOf text j = Held j × (validOf j ≡ true) × (text ≡ sheetOf j)
+
+module _ (text : List ℕ) (count at : ℕ) (few : count ≤ 64) (j : Journal) (h : Headed text count at) (f : Filled text at count count [] (replicate 64 noRecord) j) where
+  free : List Record
+  free = drop count (replicate 64 noRecord)
+
+  all-good : AllGood (f .rs ++ free)
+  unfolding free
+  all-good = good-append (f .rs) free (f .good) (good-free count 64)
+
+  is-held : Held (of count (f .rs ++ free))
+  unfolding free
+  is-held =
+      record {
+        places = omega (arith, length-append (f .rs) free, f .long, length-drop count (replicate 64 noRecord), length-replicate 64 noRecord);
+        old = λ i. good-at (f .rs ++ free) i all-good .old;
+        new = λ i. good-at (f .rs ++ free) i all-good .new;
+      }
+
+  is-valid : validOf (of count (f .rs ++ free)) ≡ true
+  unfolding validOf free
+  is-valid = rw (le-leb count 64 few, places-good (f .rs) count 0 count 64 (f .good) (omega (arith, f .long)))
+
+  is-sheet : text ≡ sheetOf (of count (f .rs ++ free))
+  unfolding sheetOf free
+  is-sheet =
+      let lines : drop at text ≡ linesOf (f .rs) = f .lines .found ∙ ap (λ (l : List ℕ). linesOf (f .rs) ++ l) (drop-length text) ∙ append-nil (linesOf (f .rs)) in
+      h .starts
+      ∙ ap (λ (l : List ℕ). ascii "patches\t" ++ l) (h .counts .found ∙ ap (λ (l : List ℕ). field count 10 ++ l) lines)
+      ∙ ap (λ (rs : List Record). headerOf count ++ linesOf rs) (sym (take-at (f .rs) free count (f .long)))
+
+  filled-sheet : SheetOf text j
+  unfolding free
+  filled-sheet = subst (SheetOf text) (sym (f .is)) (is-held, is-valid, is-sheet)
+
+journal-sheet : (text : List ℕ) (j : Journal) (m : Number) → headOf text ≡ m → journalOf text ≡ some j → SheetOf text j
+unfolding journalOf
+journal-sheet text j Refused e f = absurd (no-journal (rw e at f))
+journal-sheet text j (Read count at) e f =
+    elim (decLt 64 count) [
+      | yes h ↦ absurd (no-journal (rw (e, lt-leb count 64 h) at f))
+      | no h ↦
+          let few : count ≤ 64 = omega arith in
+          filled-sheet text count at few j (headed text count at e) (fill-read text count count at 0 [] (replicate 64 noRecord) j refl (omega (arith, length-replicate 64 noRecord)) (rw (e, le-leb count 64 few) at f))
+    ]
+
+pub load-only-written : LoadsOnlyWritten
+unfolding loadOf
+load-only-written given text e = go (journalOf text) refl e
+  where
+    go : (o : Option Journal) → journalOf text ≡ o → answerOf given o .answer ≡ accepted → SheetOf text (answerOf given o .journal)
+    go none q e = absurd (omega (arith, e))
+    go (some j) q e = journal-sheet text j (headOf text) refl q
