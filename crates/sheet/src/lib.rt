@@ -5,11 +5,11 @@ ghost use mathlib.Core.Path.{_≡_};
 ghost use Prim.Native.Nat.{_≤_};
 ghost use lib.Dec.{leb};
 ghost use lib.ListN.{length};
+ghost use Rattle.answer.specs.Answer.{badSheet};
 ghost use Rattle.text.specs.Put.{Put};
 ghost use Rattle.text.specs.Whole.{wroteOf};
 ghost use Rattle.sheet.specs.Sheet.{sheetOf, writeRefusals};
 ghost use Rattle.sheet.specs.Load.{headOf, loadOf};
-ghost use Rattle.sheet.specs.Held.{Held};
 use answer::ACCEPTED;
 use answer::BAD_JOURNAL;
 use answer::BAD_SHEET;
@@ -66,11 +66,11 @@ fn put_sheet(out: &mut [u8], journal: Journal) -> usize
     let count = journal.count;
     let start = text::put_text(out, 0, b"patches\t");
     let mut at = text::put_field(out, start, count, line::NEWLINE);
-    let mut i = 0;
-    while i < count {
-        let place = journal.records[i as usize];
+    let mut left = count;
+    while 0 < left {
+        let place = journal.records[(count - left) as usize];
         at = line::put_line(out, at, place);
-        i += 1;
+        left -= 1;
     }
     at
 }
@@ -108,13 +108,12 @@ pub fn load(journal: Journal, text: &[u8]) -> Edited
     }
 }
 
+// The text is no sheet, and the journal stays as it was given.
 fn refused(journal: Journal) -> Edited
-    ensures { λ r. ⌜ r ≡ record { answer = 13; journal = journal } ⌝ }
+    ensures { λ r. ⌜ r ≡ record { answer = badSheet; journal = journal } ⌝ }
 {
-    Edited {
-        answer: BAD_SHEET,
-        journal,
-    }
+    let answer = BAD_SHEET;
+    Edited { answer, journal }
 }
 
 // The count that the first line gives, and the place after that line.
