@@ -21,9 +21,15 @@ use Rattle.sheet.proofs.Sheets.{line-length, sheet-length}
 
 line-most : (r : Record) → r .bundle ≤ 4095 → Words (r .old) → Words (r .new) → length (lineOf r) ≤ 89
 line-most r b o n =
-    omega (arith, line-length r, decimal-length 3 (r .bundle) (omega arith),
-    decimal-length 19 (r .old .low) (omega (arith, o .low)), decimal-length 19 (r .old .high) (omega (arith, o .high)),
-    decimal-length 19 (r .new .low) (omega (arith, n .low)), decimal-length 19 (r .new .high) (omega (arith, n .high)))
+    omega (
+      arith,
+      line-length r,
+      decimal-length 3 (r .bundle) (omega arith),
+      decimal-length 19 (r .old .low) (omega (arith, o .low)),
+      decimal-length 19 (r .old .high) (omega (arith, o .high)),
+      decimal-length 19 (r .new .low) (omega (arith, n .low)),
+      decimal-length 19 (r .new .high) (omega (arith, n .high)),
+    )
 
 -- a standing record's bundle number
 pub standing-bundle : (count k i : ℕ) (rs : List Record) → T (placesValid count k rs) → k + i < count → i < length rs → getD rs i noRecord .bundle ≤ 4095

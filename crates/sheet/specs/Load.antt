@@ -48,16 +48,16 @@ fieldAt text at end =
 unfoldable pub halvesAt : List ℕ → ℕ → ℕ → Pair
 halvesAt text at end =
     afterNumber (fieldAt text at 9) (λ low middle.
-      afterNumber (fieldAt text middle end) (λ high next. pair.Read (record { low = low; high = high }) next) pair.Refused) pair.Refused
+    afterNumber (fieldAt text middle end) (λ high next. pair.Read (record { low = low; high = high }) next) pair.Refused) pair.Refused
 
 -- a record's line at a place, whose bundle number is at most 4095
 unfoldable pub lineAt : List ℕ → ℕ → Line
 lineAt text at =
     afterNumber (fieldAt text at 9) (λ bundle first.
-      cond (leb bundle 4095)
-      (afterPair (halvesAt text first 9) (λ old second.
-        afterPair (halvesAt text second 10) (λ new next. line.Read (record { bundle = bundle; old = old; new = new }) next) line.Refused) line.Refused)
-      line.Refused) line.Refused
+    cond (leb bundle 4095)
+    (afterPair (halvesAt text first 9) (λ old second.
+    afterPair (halvesAt text second 10) (λ new next. line.Read (record { bundle = bundle; old = old; new = new }) next) line.Refused) line.Refused)
+    line.Refused) line.Refused
 
 -- a journal with a record at place i
 abbrev pub placed : Journal → ℕ → Record → Journal

@@ -63,12 +63,11 @@ empty-requires c κs = tt
 loop-holds : tie.Need-loop-holds Inv-loop μ-loop
 loop-holds c =
     let a = c .before .before .before .before .before .before .before .args in
-    let h = c .before .before .before .head .given .0 in
-    (
+    let h = c .before .before .before .head .given .0 in (
       omega arith,
       ap (λ (j : Journal). length (j .records)) (c .empty .ensures),
       load-lines (a .journal) (a .text .now) _ _ (head-read (c .before .before .before)) (c .before .if1 .left)
-      ∙ ap (λ (j : Journal). answerOf (a .journal) (filled (a .text .now) (h .1 .0) 0 (h .0 - 0) (record { count = h .0; records = j .records }))) (sym (c .empty .ensures))
+          ∙ ap (λ (j : Journal). answerOf (a .journal) (filled (a .text .now) (h .1 .0) 0 (h .0 - 0) (record { count = h .0; records = j .records }))) (sym (c .empty .ensures)),
     )
 
 -- src/lib.rt:94:13
@@ -115,11 +114,10 @@ loop-less c = omega arith
 loop-again : tie.Need-loop-again Inv-loop μ-loop
 loop-again c =
     let l = c .before .before .before .before .before .loop in
-    let a = c .before .before .before .before .before .before .before .before .before .before .before .before .before .args in
-    (
+    let a = c .before .before .before .before .before .before .before .before .before .before .before .before .before .args in (
       omega arith,
       length-set (l .loaded .records) (l .i) _ ∙ l .inv .1,
-      l .inv .2 ∙ ap (answerOf (a .journal)) (filled-on (a .text .now) (l .at) (l .i) _ (l .loaded) (c .before .before .before .before .loop-test .taken) _ _ (sym (c .before .before .before .read-line .ensures) ∙ c .before .line .given .1))
+      l .inv .2 ∙ ap (answerOf (a .journal)) (filled-on (a .text .now) (l .at) (l .i) _ (l .loaded) (c .before .before .before .before .loop-test .taken) _ _ (sym (c .before .before .before .read-line .ensures) ∙ c .before .line .given .1)),
     )
 
 -- src/lib.rt:103:9
