@@ -7,6 +7,7 @@ pub use plan::planned;
 pub use records::Journal;
 pub use records::Record;
 pub use records::empty;
+pub use records::valid;
 ghost use mathlib.Core.Path.{_≡_};
 ghost use Prim.Native.Nat.{_+_, _*_, _≤_};
 ghost use lib.ListN.{length};

@@ -1,0 +1,138 @@
+-- Reading a sheet, a step at a time. By the definitions' tests. Assumes nothing.
+use mathlib.Core.Path.{_≡_, refl, ap, _∙_}
+use mathlib.Core.Bool.{Bool, true, false, _&&_}
+use mathlib.Core.List.{List, [], _∷_}
+use mathlib.Core.Option.{none, some}
+use Prim.Native.Nat.{ℕ, suc, _+_, _-_, _≤_, _<_}
+use native.Mathlib.Numerals.{add-one}
+use native.Mathlib.Omega.{arith}
+use lib.Dec.{eqb}
+use lib.ListN.{length, getD, drop, drop-of-length-le}
+use lib.Seq.{drop-cons}
+use borrow.Author.Tests.{le-leb, lt-leb, eq-eqb, ne-eqb}
+use Rattle.text.specs.declared.number.Number.the-variants.{Read, Refused}
+use Rattle.text.specs.Number.{numberOf}
+use Rattle.bundle.specs.declared.half.Halves.{Halves}
+use Rattle.journal.specs.Journal.{fresh}
+use Rattle.journal.specs.declared.records.Journal.{Journal}
+use Rattle.journal.specs.declared.records.Record.{Record}
+use Rattle.sheet.specs.declared.line.Line.the-variants as line
+use Rattle.sheet.specs.declared.line.Pair.the-variants as pair
+use Rattle.sheet.specs.Load.{startsWith, fieldAt, halvesAt, lineAt, placed, filled, headOf, journalOf, answerOf, loadOf}
+
+and-false : (t : Bool) → (t && false) ≡ false
+and-false true = refl
+and-false false = refl
+
+pub starts-short : (start text : List ℕ) → length text < length start → startsWith start text ≡ false
+starts-short [] text h = absurd (omega arith)
+starts-short (c ∷ start) [] h = refl
+starts-short (c ∷ start) (d ∷ text) h = rw (starts-short start text (omega arith)) (and-false (eqb d c))
+
+-- the bytes from place i on
+pub starts-step : (start text : List ℕ) (i : ℕ) → i < length start → i < length text
+    → startsWith (drop i start) (drop i text) ≡ (eqb (getD text i 0) (getD start i 0) && startsWith (drop (i + 1) start) (drop (i + 1) text))
+starts-step start text i h l = rw (drop-cons start i 0 h, drop-cons text i 0 l, add-one)
+
+pub starts-done : (start text : List ℕ) (i : ℕ) → length start ≤ i → startsWith (drop i start) (drop i text) ≡ true
+starts-done start text i h = rw (drop-of-length-le start h)
+
+-- a field, by the number that it begins with
+module _ (text : List ℕ) (at end : ℕ) where
+  pub field-none : numberOf text at ≡ Refused → Refused ≡ fieldAt text at end
+  unfolding fieldAt
+  field-none e = rw e
+
+  module _ (n next : ℕ) (e : numberOf text at ≡ Read n next) where
+    pub field-past : length text ≤ next → Refused ≡ fieldAt text at end
+    unfolding fieldAt
+    field-past h = rw (e, le-leb (length text) next h)
+
+    pub field-other : next < length text → (getD text next 0 ≡ end → ⊥) → Refused ≡ fieldAt text at end
+    unfolding fieldAt
+    field-other h d = rw (e, lt-leb (length text) next h, ne-eqb (getD text next 0) end d)
+
+    pub field-ended : next < length text → getD text next 0 ≡ end → Read n (next + 1) ≡ fieldAt text at end
+    unfolding fieldAt
+    field-ended h d = rw (e, lt-leb (length text) next h, eq-eqb (getD text next 0) end d)
+
+-- halves, by the fields that they are made of
+module _ (text : List ℕ) (at end : ℕ) where
+  pub halves-none : fieldAt text at 9 ≡ Refused → pair.Refused ≡ halvesAt text at end
+  unfolding halvesAt
+  halves-none e = rw e
+
+  module _ (low middle : ℕ) (e : fieldAt text at 9 ≡ Read low middle) where
+    pub halves-one : fieldAt text middle end ≡ Refused → pair.Refused ≡ halvesAt text at end
+    unfolding halvesAt
+    halves-one d = rw (e, d)
+
+    pub halves-both : (high next : ℕ) → fieldAt text middle end ≡ Read high next → pair.Read (record { low = low; high = high }) next ≡ halvesAt text at end
+    unfolding halvesAt
+    halves-both high next d = rw (e, d)
+
+-- a line, by the field and the halves that it is made of
+module _ (text : List ℕ) (at : ℕ) where
+  pub line-none : fieldAt text at 9 ≡ Refused → line.Refused ≡ lineAt text at
+  unfolding lineAt
+  line-none e = rw e
+
+  module _ (bundle first : ℕ) (e : fieldAt text at 9 ≡ Read bundle first) where
+    pub line-far : 4095 < bundle → line.Refused ≡ lineAt text at
+    unfolding lineAt
+    line-far h = rw (e, lt-leb bundle 4095 h)
+
+    module _ (near : bundle ≤ 4095) where
+      pub line-no-old : halvesAt text first 9 ≡ pair.Refused → line.Refused ≡ lineAt text at
+      unfolding lineAt
+      line-no-old o = rw (e, le-leb bundle 4095 near, o)
+
+      module _ (old : Halves) (second : ℕ) (o : halvesAt text first 9 ≡ pair.Read old second) where
+        pub line-no-new : halvesAt text second 10 ≡ pair.Refused → line.Refused ≡ lineAt text at
+        unfolding lineAt
+        line-no-new n = rw (e, le-leb bundle 4095 near, o, n)
+
+        pub line-whole : (new : Halves) (next : ℕ) → halvesAt text second 10 ≡ pair.Read new next → line.Read (record { bundle = bundle; old = old; new = new }) next ≡ lineAt text at
+        unfolding lineAt
+        line-whole new next n = rw (e, le-leb bundle 4095 near, o, n)
+
+-- the lines that are left
+module _ (text : List ℕ) (at i count : ℕ) (j : Journal) where
+  module _ (h : i < count) where
+    left : count - i ≡ suc (count - (i + 1))
+    left = omega arith
+
+    pub filled-on : (r : Record) (next : ℕ) → lineAt text at ≡ line.Read r next → filled text at i (count - i) j ≡ filled text next (i + 1) (count - (i + 1)) (placed j i r)
+    unfolding filled
+    filled-on r next e = rw (left, e)
+
+    pub filled-not : lineAt text at ≡ line.Refused → filled text at i (count - i) j ≡ none
+    unfolding filled
+    filled-not e = rw (left, e)
+
+  module _ (h : count ≤ i) where
+    done : count - i ≡ 0
+    done = omega arith
+
+    pub filled-whole : at ≡ length text → filled text at i (count - i) j ≡ some j
+    unfolding filled
+    filled-whole e = rw (done, eq-eqb at (length text) e)
+
+    pub filled-trailing : (at ≡ length text → ⊥) → filled text at i (count - i) j ≡ none
+    unfolding filled
+    filled-trailing d = rw (done, ne-eqb at (length text) d)
+
+-- what loading comes to, by the first line
+module _ (given : Journal) (text : List ℕ) where
+  pub load-no-head : headOf text ≡ Refused → loadOf given text ≡ answerOf given none
+  unfolding loadOf journalOf
+  load-no-head e = rw e
+
+  module _ (count at : ℕ) (e : headOf text ≡ Read count at) where
+    pub load-many : 64 < count → loadOf given text ≡ answerOf given none
+    unfolding loadOf journalOf
+    load-many h = rw (e, lt-leb count 64 h)
+
+    pub load-lines : count ≤ 64 → loadOf given text ≡ answerOf given (filled text at 0 (count - 0) (record { count = count; records = fresh .records }))
+    unfolding loadOf journalOf
+    load-lines h = let z : count - 0 ≡ count = omega arith in rw (e, le-leb count 64 h, z)

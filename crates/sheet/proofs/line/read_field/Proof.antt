@@ -1,0 +1,64 @@
+-- `sheet::line::read_field` meets its contract: each return is a case of a field. Assumes nothing.
+use mathlib.Core.Path.{_≡_, sym, _∙_}
+use borrow.Author.Needs.{needs}
+use Rattle.text.specs.declared.number.Number.the-variants.{Read}
+use Rattle.text.specs.Number.{numberOf}
+use Rattle.sheet.proofs.Reading.{field-none, field-past, field-other, field-ended}
+use Rattle.sheet.proofs.line.read_field.Statement.{statement}
+use Rattle.sheet.proofs.line.read_field.Tie as tie
+
+-- the number that was read
+number-read : (c : tie.After-number) → let a = c .before .before .before .before .args in numberOf (a .text .now) (a .at) ≡ Read (c .number .given .0 .0) (c .number .given .0 .1 .0)
+number-read c = sym (c .before .before .read-decimal .ensures) ∙ c .number .given .1
+
+read-decimal-requires : tie.Need-read-decimal-requires
+read-decimal-requires c κs = search needs
+
+enum-known-number : tie.Need-enum-known-number
+enum-known-number c = search needs
+
+enum-told : tie.Need-enum-told
+enum-told c = search needs
+
+returns : tie.Need-returns
+returns c =
+    let a = c .before .before .before .before .args in
+    field-none (a .text .now) (a .at) (a .end) (sym (c .before .before .read-decimal .ensures) ∙ c .enum-told .given .1)
+
+returns-2 : tie.Need-returns-2
+returns-2 c =
+    let n = c .before .before in
+    let a = c .before .before .before .before .before .before .args in
+    field-past (a .text .now) (a .at) (a .end) _ _ (number-read n) (c .if1 .taken)
+
+shared-slice-read-if2 : tie.Need-shared-slice-read-if2
+shared-slice-read-if2 c = search needs
+
+add-t12 : tie.Need-add-t12
+add-t12 c = search needs
+
+returns-3 : tie.Need-returns-3
+returns-3 c =
+    let n = c .before .before .before .before in
+    let a = c .before .before .before .before .before .before .before .before .args in
+    field-ended (a .text .now) (a .at) (a .end) _ _ (number-read n) (c .before .before .if1 .left) (c .if2 .taken)
+
+returns-4 : tie.Need-returns-4
+returns-4 c =
+    let n = c .before .before .before .before in
+    let a = c .before .before .before .before .before .before .before .before .args in
+    field-other (a .text .now) (a .at) (a .end) _ _ (number-read n) (c .before .before .if1 .left) (c .if2 .left)
+
+pub read-field-spec : {M : Type 1} → statement M
+read-field-spec =
+    tie.close
+    (tie.spec
+    read-decimal-requires
+    enum-known-number
+    enum-told
+    returns
+    returns-2
+    shared-slice-read-if2
+    add-t12
+    returns-3
+    returns-4)

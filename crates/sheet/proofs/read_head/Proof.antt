@@ -1,0 +1,29 @@
+-- `sheet::read_head` meets its contract: the fixed string is compared, and the count is the field after it. Assumes nothing.
+use mathlib.Core.Path.{_≡_, sym, _∙_}
+use borrow.Author.Needs.{needs}
+use borrow.Author.Tests.{not-true, not-false}
+use Rattle.sheet.specs.Load.{headOf}
+use Rattle.sheet.proofs.read_head.Statement.{statement}
+use Rattle.sheet.proofs.read_head.Tie as tie
+
+slice-aggregate-begins : tie.Need-slice-aggregate-begins
+slice-aggregate-begins c = search needs
+
+begins-requires : tie.Need-begins-requires
+begins-requires c κs = search needs
+
+returns : tie.Need-returns
+unfolding headOf
+returns c = rw (sym (c .before .begins .ensures) ∙ not-true _ (c .if1 .taken))
+
+read-field-requires : tie.Need-read-field-requires
+read-field-requires c κs = search needs
+
+returns-2 : tie.Need-returns-2
+unfolding headOf
+returns-2 c = rw (sym (c .before .before .begins .ensures) ∙ not-false _ (c .before .if1 .left)) (c .read-field .ensures)
+
+pub read-head-spec : {M : Type 1} → statement M
+read-head-spec =
+    tie.close
+    (tie.spec slice-aggregate-begins begins-requires returns read-field-requires returns-2)

@@ -1,0 +1,86 @@
+-- The journal that a sheet is of: `patches`, a tab, the count, a line for each record, and nothing after it. Assumes nothing.
+use Prim.Native.Nat.{ℕ, zero, suc, _+_}
+use mathlib.Core.Bool.{Bool, true, false, cond, _&&_}
+use mathlib.Core.List.{List, [], _∷_}
+use mathlib.Core.Option.{Option, none, some}
+use lib.Dec.{eqb, leb}
+use lib.ListN.{length, getD, set}
+use Rattle.answer.specs.Answer.{accepted, badSheet}
+use Rattle.bundle.specs.declared.half.Halves.{Halves}
+use Rattle.journal.specs.Journal.{fresh}
+use Rattle.journal.specs.declared.Edited.{Edited}
+use Rattle.journal.specs.declared.records.Journal.{Journal}
+use Rattle.journal.specs.declared.records.Record.{Record}
+use Rattle.text.specs.Ascii.{ascii}
+use Rattle.text.specs.Number.{numberOf}
+use Rattle.text.specs.declared.number.Number.{Number}
+use Rattle.sheet.specs.declared.line.Line.{Line}
+use Rattle.sheet.specs.declared.line.Pair.{Pair}
+use Rattle.text.specs.declared.number.Number.the-variants as number
+use Rattle.sheet.specs.declared.line.Line.the-variants as line
+use Rattle.sheet.specs.declared.line.Pair.the-variants as pair
+
+-- what is read after a number, or after halves, or after a line; nothing where there is none
+abbrev pub afterNumber {ℓ} : {A : Type ℓ} → Number → (ℕ → ℕ → A) → A → A
+afterNumber (number.Read n next) more other = more n next
+afterNumber number.Refused more other = other
+
+abbrev pub afterPair {ℓ} : {A : Type ℓ} → Pair → (Halves → ℕ → A) → A → A
+afterPair (pair.Read h next) more other = more h next
+afterPair pair.Refused more other = other
+
+abbrev pub afterLine {ℓ} : {A : Type ℓ} → Line → (Record → ℕ → A) → A → A
+afterLine (line.Read r next) more other = more r next
+afterLine line.Refused more other = other
+
+-- whether a text begins with some bytes
+abbrev pub startsWith : List ℕ → List ℕ → Bool
+startsWith [] text = true
+startsWith (c ∷ cs) [] = false
+startsWith (c ∷ cs) (d ∷ text) = eqb d c && startsWith cs text
+
+-- a number at a place that ends in the byte `end`, which isn't 0, and the place after it
+unfoldable pub fieldAt : List ℕ → ℕ → ℕ → Number
+fieldAt text at end =
+    afterNumber (numberOf text at) (λ n next. cond (leb (length text) next) number.Refused (cond (eqb (getD text next 0) end) (number.Read n (next + 1)) number.Refused)) number.Refused
+
+-- two numbers parted by a tab
+unfoldable pub halvesAt : List ℕ → ℕ → ℕ → Pair
+halvesAt text at end =
+    afterNumber (fieldAt text at 9) (λ low middle.
+    afterNumber (fieldAt text middle end) (λ high next. pair.Read (record { low = low; high = high }) next) pair.Refused) pair.Refused
+
+-- a record's line at a place, whose bundle number is at most 4095
+unfoldable pub lineAt : List ℕ → ℕ → Line
+lineAt text at =
+    afterNumber (fieldAt text at 9) (λ bundle first.
+    cond (leb bundle 4095)
+    (afterPair (halvesAt text first 9) (λ old second.
+    afterPair (halvesAt text second 10) (λ new next. line.Read (record { bundle = bundle; old = old; new = new }) next) line.Refused) line.Refused)
+    line.Refused) line.Refused
+
+-- a journal with a record at place i
+abbrev pub placed : Journal → ℕ → Record → Journal
+placed j i r = record { count = j .count; records = set (j .records) i r }
+
+-- the journal with the records of as many lines as are left, from place i on; the text ends after them
+unfoldable pub filled : List ℕ → ℕ → ℕ → ℕ → Journal → Option Journal
+filled text at i zero j = cond (eqb at (length text)) (some j) none
+filled text at i (suc left) j = afterLine (lineAt text at) (λ r next. filled text next (i + 1) left (placed j i r)) none
+
+-- the count that the first line gives, and the place after that line
+unfoldable pub headOf : List ℕ → Number
+headOf text = cond (startsWith (ascii "patches\t") text) (fieldAt text 8 10) number.Refused
+
+-- the journal whose sheet a text is
+unfoldable pub journalOf : List ℕ → Option Journal
+journalOf text =
+    afterNumber (headOf text) (λ count at. cond (leb count 64) (filled text at 0 count (record { count = count; records = fresh .records })) none) none
+
+-- what loading answers: that journal, or that the text is no sheet and the journal as it was given
+abbrev pub answerOf : Journal → Option Journal → Edited
+answerOf journal (some j) = record { answer = accepted; journal = j }
+answerOf journal none = record { answer = badSheet; journal = journal }
+
+unfoldable pub loadOf : Journal → List ℕ → Edited
+loadOf journal text = answerOf journal (journalOf text)

@@ -1,0 +1,112 @@
+// The lines of a sheet: writing and reading a record, and the fields they are made of.
+ghost use mathlib.Core.Path.{_≡_};
+ghost use Prim.Native.Nat.{_+_, _<_, _^_};
+ghost use lib.ListN.{length};
+ghost use Rattle.text.specs.Put.{Put};
+ghost use Rattle.sheet.specs.Sheet.{lineOf};
+ghost use Rattle.sheet.specs.Load.{startsWith, fieldAt, halvesAt, lineAt};
+use bundle::Halves;
+use journal::Record;
+use text::Number;
+use text::put_field;
+
+pub const TAB: u8 = 9;
+
+pub const NEWLINE: u8 = 10;
+
+// Two halves of a bundle and the place after them, or that there are none.
+pub enum Pair {
+    Read(Halves, usize),
+    Refused,
+}
+
+// A record and the place after its line, or that there is none.
+pub enum Line {
+    Read(Record, usize),
+    Refused,
+}
+
+pub fn put_line(out: &mut [u8], at: usize, place: Record) -> usize
+    requires { ⌜ at + length (lineOf place) < 2 ^ 64 ⌝ }
+    ensures { λ r. ⌜ Put (now (out .entry)) at (lineOf place) (now (out .exit)) r ⌝ }
+{
+    let old = place.old;
+    let new = place.new;
+    let mut next = put_field(out, at, place.bundle, TAB);
+    next = put_field(out, next, old.low, TAB);
+    next = put_field(out, next, old.high, TAB);
+    next = put_field(out, next, new.low, TAB);
+    put_field(out, next, new.high, NEWLINE)
+}
+
+// Whether the text begins with `start`.
+pub fn begins(text: &[u8], start: &[u8]) -> bool
+    ensures { λ r. ⌜ r ≡ startsWith (now (start .entry)) (now (text .entry)) ⌝ }
+{
+    if text.len() < start.len() {
+        return false;
+    }
+    let mut i = 0;
+    while i < start.len() {
+        if text[i] != start[i] {
+            return false;
+        }
+        i += 1;
+    }
+    true
+}
+
+// A number, and the byte that ends it.
+pub fn read_field(text: &[u8], at: usize, end: u8) -> Number
+    ensures { λ r. ⌜ r ≡ fieldAt (now (text .entry)) at end ⌝ }
+{
+    let number = text::read_decimal(text, at);
+    let Number::Read(n, next) = number else {
+        return Number::Refused;
+    };
+    if text.len() <= next {
+        return Number::Refused;
+    }
+    if text[next] == end {
+        Number::Read(n, next + 1)
+    } else {
+        Number::Refused
+    }
+}
+
+// The low half, a tab, the high half, and the byte that ends them.
+fn read_halves(text: &[u8], at: usize, end: u8) -> Pair
+    ensures { λ r. ⌜ r ≡ halvesAt (now (text .entry)) at end ⌝ }
+{
+    let first = read_field(text, at, TAB);
+    let Number::Read(low, middle) = first else {
+        return Pair::Refused;
+    };
+    let second = read_field(text, middle, end);
+    let Number::Read(high, next) = second else {
+        return Pair::Refused;
+    };
+    Pair::Read(Halves { low, high }, next)
+}
+
+// The record whose line stands at a place.
+pub fn read_line(text: &[u8], at: usize) -> Line
+    ensures { λ r. ⌜ r ≡ lineAt (now (text .entry)) at ⌝ }
+{
+    let number = read_field(text, at, TAB);
+    let Number::Read(bundle, first) = number else {
+        return Line::Refused;
+    };
+    if 4095 < bundle {
+        return Line::Refused;
+    }
+    let before = read_halves(text, first, TAB);
+    let Pair::Read(old, second) = before else {
+        return Line::Refused;
+    };
+    let after = read_halves(text, second, NEWLINE);
+    let Pair::Read(new, next) = after else {
+        return Line::Refused;
+    };
+    Line::Read(Record { bundle, old, new }, next)
+}
