@@ -5,7 +5,7 @@ use mathlib.Core.Path.{_≡_, refl}
 use mathlib.Core.List.{List, [], _∷_}
 use mathlib.Core.Option.{none, some}
 use Prim.Native.Nat.{ℕ, _-_, _^_}
-use lib.IntN.{ℤ, pos, negsuc}
+use lib.IntN.{pos, negsuc}
 use Rattle.answer.specs.Answer.{accepted, badForm}
 use Rattle.bits.specs.Parts.{gather}
 use Rattle.bundle.specs.Bytes.{number, bytes}

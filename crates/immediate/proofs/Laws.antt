@@ -1,7 +1,7 @@
 -- What opening a bundle comes to, case by case: the list of refusals goes on after those of the cut. Assumes nothing.
 use mathlib.Core.Path.{_≡_, refl, sym, ap, _∙_}
-use mathlib.Core.Bool.{Bool, true, false, cond, not, _||_}
-use mathlib.Core.List.{List, [], _∷_, _++_}
+use mathlib.Core.Bool.{true, false, cond, not, _||_}
+use mathlib.Core.List.{List, [], _∷_}
 use Prim.Native.Nat.{ℕ, _<_, suc-le-suc}
 use borrow.Author.Tests.{ltb-false, not-false}
 use lib.Dec.{T, ltb}

@@ -1,7 +1,6 @@
 -- `immediate` meets its contract: where the bundle was opened, the row is sound in the slot and reads the bundle's number.
 -- Assumes nothing.
-use mathlib.Core.Path.{_≡_, _∙_, ap, sym}
-use Prim.Native.Nat.{ℕ, _<_}
+use mathlib.Core.Path.{_∙_, ap, sym}
 use native.Mathlib.Omega.{arith}
 use denote.Ref.{now}
 use Rattle.answer.proofs.Laws.{accepts, refuses}
