@@ -5,7 +5,7 @@ use mathlib.Core.Path.{_≡_, refl}
 use mathlib.Core.List.{List, [], _∷_}
 use mathlib.Core.Option.{none, some}
 use Prim.Native.Nat.{ℕ, _-_, _^_}
-use lib.IntN.{ℤ, pos, negsuc}
+use lib.IntN.{pos, negsuc}
 use Rattle.answer.specs.Answer.{accepted, badForm}
 use Rattle.bits.specs.Parts.{gather}
 use Rattle.bundle.specs.Bytes.{number, bytes}
@@ -20,6 +20,10 @@ use Rattle.immediate.specs.Row.{Form, a, b, m, x, lines, rowsOf, rowOf}
 use Rattle.immediate.specs.Immediate.{immediateOf, targetOf}
 use Rattle.immediate.specs.declared.Value.{Value}
 use Rattle.immediate.specs.declared.Place.{Place}
+
+abbrev each : {A B : Type 0} → (A → B) → List A → List B
+each f [] = []
+each f (c ∷ cs) = f c ∷ each f cs
 
 -- what 000 shows, and what the manual reads
 pub record Case : Type 0 where
@@ -57,6 +61,9 @@ shows = listed (caseOf none)
 abbrev r0 : Operand
 r0 = GPRegister (record { 0 = 0 })
 
+abbrev f1 : Operand
+f1 = FloatRegister (record { 0 = 1 })
+
 abbrev memory : Operand
 memory = Memory (record { 0 = 0 })
 
@@ -69,43 +76,35 @@ below n = ImmI64 (negsuc (n - 1))
 abbrev u : ℕ → Operand
 u n = ImmU64 n
 
-infix 70 _but_
-abbrev _but_ : Reading → Operand → Case
-shown but value = record { shown = shown; read = record { answer = accepted; value = value } }
+infix 75 _beside_
+abbrev _beside_ : Reading → Operand → Case
+shown beside value = record { shown = shown; read = record { answer = accepted; value = value } }
 
-pub cases :
-    _≡_ {A = List Case × Place} (
-      inI (a 4) (2 ^ 36)
-          ∷ inI (a 4) 8456757248
-          ∷ inI (a 2) 0
-          ∷ inI (a 2) 402653184
-          ∷ inI (a 5) (2 ^ 36)
-          ∷ inB (b 1) (2 ^ 36)
-          ∷ inB (b 1) 8589926400
-          ∷ inB (b 9) (2 ^ 20)
-          ∷ inM (m 15) (2 ^ 36)
-          ∷ inM (m 10) (2 ^ 13)
-          ∷ inM (m 42) 939524096
-          ∷ inX (x 2) (2 ^ 36) 0
-          ∷ inX (x 3) 0 4
-          ∷ [],
-      targetOf (bundle 16 (2 ^ 14) 0) 0 2 66 1 (2 ^ 64 - 16),
-    ) (
-      writes (r0 ∷ below 8192 ∷ r0 ∷ []) but below 8192
-          ∷ writes (r0 ∷ i 8191 ∷ r0 ∷ []) but i 8191
-          ∷ writes (r0 ∷ r0 ∷ u 1 ∷ r0 ∷ []) but u 1
-          ∷ writes (r0 ∷ r0 ∷ u 4 ∷ r0 ∷ []) but u 4
-          ∷ writes (r0 ∷ below 2097152 ∷ r0 ∷ []) but below 2097152
-          ∷ shows (below 16777216 ∷ u 0 ∷ u 0 ∷ u 0 ∷ []) but below 16777216
-          ∷ shows (i 16777200 ∷ u 0 ∷ u 0 ∷ u 0 ∷ []) but i 16777200
-          ∷ shows (u 1064960 ∷ []) but u 16384
-          ∷ shows (memory ∷ i 256 ∷ []) but below 256
-          ∷ writes (memory ∷ FloatRegister (record { 0 = 1 }) ∷ i 0 ∷ []) but i 0
-          ∷ record { shown = shows (None ∷ []); read = record { answer = badForm; value = None } }
-          ∷ writes (r0 ∷ u (2 ^ 63) ∷ []) but u (2 ^ 63)
-          ∷ shows (u 2097152 ∷ []) but i 16777216
-          ∷ [],
-      record { answer = accepted; address = 16 },
-    )
+infix 70 _is_
+abbrev _is_ : Case → Case → Case × Case
+found is stated = (found, stated)
+
+abbrev pub stated : List (Case × Case)
+stated =
+    inI (a 4) (2 ^ 36) is writes (r0 ∷ below 8192 ∷ r0 ∷ []) beside below 8192
+    ∷ inI (a 4) 8456757248 is writes (r0 ∷ i 8191 ∷ r0 ∷ []) beside i 8191
+    ∷ inI (a 2) 0 is writes (r0 ∷ r0 ∷ u 1 ∷ r0 ∷ []) beside u 1
+    ∷ inI (a 2) 402653184 is writes (r0 ∷ r0 ∷ u 4 ∷ r0 ∷ []) beside u 4
+    ∷ inI (a 5) (2 ^ 36) is writes (r0 ∷ below 2097152 ∷ r0 ∷ []) beside below 2097152
+    ∷ inB (b 1) (2 ^ 36) is shows (below 16777216 ∷ u 0 ∷ u 0 ∷ u 0 ∷ []) beside below 16777216
+    ∷ inB (b 1) 8589926400 is shows (i 16777200 ∷ u 0 ∷ u 0 ∷ u 0 ∷ []) beside i 16777200
+    ∷ inB (b 9) (2 ^ 20) is shows (u 1064960 ∷ []) beside u 16384
+    ∷ inM (m 15) (2 ^ 36) is shows (memory ∷ i 256 ∷ []) beside below 256
+    ∷ inM (m 10) (2 ^ 13) is writes (memory ∷ f1 ∷ i 0 ∷ []) beside i 0
+    ∷ inM (m 42) 939524096 is record { shown = shows (None ∷ []); read = record { answer = badForm; value = None } }
+    ∷ inX (x 2) (2 ^ 36) 0 is writes (r0 ∷ u (2 ^ 63) ∷ []) beside u (2 ^ 63)
+    ∷ inX (x 3) 0 4 is shows (u 2097152 ∷ []) beside i 16777216
+    ∷ []
+
+-- the displacement 32 is B1's with 2 in bits 13 to 32
+abbrev pub wrapped : Place
+wrapped = targetOf (bundle 16 (2 ^ 14) 0) 0 2 66 1 (2 ^ 64 - 16)
+
+pub cases : _≡_ {A = List Case × Place} (each (λ c. c .0) stated, wrapped) (each (λ c. c .1) stated, record { answer = accepted; address = 16 })
 unfolding operandsOf isForm isBad immediateOf targetOf rowOf rowsOf lines unitsOf number bytes gather
 cases = refl

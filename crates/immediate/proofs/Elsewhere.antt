@@ -1,16 +1,15 @@
 -- What writing a form's row leaves as it is: every slot but the form's own, and, for an X form, but the L slot. So the forms of two slots
 -- of a bundle never meet, since beside an X stands an L, which no form fits. Assumes nothing.
-use mathlib.Core.Path.{_≡_, refl, sym, ap, _∙_, subst}
+use mathlib.Core.Path.{_≡_, sym, ap, _∙_, subst}
 use mathlib.Core.Bool.{Bool, true, false, cond}
 use mathlib.Core.List.{List}
 use Prim.Native.Nat.{ℕ, _<_}
 use borrow.Author.Tests.{eqb-true}
 use lib.Dec.{T, eqb, eqb→eq}
-use Rattle.bits.specs.Part.{part}
-use Rattle.bits.specs.Parts.{apart, meetNot}
+use Rattle.bits.specs.Parts.{meetNot}
 use Rattle.bits.proofs.Laws.{part-lt}
 use Rattle.bits.proofs.Parts.{part-scatter}
-use Rattle.bundle.specs.Template.{L, X, unitsOf}
+use Rattle.bundle.specs.Template.{L, X}
 use Rattle.bundle.specs.Bundle.{numberAt, tagOf, slotOf}
 use Rattle.field.specs.Field.{placed}
 use Rattle.field.proofs.Placed.{word, words-apart, elsewhere, other-words}

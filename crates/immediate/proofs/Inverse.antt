@@ -2,7 +2,7 @@
 -- has that raw number. A meaning at a time; each test says what it lets through. Assumes nothing.
 use mathlib.Core.Path.{_≡_, refl, sym, ap, _∙_, subst}
 use mathlib.Core.Bool.{Bool, true, false, cond}
-use mathlib.Core.Logic.{_⊎_, ⊎-elim}
+use mathlib.Core.Logic.{⊎-elim}
 use Prim.Native.Nat.{ℕ, zero, suc, _+_, _-_, _*_, _/_, _%_, _≤_, _<_, _^_}
 use native.Mathlib.Nat.{mul-div-cancel-left, mul-mod-right, mul-le-mul-left}
 use native.Mathlib.Omega.{arith}

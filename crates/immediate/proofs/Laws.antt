@@ -1,7 +1,7 @@
 -- What opening a bundle comes to, case by case: the list of refusals goes on after those of the cut. Assumes nothing.
 use mathlib.Core.Path.{_≡_, refl, sym, ap, _∙_}
-use mathlib.Core.Bool.{Bool, true, false, cond, not, _||_}
-use mathlib.Core.List.{List, [], _∷_, _++_}
+use mathlib.Core.Bool.{true, false, cond, not, _||_}
+use mathlib.Core.List.{List, [], _∷_}
 use Prim.Native.Nat.{ℕ, _<_, suc-le-suc}
 use borrow.Author.Tests.{ltb-false, not-false}
 use lib.Dec.{T, ltb}
@@ -73,3 +73,20 @@ open-sound code k slot family row g e =
 -- the bundle that was opened
 pub open-whole : (code : List ℕ) (k slot family : ℕ) (row : Row) → first (openRefusals code k slot family row) ≡ accepted → Bytes code → whole (openedOf code k slot family row .halves) ≡ numberAt code k
 open-whole code k slot family row e b = ap (λ (o : Opened). whole (o .halves)) (open-done code k slot family row e) ∙ whole-halves (numberAt code k) (number-at-lt code k (cut-found code k (opened code k slot family row e .cut)) b)
+
+-- what was opened for a good row: its answer, and where it accepts, a sound row and the bundle's number
+pub record Opening (code : List ℕ) (k slot family : ℕ) (row : Row) (o : Opened) : Type 0 where
+  pub answer : o .answer ≡ first (openRefusals code k slot family row)
+  pub sound : o .answer ≡ accepted → Sound slot row
+  pub number : o .answer ≡ accepted → whole (o .halves) ≡ numberAt code k
+
+pub opening : (code : List ℕ) (k slot family : ℕ) {row r : Row} {o : Opened} → T (good family row) → Bytes code → r ≡ row → o ≡ openedOf code k slot family r
+    → Opening code k slot family row o
+opening code k slot family {row} {r} {o} g b e f =
+    let is = f ∙ ap (openedOf code k slot family) e in
+    let says = ap (λ (x : Opened). x .answer) is ∙ open-answer code k slot family row in
+    record {
+      answer = says;
+      sound = λ a. open-sound code k slot family row g (sym says ∙ a);
+      number = λ a. ap (λ (x : Opened). whole (x .halves)) is ∙ open-whole code k slot family row (sym says ∙ a) b;
+    }

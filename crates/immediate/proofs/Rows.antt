@@ -4,7 +4,7 @@
 use mathlib.Core.Path.{_≡_, refl, sym, ap, _∙_, subst}
 use mathlib.Core.Bool.{Bool, true, false, cond, not, _&&_, _||_}
 use mathlib.Core.List.{List, [], _∷_}
-use Prim.Native.Nat.{ℕ, zero, suc, _+_, _-_, _*_, _≤_, _<_, _^_}
+use Prim.Native.Nat.{ℕ, zero, suc, _+_, _-_, _*_, _<_, _^_}
 use native.Mathlib.Omega.{arith}
 use borrow.Author.Tests.{eqb-true, eq-eqb}
 use lib.Dec.{T, eqb, leb, ltb, leb→le, ltb→lt, eqb→eq}
@@ -13,7 +13,7 @@ use mir.Facts.{and-yes, eqb-no}
 use Rattle.bits.specs.Parts.{separate}
 use Rattle.bits.proofs.Laws.{part-lt}
 use Rattle.table.specs.Table.{select}
-use Rattle.table.proofs.Check.{below, checked}
+use Rattle.table.proofs.Check.{checked}
 use Rattle.table.proofs.Held.{every, held}
 use Rattle.bundle.specs.Template.{L, X, unitsOf}
 use Rattle.bundle.specs.Bundle.{numberAt, tagOf}

@@ -1,9 +1,8 @@
 -- Numbers of w bits that count units: they stay within 64 bits, and a whole number of units is counted again. Assumes nothing.
-use mathlib.Core.Path.{_≡_, refl, sym, ap, ap₂, _∙_, subst}
+use mathlib.Core.Path.{_≡_, refl, ap, _∙_}
 use mathlib.Core.Bool.{Bool, true, false, cond}
 use Prim.Native.Nat.{ℕ, suc, _+_, _-_, _*_, _/_, _%_, _≤_, _<_, _^_}
-use native.Mathlib.Nat.{mul-comm, mul-le-mul-left, le-trans, div-add-mod', div-lt-iff-lt-mul, le-div-iff-mul-le, mul-div-cancel-left, mul-mod-right, pow-suc}
-use native.Mathlib.Numerals.{add-one}
+use native.Mathlib.Nat.{mul-comm, mul-le-mul-left, le-trans, div-add-mod', div-lt-iff-lt-mul, le-div-iff-mul-le, pow-suc}
 use native.Mathlib.Omega.{arith}
 use borrow.Author.Tests.{ltb-true, ltb-false}
 use lib.Dec.{ltb}

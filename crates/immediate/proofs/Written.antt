@@ -1,27 +1,23 @@
 -- What writing a row comes to: the laws of parts, said of a row that is sound in a slot. Assumes nothing.
-use mathlib.Core.Path.{_≡_, sym, ap, _∙_}
-use mathlib.Core.Bool.{true, false}
-use Prim.Native.Nat.{ℕ, _+_, _*_, _%_, _<_, _^_}
+use mathlib.Core.Path.{_≡_, ap, _∙_}
+use mathlib.Core.Bool.{false}
+use Prim.Native.Nat.{ℕ, _%_, _<_, _^_}
 use native.Mathlib.Nat.{mod-eq-of-lt}
-use native.Mathlib.Omega.{arith}
 use borrow.Author.Tests.{not-false}
-use lib.Dec.{T, eqb, lit≤}
-use Rattle.bits.specs.Part.{part, bit}
+use lib.Dec.{T, lit≤}
+use Rattle.bits.specs.Part.{bit}
 use Rattle.bits.specs.Parts.{gather, apart, apartFrom, meetNot}
 use Rattle.bits.proofs.Parts.{gather-scatter, scatter-gather, scatter-scatter, scatter-comm, scatter-lt, part-scatter, scatter-bit}
-use Rattle.bundle.specs.Template.{X}
-use Rattle.bundle.specs.Bundle.{tagOf, slotOf}
+use Rattle.bundle.specs.Bundle.{tagOf}
 use Rattle.field.specs.Field.{placed, bitsOf}
-use Rattle.field.proofs.Placed.{word, past-tag, within-bundle, elsewhere}
+use Rattle.field.proofs.Placed.{past-tag, within-bundle}
 use Rattle.field.proofs.Steps.{bits-placed, gathered-lt}
 use Rattle.operand.specs.declared.Operand.{Operand}
 use Rattle.immediate.specs.Meaning.{valueOf, rawOf}
 use Rattle.immediate.specs.Immediate.{Sound, isNone, means, valueIn, written}
 use Rattle.immediate.specs.declared.row.Row.{Row}
-use Rattle.immediate.specs.declared.meaning.Raw.{Raw}
 use Rattle.immediate.specs.declared.meaning.Raw.the-variants.{Is}
 use Rattle.immediate.proofs.Inverse.{raw-of-value, value-of-raw}
-use Rattle.immediate.proofs.Rows.{good, in-words}
 
 module _ (slot : ℕ) (row : Row) (s : Sound slot row) (n : ℕ) where
   -- the raw number that was written is read

@@ -9,7 +9,6 @@ use Rattle.answer.specs.Answer.{Refusal, first, outcome, accepted, badForm, bad
 use Rattle.bits.specs.Parts.{gather, scatter, separate}
 use Rattle.bundle.specs.Template.{M, I, unitsOf}
 use Rattle.bundle.specs.Bundle.{numberAt, tagOf, cutRefusals, halvesOf}
-use Rattle.bundle.specs.declared.half.Halves.{Halves}
 use Rattle.field.specs.Field.{placed, bitsOf, readable}
 use Rattle.operand.specs.Pattern.{patternOf}
 use Rattle.operand.specs.declared.Operand.{Operand}

@@ -1,10 +1,10 @@
 -- Document 01's table of immediates. Assumes nothing.
 use Prim.Native.Nat.{ℕ, zero, suc}
-use mathlib.Core.Bool.{Bool, true, false, cond}
+use mathlib.Core.Bool.{cond}
 use mathlib.Core.List.{List, [], _∷_}
 use lib.Dec.{eqb}
 use Rattle.table.specs.Table.{select}
-use Rattle.bundle.specs.Template.{M, I, F, B, X}
+use Rattle.bundle.specs.Template.{M, F, B, X}
 use Rattle.field.specs.Field.{L}
 use Rattle.field.specs.declared.Part.{Part}
 use Rattle.immediate.specs.declared.row.Meaning.{Meaning}

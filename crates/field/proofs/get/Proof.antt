@@ -5,7 +5,7 @@ use native.Mathlib.Nat.{mul-comm, lt-of-lt-of-le}
 use native.Mathlib.Omega.{arith}
 use mir.Facts.{fits-of-lt}
 use lib.Pow.{pow-mono}
-use Rattle.bits.specs.Part.{part, above}
+use Rattle.bits.specs.Part.{part}
 use Rattle.bits.proofs.Laws.{part-lt}
 use Rattle.bits.proofs.Shift.{shl}
 use Rattle.bundle.specs.Bundle.{whole}

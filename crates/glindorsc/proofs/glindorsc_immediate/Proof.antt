@@ -1,5 +1,5 @@
 -- `glindorsc_immediate` meets its contract: it hands on what `immediate` hands back, the value as its pattern. Assumes nothing.
-use mathlib.Core.Path.{_≡_, _∙_, ap}
+use mathlib.Core.Path.{_∙_, ap}
 use Rattle.immediate.specs.declared.Value.{Value}
 use Rattle.glindorsc.specs.Calls.{patternIn, immediateCall}
 use borrow.Author.Needs.{needs}

@@ -1,5 +1,5 @@
 -- `displacement` meets its contract: the number gathered has as many bits as the parts. Assumes nothing.
-use mathlib.Core.Path.{_≡_, _∙_, ap₂, subst}
+use mathlib.Core.Path.{_∙_, ap₂, subst}
 use Prim.Native.Nat.{ℕ}
 use Rattle.bundle.specs.Bundle.{whole}
 use Rattle.field.specs.Field.{bitsOf}

@@ -1,5 +1,5 @@
 -- `only_target` meets its contract: each arm is the definition's case. Assumes nothing.
-use mathlib.Core.Path.{_≡_, _∙_, sym, ap}
+use mathlib.Core.Path.{_∙_, sym, ap}
 use borrow.Author.Tests.{ne-eqb}
 use Rattle.immediate.specs.Immediate.{onlyTimes16}
 use Rattle.immediate.specs.declared.row.Meaning.{Meaning}

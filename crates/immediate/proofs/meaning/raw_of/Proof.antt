@@ -1,5 +1,5 @@
 -- `raw_of` meets its contract: each arm is the definition's case. Assumes nothing.
-use mathlib.Core.Path.{_≡_, _∙_, sym, ap, subst}
+use mathlib.Core.Path.{_∙_, sym, ap, subst}
 use Rattle.immediate.specs.Meaning.{Fitting, rawOf}
 use Rattle.immediate.specs.declared.row.Meaning.{Meaning}
 use borrow.Author.Needs.{needs}

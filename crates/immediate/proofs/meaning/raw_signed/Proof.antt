@@ -1,7 +1,7 @@
 -- `raw_signed` meets its contract: a pattern below 2 ^ 63 is an integer that isn't negative, and any other one that is so much below
 -- zero as the pattern lacks of 2 ^ 64. Assumes nothing.
-use mathlib.Core.Path.{_≡_, _∙_, sym, ap}
-use Prim.Native.Nat.{ℕ, suc, _+_, _-_, _≤_, _<_, _^_}
+use mathlib.Core.Path.{_∙_, sym, ap}
+use Prim.Native.Nat.{ℕ, _+_, _-_, _^_}
 use mir.Syntax.{w64}
 use mir.Val.{SFits}
 use mir.Facts.{toZ-ofZ}

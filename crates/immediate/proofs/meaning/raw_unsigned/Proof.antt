@@ -1,6 +1,6 @@
 -- `raw_unsigned` meets its contract: its tests are the definition's. Assumes nothing.
-use mathlib.Core.Path.{_≡_, _∙_, sym, ap}
-use Prim.Native.Nat.{ℕ, _-_, _≤_, _<_, _^_}
+use mathlib.Core.Path.{_∙_, sym, ap}
+use Prim.Native.Nat.{_-_, _^_}
 use borrow.Author.Tests.{lt-ltb, le-ltb}
 use Rattle.operand.specs.Kind.{ofU64}
 use Rattle.operand.specs.declared.Operand.{Operand}

@@ -1,5 +1,5 @@
 -- `value_of` meets its contract: each arm is the definition's case. Assumes nothing.
-use mathlib.Core.Path.{_≡_, _∙_, sym, ap, subst}
+use mathlib.Core.Path.{_∙_, sym, ap, subst}
 use native.Mathlib.Omega.{arith}
 use mir.Facts.{toZ-ofZ}
 use Rattle.operand.specs.Pattern.{integerOf}

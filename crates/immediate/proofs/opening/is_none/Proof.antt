@@ -1,6 +1,6 @@
 -- `is_none` meets its contract: the tag that `match` saw is the meaning's. Assumes nothing.
-use mathlib.Core.Path.{_≡_, sym, ap}
-use mathlib.Core.Bool.{Bool, not}
+use mathlib.Core.Path.{sym, ap}
+use mathlib.Core.Bool.{not}
 use Rattle.immediate.proofs.Kind.{some-meaning}
 use borrow.Author.Needs.{needs}
 use Rattle.immediate.proofs.opening.is_none.Statement.{statement}

@@ -1,10 +1,8 @@
 -- `open` meets its contract: each return is a case of what opening comes to. Assumes nothing.
 use mathlib.Core.Path.{_≡_, refl, _∙_, ap, sym}
-use mathlib.Core.Bool.{Bool, true, false, not, _||_}
-use Prim.Native.Nat.{ℕ}
+use mathlib.Core.Bool.{true, false}
 use borrow.Author.Tests.{lt-ltb, le-ltb, eqb-false, not-true, not-false}
 use denote.Ref.{now}
-use lib.Dec.{ltb}
 use lib.ListN.{length, getD}
 use Rattle.answer.specs.Answer.{accepted, first}
 use Rattle.bundle.specs.Bytes.{number}

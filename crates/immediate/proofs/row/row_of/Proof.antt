@@ -1,5 +1,5 @@
 -- `row_of` meets its contract: each arm's rows are the family's, and a family that no arm names has none. Assumes nothing.
-use mathlib.Core.Path.{_≡_, _∙_, sym, ap}
+use mathlib.Core.Path.{_∙_, sym, ap}
 use mathlib.Core.List.{List, [], _∷_}
 use Prim.Native.Nat.{ℕ}
 use Rattle.table.specs.Table.{select}

@@ -1,12 +1,9 @@
 -- `width` meets its contract: six parts are their list. Assumes nothing.
 use mathlib.Core.Path.{_≡_, ap}
-use mathlib.Core.List.{List}
-use Prim.Native.Nat.{ℕ, _+_}
 use native.Mathlib.Omega.{arith}
 use lib.ListN.{length, getD}
 use Rattle.bundle.proofs.Elements.{elements, listed}
 use Rattle.field.specs.Field.{bitsOf}
-use Rattle.field.specs.declared.Part.{Part}
 use borrow.Author.Needs.{needs}
 use Rattle.immediate.proofs.row.width.Statement.{statement}
 use Rattle.immediate.proofs.row.width.Tie as tie
