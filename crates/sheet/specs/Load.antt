@@ -39,7 +39,7 @@ startsWith [] text = true
 startsWith (c ∷ cs) [] = false
 startsWith (c ∷ cs) (d ∷ text) = eqb d c && startsWith cs text
 
--- a number at a place that ends in the byte `end`, which isn't 0, and the place after it
+-- a number at a place that the byte `end` ends, and the place after that byte
 unfoldable pub fieldAt : List ℕ → ℕ → ℕ → Number
 fieldAt text at end =
     afterNumber (numberOf text at) (λ n next. cond (leb (length text) next) number.Refused (cond (eqb (getD text next 0) end) (number.Read n (next + 1)) number.Refused)) number.Refused
