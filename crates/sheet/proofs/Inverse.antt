@@ -1,20 +1,19 @@
 -- Loading is the inverse of writing: a valid journal's sheet loads as that journal, and what loads is the sheet of the journal that it
 -- gives. Both by induction on the lines, of which each is read where it stands. Assumes nothing.
 use mathlib.Core.Path.{_≡_, refl, sym, ap, _∙_, subst}
-use mathlib.Core.Bool.{Bool, true, false, cond, _&&_}
-use mathlib.Core.List.{List, [], _∷_, _++_, append-assoc, append-nil}
+use mathlib.Core.Bool.{Bool, true, false}
+use mathlib.Core.List.{List, [], _∷_, _++_, append-nil}
 use mathlib.Core.Option.{Option, none, some}
-use Prim.Native.Nat.{ℕ, zero, suc, _+_, _≤_, _<_}
+use Prim.Native.Nat.{ℕ, zero, suc, _+_, _≤_}
 use native.Mathlib.Omega.{arith}
 use native.Mathlib.Decide.{decLt, ℕ-discrete}
-use lib.Dec.{T, eqb, leb, eqb→eq}
+use lib.Dec.{T, eqb, eqb→eq}
 use lib.ListN.{length, set, take, drop, replicate, length-append, length-drop, length-replicate, take-append-drop}
 use lib.Seq.{append-snoc, drop-length, set-at, take-at, length-take-le}
 use mir.Facts.{and-yes}
 use borrow.Author.Tests.{eq-eqb, ne-eqb, le-leb, lt-leb}
-use Rattle.answer.specs.Answer.{accepted}
-use Rattle.journal.specs.Journal.{noRecord, fresh, placesValid, validOf}
-use Rattle.journal.specs.declared.Edited.{Edited}
+use Rattle.answer.specs.Answer.{accepted, badSheet}
+use Rattle.journal.specs.Journal.{noRecord, validOf}
 use Rattle.journal.specs.declared.records.Journal.{Journal}
 use Rattle.journal.specs.declared.records.Record.{Record}
 use Rattle.journal.proofs.Laws.{valid-count}
@@ -23,11 +22,12 @@ use Rattle.text.specs.declared.number.Number.{Number}
 use Rattle.text.specs.declared.number.Number.the-variants.{Read, Refused}
 use Rattle.sheet.specs.declared.line.Line.{Line}
 use Rattle.sheet.specs.declared.line.Line.the-variants as line
-use Rattle.sheet.specs.Held.{Held, LoadsWritten, LoadsOnlyWritten}
-use Rattle.sheet.specs.Load.{startsWith, fieldAt, lineAt, filled, headOf, journalOf, answerOf, loadOf}
+use Rattle.sheet.specs.Held.{Held}
+use Rattle.sheet.specs.RoundTrip.{SheetOf, LoadsWritten, LoadsOnlyWritten, RefusesOther}
+use Rattle.sheet.specs.Load.{startsWith, lineAt, filled, headOf, journalOf, answerOf, loadOf}
 use Rattle.sheet.specs.Sheet.{lineOf, linesOf, headerOf, sheetOf}
 use Rattle.sheet.proofs.Lengths.{valid-places}
-use Rattle.sheet.proofs.Places.{Good, AllGood, good-append, good-free, good-at, standing-good, rest-free, places-good}
+use Rattle.sheet.proofs.Places.{AllGood, good-append, good-free, good-at, standing-good, rest-free, places-good}
 use Rattle.sheet.proofs.Stands.{Stands, field, stands-parts, stands-then, field-back, field-read, line-back, line-read}
 
 -- the journal of some places
@@ -148,10 +148,6 @@ headed text count at e = go (startsWith (ascii "patches\t") text) refl
     go false s = absurd (let f : Refused ≡ Read count at = rw s at e in let z : _≡_ {A = ℕ} 0 1 = cc in omega arith)
     go true s = record { starts = starts-is (ascii "patches\t") text s; counts = field-read text 8 count 10 at (rw s at e) .stands }
 
--- a valid journal, and the text its sheet
-abbrev SheetOf : List ℕ → Journal → Type 0
-SheetOf text j = Held j × (validOf j ≡ true) × (text ≡ sheetOf j)
-
 module _ (text : List ℕ) (count at : ℕ) (few : count ≤ 64) (j : Journal) (h : Headed text count at) (f : Filled text at count count [] (replicate 64 noRecord) j) where
   free : List Record
   free = drop count (replicate 64 noRecord)
@@ -203,3 +199,11 @@ load-only-written given text e = go (journalOf text) refl e
     go : (o : Option Journal) → journalOf text ≡ o → answerOf given o .answer ≡ accepted → SheetOf text (answerOf given o .journal)
     go none q e = absurd (omega (arith, e))
     go (some j) q e = journal-sheet text j (headOf text) refl q
+
+pub refuses-other : RefusesOther
+unfolding loadOf
+refuses-other given text none-is = go (journalOf text) refl
+  where
+    go : (o : Option Journal) → journalOf text ≡ o → answerOf given o ≡ record { answer = badSheet; journal = given }
+    go none q = refl
+    go (some j) q = absurd (none-is j (journal-sheet text j (headOf text) refl q))

@@ -1,11 +1,11 @@
 -- The places of a valid journal are its standing records, each of which a line can hold, and free places; and such a list of places is
 -- valid. By induction on the places. Assumes nothing.
-use mathlib.Core.Path.{_≡_, refl, sym, ap, _∙_, subst}
+use mathlib.Core.Path.{_≡_, refl}
 use mathlib.Core.Bool.{true, _&&_}
 use mathlib.Core.List.{List, [], _∷_, _++_}
 use Prim.Native.Nat.{ℕ, zero, suc, _+_, _≤_, _<_}
 use native.Mathlib.Omega.{arith}
-use lib.Dec.{T, leb, ltb, eqb, eqb→eq, lit<}
+use lib.Dec.{T, ltb, eqb, eqb→eq, lit<}
 use lib.ListN.{length, getD, take, drop, replicate}
 use mir.Facts.{and-yes}
 use borrow.Author.Tests.{lt-ltb, le-ltb, le-leb}

@@ -1,5 +1,5 @@
 -- Reading a sheet, a step at a time. By the definitions' tests. Assumes nothing.
-use mathlib.Core.Path.{_≡_, refl, ap, _∙_}
+use mathlib.Core.Path.{_≡_, refl}
 use mathlib.Core.Bool.{Bool, true, false, _&&_}
 use mathlib.Core.List.{List, [], _∷_}
 use mathlib.Core.Option.{none, some}
@@ -9,7 +9,7 @@ use native.Mathlib.Omega.{arith}
 use lib.Dec.{eqb}
 use lib.ListN.{length, getD, drop, drop-of-length-le}
 use lib.Seq.{drop-cons}
-use borrow.Author.Tests.{le-leb, lt-leb, eq-eqb, ne-eqb}
+use borrow.Author.Tests.{lt-ltb, le-ltb, le-leb, lt-leb, eq-eqb, ne-eqb}
 use Rattle.text.specs.declared.number.Number.the-variants.{Read, Refused}
 use Rattle.text.specs.Number.{numberOf}
 use Rattle.bundle.specs.declared.half.Halves.{Halves}
@@ -46,15 +46,15 @@ module _ (text : List ℕ) (at end : ℕ) where
   module _ (n next : ℕ) (e : numberOf text at ≡ Read n next) where
     pub field-past : length text ≤ next → Refused ≡ fieldAt text at end
     unfolding fieldAt
-    field-past h = rw (e, le-leb (length text) next h)
+    field-past h = rw (e, le-ltb next (length text) h)
 
     pub field-other : next < length text → (getD text next 0 ≡ end → ⊥) → Refused ≡ fieldAt text at end
     unfolding fieldAt
-    field-other h d = rw (e, lt-leb (length text) next h, ne-eqb (getD text next 0) end d)
+    field-other h d = rw (e, lt-ltb next (length text) h, ne-eqb (getD text next 0) end d)
 
     pub field-ended : next < length text → getD text next 0 ≡ end → Read n (next + 1) ≡ fieldAt text at end
     unfolding fieldAt
-    field-ended h d = rw (e, lt-leb (length text) next h, eq-eqb (getD text next 0) end d)
+    field-ended h d = rw (e, lt-ltb next (length text) h, eq-eqb (getD text next 0) end d)
 
 -- halves, by the fields that they are made of
 module _ (text : List ℕ) (at end : ℕ) where

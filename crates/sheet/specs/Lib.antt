@@ -1,3 +1,4 @@
 pub mod Held
 pub mod Load
+pub mod RoundTrip
 pub mod Sheet

@@ -3,7 +3,7 @@ use Prim.Native.Nat.{ℕ, zero, suc, _+_}
 use mathlib.Core.Bool.{Bool, true, false, cond, _&&_}
 use mathlib.Core.List.{List, [], _∷_}
 use mathlib.Core.Option.{Option, none, some}
-use lib.Dec.{eqb, leb}
+use lib.Dec.{eqb, leb, ltb}
 use lib.ListN.{length, getD, set}
 use Rattle.answer.specs.Answer.{accepted, badSheet}
 use Rattle.bundle.specs.declared.half.Halves.{Halves}
@@ -39,10 +39,10 @@ startsWith [] text = true
 startsWith (c ∷ cs) [] = false
 startsWith (c ∷ cs) (d ∷ text) = eqb d c && startsWith cs text
 
--- a number at a place that ends in the byte `end`, which isn't 0, and the place after it
+-- a number at a place that the byte `end` ends, and the place after that byte
 unfoldable pub fieldAt : List ℕ → ℕ → ℕ → Number
 fieldAt text at end =
-    afterNumber (numberOf text at) (λ n next. cond (leb (length text) next) number.Refused (cond (eqb (getD text next 0) end) (number.Read n (next + 1)) number.Refused)) number.Refused
+    afterNumber (numberOf text at) (λ n next. cond (ltb next (length text) && eqb (getD text next 0) end) (number.Read n (next + 1)) number.Refused) number.Refused
 
 -- two numbers parted by a tab
 unfoldable pub halvesAt : List ℕ → ℕ → ℕ → Pair

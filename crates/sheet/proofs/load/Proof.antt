@@ -1,8 +1,7 @@
 -- `sheet::load` meets its contract. The loop's invariant: loading comes to what the lines left come to, with the records so far.
 -- Assumes nothing.
-use mathlib.Core.Path.{_≡_, refl, sym, ap, _∙_}
-use mathlib.Core.Option.{Option, none, some}
-use Prim.Native.Nat.{ℕ, _-_, _≤_}
+use mathlib.Core.Path.{_≡_, sym, ap, _∙_}
+use Prim.Native.Nat.{_-_, _≤_}
 use native.Mathlib.Omega.{arith}
 use borrow.Author.Needs.{needs}
 use lib.ListN.{length, length-set}
@@ -19,7 +18,6 @@ Inv-loop journal text count first loaded₀ at₀ i₀ loaded at i = (i ≤ coun
 abbrev μ-loop : tie.MeasureT-loop
 μ-loop journal text count first loaded₀ at₀ i₀ loaded at i = count - i
 
--- src/lib.rt:82:9
 -- the count that was read
 head-read : (c : tie.After-head Inv-loop μ-loop) → headOf (c .before .before .before .before .args .text .now) ≡ Read (c .head .given .0 .0) (c .head .given .0 .1 .0)
 head-read c = sym (c .before .before .read-head .ensures) ∙ c .head .given .1
@@ -27,39 +25,31 @@ head-read c = sym (c .before .before .read-head .ensures) ∙ c .head .given .1
 read-head-requires : tie.Need-read-head-requires Inv-loop μ-loop
 read-head-requires c κs = tt
 
--- src/lib.rt:83:22
 enum-known-head : tie.Need-enum-known-head Inv-loop μ-loop
 enum-known-head c = search needs
 
--- src/lib.rt:84:9
 enum-told : tie.Need-enum-told Inv-loop μ-loop
 enum-told c = search needs
 
--- src/lib.rt:84:9
 refused-requires : tie.Need-refused-requires Inv-loop μ-loop
 refused-requires c κs = tt
 
--- src/lib.rt:84:9
 returns : tie.Need-returns Inv-loop μ-loop
 returns c =
     let a = c .before .before .before .before .before .args in
     c .refused .ensures ∙ sym (load-no-head (a .journal) (a .text .now) (sym (c .before .before .before .read-head .ensures) ∙ c .before .enum-told .given .1))
 
--- src/lib.rt:87:9
 refused-requires-2 : tie.Need-refused-requires-2 Inv-loop μ-loop
 refused-requires-2 c κs = tt
 
--- src/lib.rt:87:9
 returns-2 : tie.Need-returns-2 Inv-loop μ-loop
 returns-2 c =
     let a = c .before .before .before .before .before .before .before .args in
     c .refused2 .ensures ∙ sym (load-many (a .journal) (a .text .now) _ _ (head-read (c .before .before .before)) (c .before .if1 .taken))
 
--- src/lib.rt:89:22
 empty-requires : tie.Need-empty-requires Inv-loop μ-loop
 empty-requires c κs = tt
 
--- src/lib.rt:93:5
 loop-holds : tie.Need-loop-holds Inv-loop μ-loop
 loop-holds c =
     let a = c .before .before .before .before .before .before .before .args in
@@ -70,23 +60,18 @@ loop-holds c =
           ∙ ap (λ (j : Journal). answerOf (a .journal) (filled (a .text .now) (h .1 .0) 0 (h .0 - 0) (record { count = h .0; records = j .records }))) (sym (c .empty .ensures)),
     )
 
--- src/lib.rt:94:13
 read-line-requires : tie.Need-read-line-requires Inv-loop μ-loop
 read-line-requires c κs = tt
 
--- src/lib.rt:95:24
 enum-known-line : tie.Need-enum-known-line Inv-loop μ-loop
 enum-known-line c = search needs
 
--- src/lib.rt:96:13
 enum-told-2 : tie.Need-enum-told-2 Inv-loop μ-loop
 enum-told-2 c = search needs
 
--- src/lib.rt:96:13
 refused-requires-3 : tie.Need-refused-requires-3 Inv-loop μ-loop
 refused-requires-3 c κs = tt
 
--- src/lib.rt:96:13
 returns-3 : tie.Need-returns-3 Inv-loop μ-loop
 returns-3 c =
     let l = c .before .before .before .before .before .loop in
@@ -94,23 +79,18 @@ returns-3 c =
     c .refused3 .ensures
     ∙ sym (l .inv .2 ∙ ap (answerOf (a .journal)) (filled-not (a .text .now) (l .at) (l .i) _ (l .loaded) (c .before .before .before .before .loop-test .taken) (sym (c .before .before .before .read-line .ensures) ∙ c .before .enum-told2 .given .1)))
 
--- src/lib.rt:98:9
 mul-place : tie.Need-mul-place Inv-loop μ-loop
 mul-place c = search needs
 
--- src/lib.rt:98:9
 element-set-from-place : tie.Need-element-set-from-place Inv-loop μ-loop
 element-set-from-place c = search needs
 
--- src/lib.rt:100:9
 add-i : tie.Need-add-i Inv-loop μ-loop
 add-i c = omega arith
 
--- src/lib.rt:93:5
 loop-less : tie.Need-loop-less Inv-loop μ-loop
 loop-less c = omega arith
 
--- src/lib.rt:93:5
 loop-again : tie.Need-loop-again Inv-loop μ-loop
 loop-again c =
     let l = c .before .before .before .before .before .loop in
@@ -120,18 +100,15 @@ loop-again c =
       l .inv .2 ∙ ap (answerOf (a .journal)) (filled-on (a .text .now) (l .at) (l .i) _ (l .loaded) (c .before .before .before .before .loop-test .taken) _ _ (sym (c .before .before .before .read-line .ensures) ∙ c .before .line .given .1)),
     )
 
--- src/lib.rt:103:9
 refused-requires-4 : tie.Need-refused-requires-4 Inv-loop μ-loop
 refused-requires-4 c κs = tt
 
--- src/lib.rt:103:9
 returns-4 : tie.Need-returns-4 Inv-loop μ-loop
 returns-4 c =
     let l = c .before .before .before .loop in
     let a = c .before .before .before .before .before .before .before .before .before .before .before .args in
     c .refused4 .ensures ∙ sym (l .inv .2 ∙ ap (answerOf (a .journal)) (filled-trailing (a .text .now) (l .at) (l .i) _ (l .loaded) (c .before .before .loop-test .left) (c .before .if2 .taken)))
 
--- src/lib.rt:79:1
 returns-5 : tie.Need-returns-5 Inv-loop μ-loop
 returns-5 c =
     let l = c .before .before .loop in

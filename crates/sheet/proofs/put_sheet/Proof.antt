@@ -1,18 +1,16 @@
 -- `sheet::put_sheet` meets its contract: the first line and the records' lines, one after the other. The loop's invariant: the lines of
 -- the records but the last `left` are written. Assumes nothing.
-use mathlib.Core.Path.{_≡_, refl, sym, ap, _∙_}
-use mathlib.Core.List.{List, _∷_, []}
+use mathlib.Core.Path.{_≡_, refl, sym, _∙_}
 use Prim.Native.Nat.{ℕ, _+_, _-_, _≤_, _<_}
 use native.Mathlib.Nat.{add-zero}
 use native.Mathlib.Omega.{arith}
 use borrow.Author.Needs.{needs}
-use lib.ListN.{length, take, getD, length-map}
-use Rattle.journal.specs.Journal.{noRecord}
+use lib.ListN.{length, take, length-map}
 use Rattle.text.specs.Put.{Put}
 use Rattle.text.specs.Decimal.{decimal}
 use Rattle.text.proofs.Writing.{put-then, put-length, field-length}
-use Rattle.sheet.specs.Sheet.{lineOf, linesOf, sheetOf}
-use Rattle.sheet.proofs.Sheets.{lines-more, lines-within, sheet-length, line-within}
+use Rattle.sheet.specs.Sheet.{linesOf, sheetOf}
+use Rattle.sheet.proofs.Sheets.{lines-more, sheet-length, line-within}
 use Rattle.sheet.proofs.put_sheet.Statement.{statement}
 use Rattle.sheet.proofs.put_sheet.Tie as tie
 

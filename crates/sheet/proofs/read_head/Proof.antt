@@ -1,5 +1,5 @@
 -- `sheet::read_head` meets its contract: the fixed string is compared, and the count is the field after it. Assumes nothing.
-use mathlib.Core.Path.{_≡_, sym, _∙_}
+use mathlib.Core.Path.{sym, _∙_}
 use borrow.Author.Needs.{needs}
 use borrow.Author.Tests.{not-true, not-false}
 use Rattle.sheet.specs.Load.{headOf}

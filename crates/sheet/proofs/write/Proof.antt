@@ -1,5 +1,5 @@
 -- `sheet::write` meets its contract: a case of writing a whole text at each return. Assumes nothing.
-use mathlib.Core.Path.{_≡_, refl, sym, ap, _∙_}
+use mathlib.Core.Path.{_≡_, refl, sym, _∙_}
 use mathlib.Core.Bool.{true}
 use Prim.Native.Nat.{_≤_}
 use borrow.Author.Needs.{needs}
@@ -7,7 +7,6 @@ use borrow.Author.Tests.{leb-true, leb-false, eqb-false, not-true, not-false}
 use lib.ListN.{length, length-map}
 use Rattle.answer.specs.Answer.{first, accepted, badJournal}
 use Rattle.journal.specs.Journal.{validOf}
-use Rattle.journal.specs.declared.records.Journal.{Journal}
 use Rattle.journal.proofs.Laws.{valid-count}
 use Rattle.text.proofs.Wholes.{whole-refused, whole-no-room, whole-put}
 use Rattle.sheet.specs.Held.{Held}
