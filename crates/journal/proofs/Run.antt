@@ -279,5 +279,12 @@ module _ (code : List ℕ) (b : Bytes code) (short : length code ≤ 65536) wher
       answer : (call : Call) → run code (call ∷ calls) .answer ≡ answerTo code (standing code calls) call
       answer call = ap (λ (o : Outcome). o .answer) (next calls call)
 
+  -- a run's journal is valid, and at most 64 edits stand
+  pub run-valid : (calls : List Call) → validOf (run code calls .journal) ≡ true
+  run-valid calls = ap validOf (reached calls .1) ∙ valid (standing code calls) (all-stand calls)
+
+  pub run-most : (calls : List Call) → length (standing code calls) ≤ 64
+  run-most calls = at-most (standing code calls) (all-stand calls)
+
 pub demand-3 : Demand3
 demand-3 = holds

@@ -1,3 +1,4 @@
+pub mod Across
 pub mod Inverse
 pub mod Lengths
 pub mod Owned
@@ -5,3 +6,4 @@ pub mod Places
 pub mod Reading
 pub mod Sheets
 pub mod Stands
+pub mod Unique

@@ -1,3 +1,4 @@
+pub mod Across
 pub mod Held
 pub mod Load
 pub mod RoundTrip
