@@ -19,8 +19,8 @@ mod sum;
 mod target;
 mod undo;
 
-use crate::line;
-use crate::part;
+use lines::fields;
+use lines::part;
 
 pub struct Done {
     pub length: usize,
@@ -73,7 +73,7 @@ pub fn answer(
 ) -> Done {
     let end = part::first(line, 0, b' ');
     let command = part::place(&NAMES, &line[0..end]);
-    let f = line::fields(line, end, count(command));
+    let f = fields::numbers_at(line, end, count(command));
     let of = f.of;
     let rest = part::within(line, f.at);
     if !f.ok {

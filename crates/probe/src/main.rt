@@ -2,13 +2,8 @@
 ghost use mathlib.Core.Path.{_≡_};
 ghost use lib.ListN.{length};
 
-mod bytes;
 mod command;
 mod kept;
-mod line;
-mod operand_text;
-mod out;
-mod part;
 mod session;
 
 // Room for the longest line, and more.

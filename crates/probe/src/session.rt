@@ -1,7 +1,7 @@
 // The run over standard input: read in blocks, answered line by line, written in blocks.
 use crate::command;
-use crate::out;
-use crate::part;
+use lines::out;
+use lines::part;
 
 // The longest line that is answered.
 const LONGEST: usize = 400000;
@@ -67,7 +67,7 @@ fn block(
     s: State,
 ) -> State {
     let n = part::within(text, held);
-    let t = lines(&text[0..n], code, kept, out, s);
+    let t = whole_lines(&text[0..n], code, kept, out, s);
     write(out, t.at);
     left(text, n, t)
 }
@@ -94,7 +94,7 @@ fn left(text: &mut [u8], n: usize, t: State) -> State {
 }
 
 // Answers each line that ends in the text. How much of the text that was is `held` of what it answers.
-fn lines(text: &[u8], code: &mut [u8], kept: &mut [u64], out: &mut [u8], s: State) -> State {
+fn whole_lines(text: &[u8], code: &mut [u8], kept: &mut [u64], out: &mut [u8], s: State) -> State {
     let mut t = s;
     t.held = 0;
     let mut from = 0;

@@ -1,7 +1,7 @@
 // `code LEN`: the code is LEN zero bytes.
 use crate::command::Done;
-use crate::out;
-use crate::part;
+use lines::out;
+use lines::part;
 
 pub fn answer(
     count: u64,

@@ -1,5 +1,5 @@
 // `cut N`: a bundle's tag, units and slots.
-use crate::out;
+use lines::out;
 
 pub fn answer(number: u64, code: &[u8], out: &mut [u8], at: usize) -> usize {
     let cut = bundle::cut(code, number);

@@ -1,9 +1,9 @@
 // `edit N SLOT F NUMBER OPERAND`: writes a value into a form's immediate.
 use crate::kept;
-use crate::line;
-use crate::operand_text;
-use crate::operand_text::Parsed;
-use crate::out;
+use lines::fields;
+use lines::operands;
+use lines::operands::Parsed;
+use lines::out;
 
 pub fn answer(
     of: [u64; 6],
@@ -13,7 +13,7 @@ pub fn answer(
     out: &mut [u8],
     at: usize,
 ) -> usize {
-    let Parsed::Of(value) = operand_text::read(line::after_gap(rest)) else {
+    let Parsed::Of(value) = operands::read(fields::rest(rest)) else {
         return at;
     };
     let edited = journal::edit(code, kept::journal(kept), of[0], of[1], of[2], of[3], value);

@@ -1,5 +1,5 @@
 // `find N`: the sixteen bytes of a bundle.
-use crate::out;
+use lines::out;
 
 pub fn answer(number: u64, code: &[u8], out: &mut [u8], at: usize) -> usize {
     let name = out::text(out, at, b"find");

@@ -1,6 +1,6 @@
 // `join OUTLEN TAG W0 W1 W2`: into an output of OUTLEN bytes, at most 64, that are all 238.
-use crate::out;
-use crate::part;
+use lines::out;
+use lines::part;
 
 pub fn answer(of: [u64; 6], out: &mut [u8], at: usize) -> usize {
     if 64 < of[0] {

@@ -1,6 +1,6 @@
 // `journal COUNT`: the journal has that count, whatever it is, and every place zero.
 use crate::kept;
-use crate::out;
+use lines::out;
 
 pub fn answer(count: u64, kept: &mut [u64], out: &mut [u8], at: usize) -> usize {
     kept::clear(kept);

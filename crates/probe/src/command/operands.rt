@@ -1,6 +1,6 @@
 // `operands F N WORD L`: the last-written position and five operands.
-use crate::operand_text;
-use crate::out;
+use lines::operands;
+use lines::out;
 use operand::Position;
 use operand::Reading;
 
@@ -29,7 +29,7 @@ fn shown(out: &mut [u8], at: usize, reading: Reading) -> usize {
     while i < 5 {
         let one = operands[i];
         let o = one.0;
-        to = operand_text::write(out, to, o);
+        to = operands::write(out, to, o);
         i += 1;
     }
     to

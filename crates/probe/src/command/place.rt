@@ -1,6 +1,6 @@
 // `place I BUNDLE OLDLOW OLDHIGH NEWLOW NEWHIGH`: sets a place of the journal.
 use crate::kept;
-use crate::out;
+use lines::out;
 
 pub fn answer(of: [u64; 6], kept: &mut [u64], out: &mut [u8], at: usize) -> usize {
     let i = of[0];

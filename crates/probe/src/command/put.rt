@@ -1,13 +1,13 @@
 // `put AT BYTES`: writes bytes into the code.
-use crate::bytes;
-use crate::line;
-use crate::line::Number;
-use crate::out;
-use crate::part;
+use lines::bytes;
+use lines::bytes::Spelt;
+use lines::fields;
+use lines::out;
+use lines::part;
 
 pub fn answer(place: u64, rest: &[u8], code: &mut [u8], out: &mut [u8], at: usize) -> usize {
-    let text = line::after_gap(rest);
-    let Number::Of(count) = bytes::count(text) else {
+    let text = fields::rest(rest);
+    let Spelt::Of(count) = bytes::count(text) else {
         return at;
     };
     let start = place as usize;

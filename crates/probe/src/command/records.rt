@@ -1,6 +1,6 @@
 // `records`: the journal's count, and each place that isn't all zero.
 use crate::kept;
-use crate::out;
+use lines::out;
 
 pub fn answer(kept: &[u64], out: &mut [u8], at: usize) -> usize {
     let name = out::text(out, at, b"records");

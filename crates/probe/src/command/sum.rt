@@ -1,6 +1,6 @@
 // `sum`: the code's length, and a number that its bytes make.
 ghost use Prim.Native.Nat.{_<_};
-use crate::out;
+use lines::out;
 
 const PRIME: u64 = 4294967291;
 

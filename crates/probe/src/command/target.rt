@@ -1,5 +1,5 @@
 // `target N SLOT F NUMBER ADDRESS`: where a form in a slot leads, its bundle standing at that address.
-use crate::out;
+use lines::out;
 
 pub fn answer(of: [u64; 6], code: &[u8], out: &mut [u8], at: usize) -> usize {
     let place = immediate::target(code, of[0], of[1], of[2], of[3], of[4]);

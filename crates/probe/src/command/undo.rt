@@ -1,6 +1,6 @@
 // `undo`: takes the last edit back.
 use crate::kept;
-use crate::out;
+use lines::out;
 
 pub fn answer(code: &mut [u8], kept: &mut [u64], out: &mut [u8], at: usize) -> usize {
     let undone = journal::undo(code, kept::journal(kept));
