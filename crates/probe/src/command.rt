@@ -11,10 +11,12 @@ mod get;
 mod immediates;
 mod join;
 mod journals;
+mod load;
 mod operands;
 mod place;
 mod put;
 mod records;
+mod sheets;
 mod sum;
 mod target;
 mod undo;
@@ -27,8 +29,8 @@ pub struct Done {
     pub at: usize,
 }
 
-const NAMES: [u8; 88] =
-    *b"code get sum find cut join operands immediate target put journal place records undo edit";
+const NAMES: [u8; 99] =
+    *b"code get sum find cut join operands immediate target put journal place records undo sheet edit load";
 
 // Places in the list of names: first the commands that leave the journal alone, then the others; the
 // last of both have text after their numbers.
@@ -60,7 +62,11 @@ const RECORDS: u64 = 12;
 
 const UNDO: u64 = 13;
 
-const EDIT: u64 = 14;
+const SHEET: u64 = 14;
+
+const EDIT: u64 = 15;
+
+const LOAD: u64 = 16;
 
 // A line on a code of that length, in its room, and on a journal.
 pub fn answer(
@@ -94,7 +100,7 @@ fn count(command: u64) -> usize
     ensures { λ r. ⌜ r ≤ 6 ⌝ }
 {
     match command {
-        SUM | RECORDS | UNDO => 0,
+        SUM | RECORDS | UNDO | LOAD => 0,
         GET => 2,
         OPERANDS | IMMEDIATE | EDIT => 4,
         JOIN | TARGET => 5,
@@ -117,6 +123,9 @@ fn called(
     }
     if command == EDIT {
         return edit::answer(of, rest, code, kept, out, at);
+    }
+    if command == LOAD {
+        return load::answer(rest, kept, out, at);
     }
     if 0 < rest.len() {
         return at;
@@ -154,6 +163,7 @@ fn on_journal(
         PLACE => place::answer(of, kept, out, at),
         RECORDS => records::answer(kept, out, at),
         UNDO => undo::answer(code, kept, out, at),
+        SHEET => sheets::answer(of[0], kept, out, at),
         _ => at,
     }
 }
