@@ -1,0 +1,52 @@
+// Calls that read: `cut`, `operands`, `immediate`, and the listing.
+use crate::sum;
+use crate::sum::plus;
+
+// Every bundle of a code, cut.
+#[no_mangle]
+pub extern "C" fn bench_cut(code: &[u8]) -> u64 {
+    let count = code.len() / 16;
+    let mut sum = 0;
+    let mut n = 0;
+    while n < count {
+        sum = plus(sum, sum::of_bundle(bundle::cut(code, n as u64)));
+        n += 1;
+    }
+    sum
+}
+
+// The operands of a family's forms, each in its word and L word.
+#[no_mangle]
+pub extern "C" fn bench_operands(family: u64, numbers: &[u64], words: &[u64], ls: &[u64]) -> u64 {
+    let mut sum = 0;
+    let mut i = 0;
+    while i < words.len() {
+        let read = readers::operands(family, sum::at(numbers, i), words[i], sum::at(ls, i));
+        let reading = read.reading;
+        sum = plus(sum, sum::of_reading(reading));
+        i += 1;
+    }
+    sum
+}
+
+// The immediate of a form in a slot of every bundle.
+#[no_mangle]
+pub extern "C" fn bench_immediate(code: &[u8], slot: u64, family: u64, number: u64) -> u64 {
+    let count = code.len() / 16;
+    let mut sum = 0;
+    let mut n = 0;
+    while n < count {
+        let read = immediate::immediate(code, n as u64, slot, family, number);
+        let value = read.value;
+        sum = plus(sum, sum::of_operand(value));
+        n += 1;
+    }
+    sum
+}
+
+// The listing of a text.
+#[no_mangle]
+pub extern "C" fn bench_listing(text: &[u8], out: &mut [u8]) -> u64 {
+    let written = lister::listing(text, out);
+    written.length as u64
+}

@@ -1,0 +1,97 @@
+// Calls that write: immediates, `edit` and `undo`, and sheets.
+use crate::sum;
+use crate::sum::plus;
+use journal::Journal;
+use operand::Operand;
+
+// An immediate's value for a row with a sign, or without.
+fn value_of(signed: u64, pattern: u64) -> Operand {
+    if signed == 0 {
+        return Operand::ImmU64(pattern);
+    }
+    let integer = operand::integer(pattern);
+    Operand::ImmI64(integer)
+}
+
+// Writes each value into a form's immediate in a slot of the bundle at the same place.
+#[no_mangle]
+pub extern "C" fn bench_write(
+    code: &mut [u8],
+    slot: u64,
+    family: u64,
+    number: u64,
+    signed: u64,
+    values: &[u64],
+) -> u64 {
+    let count = code.len() / 16;
+    let mut sum = 0;
+    let mut n = 0;
+    while n < count {
+        let value = value_of(signed, sum::at(values, n));
+        let plan = journal::planned(code, n as u64, slot, family, number, value);
+        let new = plan.new;
+        bundle::write(&mut code[16 * n..16 * n + 16], new);
+        sum = plus(sum, plan.answer as u64);
+        n += 1;
+    }
+    sum
+}
+
+// A journal with so many records: slot 2, B1, of the first bundles set to 16.
+fn filled(code: &mut [u8], records: u64) -> Journal {
+    let mut journal = journal::empty();
+    let mut n = 0;
+    while n < records {
+        let edited = journal::edit(code, journal, n, 2, 66, 1, Operand::ImmI64(16));
+        journal = edited.journal;
+        n += 1;
+    }
+    journal
+}
+
+// So many edits, each undone, after so many that stand.
+#[no_mangle]
+pub extern "C" fn bench_edit(code: &mut [u8], standing: u64, times: u64) -> u64 {
+    let mut journal = filled(code, standing);
+    let mut sum = 0;
+    let mut left = times;
+    while 0 < left {
+        let edited = journal::edit(code, journal, 63, 2, 66, 1, Operand::ImmI64(32));
+        let made = edited.journal;
+        sum = plus(sum, made.count);
+        let undone = journal::undo(code, made);
+        journal = undone.journal;
+        sum = plus(sum, journal.count);
+        left -= 1;
+    }
+    sum
+}
+
+// The sheet of a journal with so many records, written so many times.
+#[no_mangle]
+pub extern "C" fn bench_sheet(code: &mut [u8], standing: u64, times: u64, out: &mut [u8]) -> u64 {
+    let journal = filled(code, standing);
+    let mut sum = 0;
+    let mut left = times;
+    while 0 < left {
+        let written = sheet::write(journal, out);
+        sum = plus(sum, written.length as u64);
+        left -= 1;
+    }
+    sum
+}
+
+// A sheet, loaded so many times.
+#[no_mangle]
+pub extern "C" fn bench_load(text: &[u8], times: u64) -> u64 {
+    let mut journal = journal::empty();
+    let mut sum = 0;
+    let mut left = times;
+    while 0 < left {
+        let loaded = sheet::load(journal, text);
+        journal = loaded.journal;
+        sum = plus(sum, journal.count);
+        left -= 1;
+    }
+    sum
+}

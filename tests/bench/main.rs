@@ -1,0 +1,224 @@
+//! Times the library's calls, through crates/bench, beside 000's and plain Rust's on the same inputs, and prints a table. Both
+//! sides' answers are compared: a difference ends the run.
+
+mod plain;
+
+use of000::bench as old;
+use plain::{Journal, Value};
+use std::hint::black_box;
+use std::time::Instant;
+
+#[link(name = "bench", kind = "static")]
+extern "C" {
+    fn bench_cut(code: *const u8, length: usize) -> u64;
+    fn bench_operands(family: u64, numbers: *const u64, n: usize, words: *const u64, w: usize, ls: *const u64, l: usize) -> u64;
+    fn bench_immediate(code: *const u8, length: usize, slot: u64, family: u64, number: u64) -> u64;
+    fn bench_listing(text: *const u8, length: usize, out: *mut u8, room: usize) -> u64;
+    fn bench_write(code: *mut u8, length: usize, slot: u64, family: u64, number: u64, signed: u64, values: *const u64, count: usize) -> u64;
+    fn bench_edit(code: *mut u8, length: usize, standing: u64, times: u64) -> u64;
+    fn bench_sheet(code: *mut u8, length: usize, standing: u64, times: u64, out: *mut u8, room: usize) -> u64;
+    fn bench_load(text: *const u8, length: usize, times: u64) -> u64;
+}
+
+const RUNS: usize = 25;
+const BUNDLES: usize = 4096;
+const FULL: u64 = 64;
+
+/// xorshift64*, so that a run can be repeated.
+struct Random(u64);
+
+impl Random {
+    fn next(&mut self) -> u64 {
+        self.0 ^= self.0 >> 12;
+        self.0 ^= self.0 << 25;
+        self.0 ^= self.0 >> 27;
+        self.0.wrapping_mul(0x2545_f491_4f6c_dd1d)
+    }
+
+    fn word(&mut self) -> u64 {
+        self.next() >> 23
+    }
+}
+
+/// The best time of each side, by turns, a call in nanoseconds; what both answer is compared.
+fn line<T: PartialEq>(what: &str, calls: usize, side: &str, mut ours: impl FnMut() -> T, mut theirs: impl FnMut() -> T) {
+    let mut best = [f64::MAX; 2];
+    for _ in 0..RUNS {
+        let begun = Instant::now();
+        let mine = black_box(ours());
+        let between = Instant::now();
+        let other = black_box(theirs());
+        let ended = Instant::now();
+        if mine != other {
+            println!("bench: {what}: the two sides differ");
+            std::process::exit(1);
+        }
+        best[0] = best[0].min((between - begun).as_secs_f64());
+        best[1] = best[1].min((ended - between).as_secs_f64());
+    }
+    let [mine, other] = best.map(|seconds| seconds * 1e9 / calls as f64);
+    println!("| {what} | {mine:.1} | {other:.1} | {side} | {:.2} |", other / mine);
+}
+
+/// A code whose bundles all have one tag.
+fn code_of(random: &mut Random, tag: u64) -> Vec<u8> {
+    (0..BUNDLES).flat_map(|_| [random.next() & !31 | tag, random.next()]).flat_map(u64::to_le_bytes).collect()
+}
+
+fn cut(random: &mut Random) {
+    let tags: Vec<u64> = (0..32).filter(|tag| ![6, 7, 20, 21, 26, 27, 30, 31].contains(tag)).collect();
+    let mut code = Vec::new();
+    for n in 0..BUNDLES {
+        code.extend((random.next() & !31 | tags[n % tags.len()]).to_le_bytes());
+        code.extend(random.next().to_le_bytes());
+    }
+    line("cut, a bundle of 65,536 bytes", BUNDLES, "000", || unsafe { bench_cut(code.as_ptr(), code.len()) }, || old::cut(&code));
+}
+
+fn operands(random: &mut Random) {
+    for (family, forms) in [(b'A', 10), (b'B', 9), (b'F', 16), (b'M', 48), (b'X', 5)] {
+        let count = 48 * 256;
+        let numbers: Vec<u64> = (0..count).map(|i| 1 + i % forms).collect();
+        let words: Vec<u64> = (0..count).map(|_| random.word()).collect();
+        let ls: Vec<u64> = (0..count).map(|_| random.word()).collect();
+        let bits: Vec<old::Bits> = words.iter().zip(&ls).map(|(word, l)| old::bits(*word, *l)).collect();
+        let what = format!("operands, {} forms", family as char);
+        let ours = || unsafe {
+            bench_operands(family as u64, numbers.as_ptr(), numbers.len(), words.as_ptr(), words.len(), ls.as_ptr(), ls.len())
+        };
+        line(&what, count as usize, "000", ours, || old::operands(family, &numbers, &bits));
+    }
+}
+
+/// A form of each row of 01's table: a tag and a slot that it fits, and values that it takes as multiples of one step.
+struct Row(&'static str, u64, u64, bool, i64);
+
+const ROWS: [Row; 15] = [
+    Row("A2", 0, 1, false, 0),
+    Row("A3", 0, 1, true, 1),
+    Row("A4", 0, 1, true, 1),
+    Row("A5", 0, 1, true, 1),
+    Row("M3", 0, 0, true, 1),
+    Row("M5", 0, 0, true, 1),
+    Row("M17", 0, 0, true, 1),
+    Row("M20", 0, 0, true, 16),
+    Row("B1", 16, 2, true, 16),
+    Row("F14", 12, 1, true, 16),
+    Row("B9", 16, 2, false, 1),
+    Row("M44", 0, 0, false, 1),
+    Row("X1", 4, 2, false, 1),
+    Row("X2", 4, 2, false, 1),
+    Row("X3", 4, 2, true, 16),
+];
+
+fn immediates(random: &mut Random) {
+    for Row(form, tag, slot, signed, step) in ROWS {
+        let (family, number) = (form.as_bytes()[0] as u64, form[1..].parse().unwrap());
+        let code = code_of(random, tag);
+        let reads = || {
+            (0..BUNDLES as u64).fold(0u64, |sum, n| sum.wrapping_add(plain::immediate(&code, n, slot, family, number).1.pattern()))
+        };
+        let ours = || unsafe { bench_immediate(code.as_ptr(), code.len(), slot, family, number) };
+        line(&format!("immediate read, {form}"), BUNDLES, "plain Rust", ours, reads);
+
+        // from -4 or 1 steps on, so that M17 and A2 take them too
+        let values: Vec<u64> = (0..BUNDLES as i64).map(|n| if signed { (n % 8 - 4) * step } else { 1 + n % 4 } as u64).collect();
+        let (mut mine, mut other) = (code.clone(), code);
+        let (mut first, mut second) = (Vec::new(), Vec::new());
+        let ours = || {
+            let refused = unsafe {
+                bench_write(mine.as_mut_ptr(), mine.len(), slot, family, number, signed as u64, values.as_ptr(), values.len())
+            };
+            first.clone_from(&mine);
+            refused
+        };
+        let writes = || {
+            for (n, value) in values.iter().enumerate() {
+                let value = if signed { Value::Signed(*value as i64) } else { Value::Unsigned(*value) };
+                if let Ok((_, new)) = plain::planned(&other, n as u64, slot, family, number, value) {
+                    plain::write(&mut other, n as u64, new);
+                }
+            }
+            second.clone_from(&other);
+            0
+        };
+        line(&format!("immediate written, {form}"), BUNDLES, "plain Rust", ours, writes);
+        assert!(first == second, "{form}: the codes differ");
+    }
+}
+
+/// A journal with so many records: slot 2, B1, of the first bundles set to 16.
+fn filled(code: &mut [u8], records: u64) -> Journal {
+    (0..records).fold(Journal::empty(), |journal, n| plain::edit(code, journal, n, 2, b'B' as u64, 1, Value::Signed(16)).1)
+}
+
+fn edits(random: &mut Random) {
+    const TIMES: u64 = 2000;
+    let code = code_of(random, 16);
+    for standing in [1, FULL] {
+        let (mut mine, mut other) = (code.clone(), code.clone());
+        let ours = || unsafe { bench_edit(mine.as_mut_ptr(), mine.len(), standing - 1, TIMES) };
+        let theirs = || {
+            let mut journal = filled(&mut other, standing - 1);
+            let mut sum = 0;
+            for _ in 0..TIMES {
+                let made = plain::edit(&mut other, journal, 63, 2, b'B' as u64, 1, Value::Signed(32)).1;
+                journal = plain::undo(&mut other, made).1;
+                sum += made.count + journal.count;
+            }
+            sum
+        };
+        line(&format!("edit and its undo, {standing} standing"), TIMES as usize, "plain Rust", ours, theirs);
+        assert!(mine == other, "the codes differ");
+    }
+}
+
+fn sheets(random: &mut Random) {
+    const TIMES: u64 = 200;
+    let code = code_of(random, 16);
+    let (mut mine, mut other) = (code.clone(), code);
+    let (mut first, mut second) = (vec![0; 5707], vec![0; 5707]);
+    let ours = || unsafe { bench_sheet(mine.as_mut_ptr(), mine.len(), FULL, TIMES, first.as_mut_ptr(), first.len()) };
+    let mut length = 0;
+    let theirs = || {
+        let journal = filled(&mut other, FULL);
+        let mut sum = 0;
+        for _ in 0..TIMES {
+            length = plain::sheet(journal, &mut second).1;
+            sum += length as u64;
+        }
+        sum
+    };
+    line("sheet of 64 records written", TIMES as usize, "plain Rust", ours, theirs);
+    assert!(first == second, "the sheets differ");
+    let text = &first[..length];
+    let theirs = || {
+        let mut journal = Journal::empty();
+        let mut sum = 0;
+        for _ in 0..TIMES {
+            journal = plain::load_sheet(journal, text).1;
+            sum += journal.count;
+        }
+        sum
+    };
+    line("sheet of 64 records loaded", TIMES as usize, "plain Rust", || unsafe { bench_load(text.as_ptr(), text.len(), TIMES) }, theirs);
+}
+
+fn listing(random: &mut Random) {
+    let text: Vec<u8> = (0..16 * BUNDLES).flat_map(|_| format!("{:02x} ", random.next() as u8).into_bytes()).collect();
+    let (mut first, mut second) = (vec![0; 221227], vec![0; 221227]);
+    let ours = || unsafe { bench_listing(text.as_ptr(), text.len(), first.as_mut_ptr(), first.len()) as usize };
+    line("listing, a bundle of 65,536 bytes", BUNDLES, "plain Rust", ours, || plain::listing(&text, &mut second).1);
+    assert!(first == second, "the listings differ");
+}
+
+fn main() {
+    let mut random = Random(0x9e37_79b9_7f4a_7c15);
+    println!("| What | ns | other side's ns | other side | ratio |\n|---|---|---|---|---|");
+    cut(&mut random);
+    operands(&mut random);
+    immediates(&mut random);
+    edits(&mut random);
+    sheets(&mut random);
+    listing(&mut random);
+}
