@@ -1,4 +1,5 @@
 pub mod Enough
+pub mod Filling
 pub mod Fronts
 pub mod Numerals
 pub mod Reading

@@ -41,7 +41,15 @@ decimal-more n h =
     digits-more n n h
     ∙ ap (λ (d : List ℕ). d ++ ((48 + n % 10) ∷ [])) (digits-bound n (suc (n / 10)) (n / 10) (omega arith) (omega arith))
 
-pub tenth-below : (k n : ℕ) → n < 10 ^ suc k → n / 10 < 10 ^ k
+pub length-more : (n : ℕ) → 10 ≤ n → length (decimal n) ≡ length (decimal (n / 10)) + 1
+length-more n h = ap length (decimal-more n h) ∙ length-append (decimal (n / 10)) _
+
+pub length-four : (n : ℕ) → 10000 ≤ n → length (decimal n) ≡ length (decimal (n / 10000)) + 4
+length-four n h =
+    let e : n / 10000 ≡ n / 10 / 10 / 10 / 10 = omega arith in
+    rw e (omega (arith, length-more n (omega arith), length-more (n / 10) (omega arith), length-more (n / 10 / 10) (omega arith), length-more (n / 10 / 10 / 10) (omega arith)))
+
+tenth-below : (k n : ℕ) → n < 10 ^ suc k → n / 10 < 10 ^ k
 tenth-below k n h = omega arith
 
 pub decimal-length : (k n : ℕ) → n < 10 ^ suc k → length (decimal n) ≤ suc k

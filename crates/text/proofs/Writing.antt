@@ -5,7 +5,7 @@ use mathlib.Core.List.{List, [], _∷_, _++_}
 use Prim.Native.Nat.{ℕ, suc, _+_, _≤_}
 use native.Mathlib.Nat.{add-zero, add-suc, suc-add, add-assoc, zero-add}
 use lib.ListN.{length, take, drop, length-append}
-use lib.Seq.{append-snoc, sets-eq, length-sets}
+use lib.Seq.{append-snoc, take-append-seam, sets-eq, length-sets}
 use Rattle.text.specs.Put.{written, Put}
 
 pub written-append : (out : List ℕ) (at : ℕ) (a b : List ℕ) → written (written out at a) (at + length a) b ≡ written out at (a ++ b)
@@ -43,3 +43,7 @@ field-length a x = length-append a (x ∷ [])
 
 pub put-length : {out out′ : List ℕ} {at next : ℕ} {a : List ℕ} → Put out at a out′ next → length out′ ≡ length out
 put-length {out} {at = at} {a = a} p = ap length (p .bytes) ∙ length-sets out at a
+
+-- at the output's start
+pub put-front : {out text out′ : List ℕ} {next : ℕ} → length text ≤ length out → Put out 0 text out′ next → take next out′ ≡ text
+put-front {out} {text} h p = rw (p .bytes, p .place, zero-add, written-start out text h) (take-append-seam text _)

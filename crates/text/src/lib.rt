@@ -2,18 +2,19 @@
 //
 // A `put` function writes at a place of the output and answers the place after what it wrote. A byte
 // for which the output has no place is lost, so a run on an output with none measures the text.
+mod decimal;
 mod hex;
 mod number;
 mod put;
 mod whole;
 
+pub use decimal::put_decimal;
 pub use hex::Decoded;
 pub use hex::Ending;
 pub use hex::decode;
 pub use number::Number;
 pub use number::read_decimal;
 pub use put::put_byte;
-pub use put::put_decimal;
 pub use put::put_field;
 pub use put::put_text;
 pub use whole::Written;

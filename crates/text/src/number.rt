@@ -1,6 +1,9 @@
 // Reading a decimal: no leading zero, below 2 ^ 64, up to the first byte that is no digit.
 ghost use mathlib.Core.Path.{_≡_};
-ghost use Rattle.text.specs.Number.{grownOf, endedOf, numberOf};
+ghost use Rattle.text.specs.Number.{grownOf, numberOf};
+
+// Below it, a number takes one more digit; from it on, that has to be worked out.
+const TENTH: u64 = u64::MAX / 10;
 
 // A number and the place after it, or that there is none.
 pub enum Number {
@@ -15,23 +18,29 @@ pub enum Grown {
     Refuse,
 }
 
-// The decimal that stands at a place.
+// The decimal that stands at a place. Its first digit is read apart, so that the loop knows that there is one.
 pub fn read_decimal(text: &[u8], at: usize) -> Number
     ensures { λ r. ⌜ r ≡ numberOf (now (text .entry)) at ⌝ }
 {
-    let mut n = 0;
-    let mut next = at;
+    if text.len() <= at {
+        return Number::Refused;
+    }
+    let Grown::Digit(first) = grow(text[at], 0, false) else {
+        return Number::Refused;
+    };
+    let mut n = first;
+    let mut next = at + 1;
     while next < text.len() {
-        match grow(text[next], n, at < next) {
+        match grow(text[next], n, true) {
             Grown::Digit(m) => {
                 n = m;
                 next += 1;
             }
-            Grown::Stop => return ended(at, n, next),
+            Grown::Stop => return Number::Read(n, next),
             Grown::Refuse => return Number::Refused,
         }
     }
-    ended(at, n, next)
+    Number::Read(n, next)
 }
 
 // The number with the digit `c` after it; `begun` says whether it has a digit yet.
@@ -45,7 +54,7 @@ fn grow(c: u8, n: u64, begun: bool) -> Grown
         return Grown::Stop;
     }
     let digit = (c - b'0') as u64;
-    if (u64::MAX - digit) / 10 < n {
+    if TENTH <= n && (u64::MAX - digit) / 10 < n {
         return Grown::Refuse;
     }
     let grown = n * 10 + digit;
@@ -53,16 +62,5 @@ fn grow(c: u8, n: u64, begun: bool) -> Grown
         Grown::Refuse
     } else {
         Grown::Digit(grown)
-    }
-}
-
-// The number whose digits stand from `start` to `next`.
-fn ended(start: usize, n: u64, next: usize) -> Number
-    ensures { λ r. ⌜ r ≡ endedOf start n next ⌝ }
-{
-    if start < next {
-        Number::Read(n, next)
-    } else {
-        Number::Refused
     }
 }

@@ -1,9 +1,10 @@
-// Writing at a running place: bytes, a text, a number in decimal.
-ghost use Prim.Native.Nat.{_+_, _<_, _^_};
+// Writing at a running place: a byte, a text, a number with the byte that ends it.
+ghost use Prim.Native.Nat.{_+_, _≤_, _<_, _^_};
 ghost use mathlib.Core.List.{[], _∷_, _++_};
 ghost use lib.ListN.{length};
 ghost use Rattle.text.specs.Decimal.{decimal};
 ghost use Rattle.text.specs.Put.{Put};
+use crate::decimal::put_decimal;
 
 pub fn put_byte(out: &mut [u8], at: usize, byte: u8) -> usize
     requires { ⌜ at + 1 < 2 ^ 64 ⌝ }
@@ -19,6 +20,31 @@ pub fn put_text(out: &mut [u8], at: usize, text: &[u8]) -> usize
     requires { ⌜ at + length (now text) < 2 ^ 64 ⌝ }
     ensures { λ r. ⌜ Put (now (out .entry)) at (now (text .entry)) (now (out .exit)) r ⌝ }
 {
+    if at + text.len() <= out.len() {
+        copy(out, at, text)
+    } else {
+        put_part(out, at, text)
+    }
+}
+
+// A text for which there is room.
+fn copy(out: &mut [u8], at: usize, text: &[u8]) -> usize
+    requires { ⌜ at + length (now text) ≤ length (now out) ⌝ }
+    ensures { λ r. ⌜ Put (now (out .entry)) at (now (text .entry)) (now (out .exit)) r ⌝ }
+{
+    let mut i = 0;
+    while i < text.len() {
+        out[at + i] = text[i];
+        i += 1;
+    }
+    at + i
+}
+
+// A text for which there may be no room.
+fn put_part(out: &mut [u8], at: usize, text: &[u8]) -> usize
+    requires { ⌜ at + length (now text) < 2 ^ 64 ⌝ }
+    ensures { λ r. ⌜ Put (now (out .entry)) at (now (text .entry)) (now (out .exit)) r ⌝ }
+{
     let mut i = 0;
     let mut next = at;
     while i < text.len() {
@@ -26,23 +52,6 @@ pub fn put_text(out: &mut [u8], at: usize, text: &[u8]) -> usize
         i += 1;
     }
     next
-}
-
-pub fn put_decimal(out: &mut [u8], at: usize, n: u64) -> usize
-    requires { ⌜ at + length (decimal n) < 2 ^ 64 ⌝ }
-    ensures { λ r. ⌜ Put (now (out .entry)) at (decimal n) (now (out .exit)) r ⌝ }
-{
-    let mut text = [0u8; 20];
-    let mut i = 20;
-    let mut rest = n;
-    while 10 <= rest {
-        i -= 1;
-        text[i] = 48 + (rest % 10) as u8;
-        rest /= 10;
-    }
-    i -= 1;
-    text[i] = 48 + rest as u8;
-    put_text(out, at, &text[i..])
 }
 
 // A number, and the byte that ends it.

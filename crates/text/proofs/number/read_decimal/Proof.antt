@@ -1,25 +1,42 @@
 -- `text::number::read_decimal` meets its contract. The loop's invariant: reading on from `next` with `n` comes to what reading from
--- `at` does. Assumes nothing.
+-- `at` does, and a digit is read. Assumes nothing.
 use mathlib.Core.Path.{_≡_, refl, sym, _∙_}
-use Prim.Native.Nat.{_-_}
+use mathlib.Core.Bool.{true, false}
+use Prim.Native.Nat.{_+_, _-_, _<_}
 use native.Mathlib.Omega.{arith}
 use lib.ListN.{length, drop}
 use borrow.Author.Needs.{needs}
+use borrow.Author.Tests.{lt-ltb, le-ltb}
+use Rattle.text.specs.declared.number.Grown.{Grown}
 use Rattle.text.specs.declared.number.Grown.the-variants.{Stop, Refuse}
-use Rattle.text.specs.Number.{readOn, numberOf}
-use Rattle.text.proofs.Reading.{read-end, read-grown}
+use Rattle.text.specs.declared.number.Number.the-variants.{Read, Refused}
+use Rattle.text.specs.Number.{onward, readOn, numberOf}
+use Rattle.text.proofs.Reading.{read-end, read-grown, no-digit}
 use Rattle.text.proofs.number.read_decimal.Statement.{statement}
 use Rattle.text.proofs.number.read_decimal.Tie as tie
 
 abbrev Inv-loop : tie.InvT-loop
-Inv-loop text at n₀ next₀ n next = numberOf text at ≡ readOn at n next (drop next text)
+Inv-loop text at first n₀ next₀ n next = (numberOf text at ≡ readOn at n next (drop next text)) × (at < next)
 
 abbrev μ-loop : tie.MeasureT-loop
-μ-loop text at n₀ next₀ n next = length text - next
+μ-loop text at first n₀ next₀ n next = length text - next
 
-loop-holds : tie.Need-loop-holds Inv-loop μ-loop
+-- what the first byte makes of nothing, and another of the number so far
+first-read : (c : tie.After-grow Inv-loop μ-loop) (g : Grown) → c .grow .result ≡ g → let a = c .before .before .before .before .args in numberOf (a .text .now) (a .at) ≡ onward g (λ m. readOn (a .at) m (a .at + 1) (drop (a .at + 1) (a .text .now))) Refused
 unfolding numberOf
-loop-holds c = refl
+first-read c g e =
+    let a = c .before .before .before .before .args in
+    read-grown (a .text .now) (a .at) 0 (a .at) false (le-ltb (a .at) (a .at) (omega arith)) (c .before .before .if1 .left) g (sym (c .grow .ensures) ∙ e)
+
+more-read : (c : tie.After-grow2 Inv-loop μ-loop) (g : Grown) → c .grow2 .result ≡ g → let a = c .before .before .before .before .before .before .before .before .before .before .before .args in let l = c .before .before .before .loop in numberOf (a .text .now) (a .at) ≡ onward g (λ m. readOn (a .at) m (l .next + 1) (drop (l .next + 1) (a .text .now))) (Read (l .n) (l .next))
+more-read c g e =
+    let a = c .before .before .before .before .before .before .before .before .before .before .before .args in
+    let l = c .before .before .before .loop in
+    l .inv .0 ∙ read-grown (a .text .now) (a .at) (l .n) (l .next) true (lt-ltb (a .at) (l .next) (l .inv .1)) (c .before .before .loop-test .taken) g (sym (c .grow2 .ensures) ∙ e)
+
+returns : tie.Need-returns Inv-loop μ-loop
+unfolding numberOf
+returns c = let a = c .before .before .args in sym (read-end (a .text .now) (a .at) 0 (a .at) false (le-ltb (a .at) (a .at) (omega arith)) (c .if1 .taken))
 
 shared-slice-read-grow : tie.Need-shared-slice-read-grow Inv-loop μ-loop
 shared-slice-read-grow c = omega arith
@@ -27,50 +44,55 @@ shared-slice-read-grow c = omega arith
 grow-requires : tie.Need-grow-requires Inv-loop μ-loop
 grow-requires c κs = tt
 
-enum-known-m : tie.Need-enum-known-m Inv-loop μ-loop
-enum-known-m c = search needs
+enum-known-first : tie.Need-enum-known-first Inv-loop μ-loop
+enum-known-first c = search needs
+
+returns-2 : tie.Need-returns-2 Inv-loop μ-loop
+returns-2 c =
+    let a = c .before .before .before .before .before .args in
+    sym (first-read (c .before) (c .before .grow .result) refl ∙ no-digit (c .before .grow .result) (λ m. readOn (a .at) m (a .at + 1) (drop (a .at + 1) (a .text .now))) (c .match .keys2))
 
 add-next : tie.Need-add-next Inv-loop μ-loop
 add-next c = omega arith
+
+loop-holds : tie.Need-loop-holds Inv-loop μ-loop
+loop-holds c = (first-read (c .before .before .before) _ (c .before .first .given .1), omega arith)
+
+shared-slice-read-grow-2 : tie.Need-shared-slice-read-grow-2 Inv-loop μ-loop
+shared-slice-read-grow-2 c = omega arith
+
+grow-requires-2 : tie.Need-grow-requires-2 Inv-loop μ-loop
+grow-requires-2 c κs = tt
+
+enum-known-m : tie.Need-enum-known-m Inv-loop μ-loop
+enum-known-m c = search needs
+
+add-next-2 : tie.Need-add-next-2 Inv-loop μ-loop
+add-next-2 c = omega arith
 
 loop-less : tie.Need-loop-less Inv-loop μ-loop
 loop-less c = omega arith
 
 loop-again : tie.Need-loop-again Inv-loop μ-loop
-loop-again c =
-    let a = c .before .before .before .before .before .before .before .before .args in
-    let l = c .before .before .before .before .before .before .loop in
-    l .inv ∙ read-grown (a .text .now) (a .at) (l .n) (l .next) (c .before .before .before .before .before .loop-test .taken) _ (sym (c .before .before .before .grow .ensures) ∙ c .before .m .given .1)
+loop-again c = (more-read (c .before .before .before) _ (c .before .m .given .1), omega arith)
 
 enum-told : tie.Need-enum-told Inv-loop μ-loop
 enum-told c = search needs
 
-ended-requires : tie.Need-ended-requires Inv-loop μ-loop
-ended-requires c κs = tt
-
-returns : tie.Need-returns Inv-loop μ-loop
-returns c =
-    let a = c .before .before .before .before .before .before .before .before .args in
-    let l = c .before .before .before .before .before .before .loop in
-    c .ended .ensures ∙ sym (l .inv ∙ read-grown (a .text .now) (a .at) (l .n) (l .next) (c .before .before .before .before .before .loop-test .taken) Stop (sym (c .before .before .before .grow .ensures) ∙ c .before .enum-told .given .1))
+returns-3 : tie.Need-returns-3 Inv-loop μ-loop
+returns-3 c = sym (more-read (c .before .before) Stop (c .enum-told .given .1))
 
 enum-told-2 : tie.Need-enum-told-2 Inv-loop μ-loop
 enum-told-2 c = search needs
 
-returns-2 : tie.Need-returns-2 Inv-loop μ-loop
-returns-2 c =
-    let a = c .before .before .before .before .before .before .before .args in
-    let l = c .before .before .before .before .before .loop in
-    sym (l .inv ∙ read-grown (a .text .now) (a .at) (l .n) (l .next) (c .before .before .before .before .loop-test .taken) Refuse (sym (c .before .before .grow .ensures) ∙ c .enum-told2 .given .1))
+returns-4 : tie.Need-returns-4 Inv-loop μ-loop
+returns-4 c = sym (more-read (c .before .before) Refuse (c .enum-told2 .given .1))
 
-ended-requires-2 : tie.Need-ended-requires-2 Inv-loop μ-loop
-ended-requires-2 c κs = tt
-
-returns-3 : tie.Need-returns-3 Inv-loop μ-loop
-returns-3 c =
-    let a = c .before .before .before .before .args in
-    let l = c .before .before .loop in
-    c .ended2 .ensures ∙ sym (l .inv ∙ read-end (a .text .now) (a .at) (l .n) (l .next) (c .before .loop-test .left))
+returns-5 : tie.Need-returns-5 Inv-loop μ-loop
+returns-5 c =
+    let a = c .before .before .before .before .before .before .before .before .before .args in
+    let l = c .before .loop in
+    sym (l .inv .0 ∙ read-end (a .text .now) (a .at) (l .n) (l .next) true (lt-ltb (a .at) (l .next) (l .inv .1)) (c .loop-test .left))
 
 pub read-decimal-spec : {M : Type 1} → statement M
 read-decimal-spec =
@@ -78,17 +100,21 @@ read-decimal-spec =
     (tie.spec
     Inv-loop
     μ-loop
-    loop-holds
+    returns
     shared-slice-read-grow
     grow-requires
-    enum-known-m
+    enum-known-first
+    returns-2
     add-next
+    loop-holds
+    shared-slice-read-grow-2
+    grow-requires-2
+    enum-known-m
+    add-next-2
     loop-less
     loop-again
     enum-told
-    ended-requires
-    returns
+    returns-3
     enum-told-2
-    returns-2
-    ended-requires-2
-    returns-3)
+    returns-4
+    returns-5)

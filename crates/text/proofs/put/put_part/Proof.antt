@@ -1,4 +1,4 @@
--- `text::put::put_text` meets its contract. The loop's invariant: the first `i` bytes of the text are written. Assumes nothing.
+-- `text::put::put_part` meets its contract. The loop's invariant: the first `i` bytes of the text are written. Assumes nothing.
 use mathlib.Core.Path.{refl, sym}
 use Prim.Native.Nat.{ℕ, _-_, _≤_}
 use native.Mathlib.Nat.{add-zero}
@@ -8,8 +8,8 @@ use lib.ListN.{length, take}
 use lib.Seq.{take-suc, take-all, length-take-le}
 use Rattle.text.specs.Put.{Put}
 use Rattle.text.proofs.Writing.{put-then, put-length}
-use Rattle.text.proofs.put.put_text.Statement.{statement}
-use Rattle.text.proofs.put.put_text.Tie as tie
+use Rattle.text.proofs.put.put_part.Statement.{statement}
+use Rattle.text.proofs.put.put_part.Tie as tie
 
 abbrev Inv-loop : tie.InvT-loop
 Inv-loop out₀ at text i₀ next₀ out i next = (i ≤ length text) × Put out₀ at (take i text) out next
@@ -46,8 +46,8 @@ same-length c = put-length (c .before .loop .inv .1)
 returns : tie.Need-returns Inv-loop μ-loop
 returns c = rw (take-all (c .before .loop .i) _ (c .loop-test .left)) at (c .before .loop .inv .1)
 
-pub put-text-spec : {M : Type 1} → statement M
-put-text-spec =
+pub put-part-spec : {M : Type 1} → statement M
+put-part-spec =
     tie.close
     (tie.spec
     Inv-loop
