@@ -13,7 +13,7 @@ use Rattle.answer.specs.Answer.{accepted, badBundle, first, outcome}
 use Rattle.answer.proofs.Laws.{none-applies, first-on, first-stop, accepts, refuses, answered}
 use Rattle.bundle.specs.Bytes.{bytes}
 use Rattle.bundle.specs.Template.{none, unitsOf, reserved}
-use Rattle.bundle.specs.Bundle.{bundleAt, numberAt, findRefusals, cutRefusals, foundOf, findOf, cutOf, lookOf, tagOf, slotsOf, halvesOf, noHalves, whole, bundleOf, seenOf, refusedOf, unseenOf, joined, joinRefusals, joinOf}
+use Rattle.bundle.specs.Bundle.{bundleAt, numberAt, findRefusals, cutRefusals, foundOf, findOf, cutOf, lookOf, tagOf, slotsOf, halvesOf, whole, bundleOf, seenOf, refusedOf, unseenOf, joined, joinRefusals, joinOf}
 use Rattle.bundle.specs.declared.Bundle.{Bundle}
 use Rattle.bundle.proofs.Bytes.{Bytes, number-lt, bytes-take, bytes-drop}
 use Rattle.bundle.proofs.Halves.{Fitting, slots-of-whole}
@@ -81,7 +81,7 @@ module _ (code : List ℕ) (k : ℕ) where
   pub look-refused : (answer tag : ℕ) → (answer ≡ accepted → ⊥) → cutOf code k ≡ refusedOf answer tag → unseenOf answer tag ≡ lookOf code k
   unfolding lookOf
   look-refused answer tag d e =
-      ap (λ h. record { answer = answer; tag = tag; units = none; halves = h }) (sym (refuses answer (halvesOf (numberAt code k)) noHalves d))
+      ap (λ (n : ℕ). record { answer = answer; tag = tag; units = none; halves = halvesOf n }) (sym (refuses answer (numberAt code k) 0 d))
       ∙ ap (λ b. seenOf b (numberAt code k)) (sym e)
 
   pub look-done : cutOf code k ≡ bundleOf (numberAt code k)
@@ -92,12 +92,13 @@ module _ (code : List ℕ) (k : ℕ) where
   pub look-slots : slotsOf (whole (lookOf code k .halves)) ≡ cutOf code k .slots
   unfolding lookOf cutOf
   look-slots =
-      ap (λ (a : ℕ). slotsOf (whole (outcome a (halvesOf (numberAt code k)) noHalves))) (cut-answer code k)
+      slots-of-whole (outcome (cutOf code k .answer) (numberAt code k) 0)
+      ∙ ap (λ (a : ℕ). slotsOf (outcome a (numberAt code k) 0)) (cut-answer code k)
       ∙ by-answer (eqb (first (cutRefusals code k)) accepted)
     where
-      by-answer : (b : Bool) → slotsOf (whole (cond b (halvesOf (numberAt code k)) noHalves))
+      by-answer : (b : Bool) → slotsOf (cond b (numberAt code k) 0)
           ≡ (cond b (bundleOf (numberAt code k)) (refusedOf (first (cutRefusals code k)) (outcome (foundOf code k) (tagOf (numberAt code k)) 0))) .slots
-      by-answer true = slots-of-whole (numberAt code k)
+      by-answer true = refl
       by-answer false = refl
 
 pub or-false : (a b : Bool) → (a || b) ≡ false → (a ≡ false) × (b ≡ false)

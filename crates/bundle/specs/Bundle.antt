@@ -54,9 +54,6 @@ halvesOf n = record { low = part n 0 64; high = part n 64 64 }
 abbrev pub whole : Halves → ℕ
 whole h = above 64 (h .low) (h .high)
 
-abbrev pub noHalves : Halves
-noHalves = record { low = 0; high = 0 }
-
 -- when cutting is refused
 abbrev pub cutRefusals : List ℕ → ℕ → List Refusal
 cutRefusals code k = findRefusals code k ++ (badBundle, reserved (tagOf (numberAt code k))) ∷ []
@@ -77,11 +74,11 @@ cutOf code k =
 
 -- a refused look
 abbrev pub unseenOf : ℕ → ℕ → Seen
-unseenOf answer tag = record { answer = answer; tag = tag; units = none; halves = noHalves }
+unseenOf answer tag = record { answer = answer; tag = tag; units = none; halves = halvesOf 0 }
 
--- a cut bundle with the halves of its number in place of its slots
+-- a cut bundle with the halves of its number in place of its slots, and of 0 where it was refused
 abbrev pub seenOf : Bundle → ℕ → Seen
-seenOf cut n = record { answer = cut .answer; tag = cut .tag; units = cut .units; halves = outcome (cut .answer) (halvesOf n) noHalves }
+seenOf cut n = record { answer = cut .answer; tag = cut .tag; units = cut .units; halves = halvesOf (outcome (cut .answer) n 0) }
 
 -- what a look hands back: what cutting does, with the bundle's halves in place of its slots
 unfoldable pub lookOf : List ℕ → ℕ → Seen

@@ -55,10 +55,11 @@ fn stands_at(slot: u32, place: u8) -> u32
     requires { ⌜ (slot < 3) × (place < 128) ⌝ }
     ensures { λ r. ⌜ r ≡ standsAt slot place ⌝ }
 {
+    let bit = place as u32;
     if place < L {
-        5 + 41 * slot + place as u32
+        5 + 41 * slot + bit
     } else {
-        46 + (place - L) as u32
+        46 + (bit - L as u32)
     }
 }
 
