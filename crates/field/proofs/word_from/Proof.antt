@@ -41,6 +41,9 @@ across c =
     let low : a .place ≤ 64 = omega arith in
     word-seam (a .halves .low) (a .halves .high) (a .place) l low
 
+returns-2 : tie.Need-returns-2
+returns-2 c = across c
+
 add-result : tie.Need-add-result
 add-result c =
     let a = c .before .before .before .args in
@@ -53,9 +56,6 @@ returns c =
     let l : a .halves .low < 2 ^ 64 = omega (arith, start) in
     let h : a .halves .high < 2 ^ 64 = omega (arith, start) in
     word-high (a .halves .low) (a .halves .high) (a .place) l h (c .before .if1 .taken)
-
-returns-2 : tie.Need-returns-2
-returns-2 c = across c
 
 pub word-from-spec : {M : Type 1} → statement M
 word-from-spec =
