@@ -4,7 +4,7 @@ use mathlib.Core.Bool.{Bool, true, false, _||_}
 use mathlib.Core.List.{[], _∷_}
 use mathlib.Core.Logic.{_⊎_, inl, inr, ⊎-elim}
 use Prim.Native.Nat.{ℕ, _+_, _/_, _%_, _≤_, _<_, _^_}
-use native.Mathlib.Nat.{mod-one, add-comm, mul-comm}
+use native.Mathlib.Nat.{div-one, mod-one, add-comm, mul-comm}
 use native.Mathlib.Omega.{arith}
 use lib.Dec.{T, leb, leb→le, le→leb, lit<}
 use lib.Pow.{mod-pow-add}
@@ -17,6 +17,17 @@ pub gather-lt : (n : ℕ) (ps : Parts) → gather n ps < 2 ^ widths ps
 unfolding gather
 gather-lt n [] = lit< tt
 gather-lt n (p ∷ ps) = above-lt (p .1) _ _ (part-lt n (p .0) (p .1)) (widths ps) (gather-lt n ps)
+
+-- a part of no width is not there
+pub gather-none : (n p : ℕ) (ps : Parts) → gather n ((p, 0) ∷ ps) ≡ gather n ps
+unfolding gather
+gather-none n p ps = omega (arith, mod-one (n / 2 ^ p))
+
+pub scatter-none : (n p : ℕ) (ps : Parts) (v : ℕ) → scatter n ((p, 0) ∷ ps) v ≡ scatter n ps v
+unfolding scatter
+scatter-none n p ps v =
+    let same = put-low-bits n p 0 v ∙ ap (put n p 0) (mod-one v ∙ sym (mod-one (n / 2 ^ p))) ∙ put-get n p 0 in
+    ap₂ (λ (m u : ℕ). scatter m ps u) same (div-one v)
 
 pub scatter-lt : (m n : ℕ) (ps : Parts) (v : ℕ) → T (within m ps) → n < 2 ^ m → scatter n ps v < 2 ^ m
 unfolding scatter

@@ -1,4 +1,4 @@
--- What cutting and joining come to, case by case. Each case takes the list of refusals as far as it goes.
+-- What looking, cutting and joining come to, case by case. Each case takes the list of refusals as far as it goes.
 -- Assumes nothing.
 use mathlib.Core.Path.{_≡_, refl, sym, ap, ap₂, _∙_, subst}
 use mathlib.Core.Bool.{Bool, true, false, cond, _||_}
@@ -6,17 +6,17 @@ use mathlib.Core.List.{List, [], _∷_, _++_}
 use Prim.Native.Nat.{ℕ, _*_, _≤_, _<_, _^_, suc-le-suc}
 use native.Mathlib.Omega.{arith}
 use borrow.Author.Tests.{ltb-false, leb-false}
-use lib.Dec.{T, ltb, leb}
+use lib.Dec.{T, eqb, ltb, leb}
 use lib.ListN.{length, getD, drop, length-drop}
 use lib.Seq.{length-take-le}
 use Rattle.answer.specs.Answer.{accepted, badBundle, first, outcome}
 use Rattle.answer.proofs.Laws.{none-applies, first-on, first-stop, accepts, refuses, answered}
 use Rattle.bundle.specs.Bytes.{bytes}
-use Rattle.bundle.specs.Template.{reserved}
-use Rattle.bundle.specs.Bundle.{bundleAt, numberAt, findRefusals, cutRefusals, foundOf, findOf, cutOf, tagOf, bundleOf, refusedOf, joined, joinRefusals, joinOf}
+use Rattle.bundle.specs.Template.{none, unitsOf, reserved}
+use Rattle.bundle.specs.Bundle.{bundleAt, numberAt, findRefusals, cutRefusals, foundOf, findOf, cutOf, lookOf, tagOf, slotsOf, halvesOf, whole, bundleOf, seenOf, refusedOf, unseenOf, joined, joinRefusals, joinOf}
 use Rattle.bundle.specs.declared.Bundle.{Bundle}
 use Rattle.bundle.proofs.Bytes.{Bytes, number-lt, bytes-take, bytes-drop}
-use Rattle.bundle.proofs.Halves.{Fitting}
+use Rattle.bundle.proofs.Halves.{Fitting, slots-of-whole}
 use Rattle.bundle.proofs.Lies.{lies}
 
 module _ (code : List ℕ) (k : ℕ) where
@@ -71,6 +71,35 @@ module _ (code : List ℕ) (k : ℕ) (cut : first (cutRefusals code k) ≡ accep
 
   pub cut-bundle : cutOf code k ≡ bundleOf (numberAt code k)
   cut-bundle = cut-done code k cut-found cut-known
+
+-- a look answers as the cut does, and hands back the halves that it cuts
+module _ (code : List ℕ) (k : ℕ) where
+  pub look-answer : lookOf code k .answer ≡ first (cutRefusals code k)
+  unfolding lookOf
+  look-answer = cut-answer code k
+
+  pub look-refused : (answer tag : ℕ) → (answer ≡ accepted → ⊥) → cutOf code k ≡ refusedOf answer tag → unseenOf answer tag ≡ lookOf code k
+  unfolding lookOf
+  look-refused answer tag d e =
+      ap (λ (n : ℕ). record { answer = answer; tag = tag; units = none; halves = halvesOf n }) (sym (refuses answer (numberAt code k) 0 d))
+      ∙ ap (λ b. seenOf b (numberAt code k)) (sym e)
+
+  pub look-done : cutOf code k ≡ bundleOf (numberAt code k)
+      → lookOf code k ≡ record { answer = accepted; tag = tagOf (numberAt code k); units = unitsOf (tagOf (numberAt code k)); halves = halvesOf (numberAt code k) }
+  unfolding lookOf
+  look-done e = ap (λ b. seenOf b (numberAt code k)) e
+
+  pub look-slots : slotsOf (whole (lookOf code k .halves)) ≡ cutOf code k .slots
+  unfolding lookOf cutOf
+  look-slots =
+      slots-of-whole (outcome (cutOf code k .answer) (numberAt code k) 0)
+      ∙ ap (λ (a : ℕ). slotsOf (outcome a (numberAt code k) 0)) (cut-answer code k)
+      ∙ by-answer (eqb (first (cutRefusals code k)) accepted)
+    where
+      by-answer : (b : Bool) → slotsOf (cond b (numberAt code k) 0)
+          ≡ (cond b (bundleOf (numberAt code k)) (refusedOf (first (cutRefusals code k)) (outcome (foundOf code k) (tagOf (numberAt code k)) 0))) .slots
+      by-answer true = refl
+      by-answer false = refl
 
 pub or-false : (a b : Bool) → (a || b) ≡ false → (a ≡ false) × (b ≡ false)
 or-false true b e = let z : _≡_ {A = Bool} true false = e in (z, absurd (subst T z tt))

@@ -9,6 +9,7 @@ use Rattle.bits.specs.Part.{part, above}
 use Rattle.bundle.specs.Bytes.{number, bytes}
 use Rattle.bundle.specs.Template.{none, unitsOf, reserved}
 use Rattle.bundle.specs.declared.Bundle.{Bundle}
+use Rattle.bundle.specs.declared.Seen.{Seen}
 use Rattle.bundle.specs.declared.half.Halves.{Halves}
 
 -- the sixteen bytes of bundle k
@@ -70,6 +71,18 @@ unfoldable pub cutOf : List ℕ → ℕ → Bundle
 cutOf code k =
     let answer = first (cutRefusals code k) in
     outcome answer (bundleOf (numberAt code k)) (refusedOf answer (outcome (foundOf code k) (tagOf (numberAt code k)) 0))
+
+-- a refused look
+abbrev pub unseenOf : ℕ → ℕ → Seen
+unseenOf answer tag = record { answer = answer; tag = tag; units = none; halves = halvesOf 0 }
+
+-- a cut bundle with the halves of its number in place of its slots, and of 0 where it was refused
+abbrev pub seenOf : Bundle → ℕ → Seen
+seenOf cut n = record { answer = cut .answer; tag = cut .tag; units = cut .units; halves = halvesOf (outcome (cut .answer) n 0) }
+
+-- what a look hands back: what cutting does, with the bundle's halves in place of its slots
+unfoldable pub lookOf : List ℕ → ℕ → Seen
+lookOf code k = seenOf (cutOf code k) (numberAt code k)
 
 -- an answer, and what the output then holds
 pub record Joined : Type 0 where

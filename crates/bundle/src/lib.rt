@@ -8,8 +8,8 @@ pub use half::read;
 pub use half::slots;
 pub use half::write;
 ghost use mathlib.Core.Path.{_≡_};
-ghost use Rattle.answer.specs.Answer.{first};
-ghost use Rattle.bundle.specs.Bundle.{foundOf, findOf, refusedOf, cutOf, joinRefusals, joinOf, Joined};
+ghost use Rattle.answer.specs.Answer.{accepted, first};
+ghost use Rattle.bundle.specs.Bundle.{bundleAt, foundOf, findOf, unseenOf, lookOf, cutOf, joinRefusals, joinOf, Joined};
 use answer::ACCEPTED;
 use answer::BAD_BUNDLE;
 use answer::BAD_WORD;
@@ -26,11 +26,19 @@ pub fn find(code: &[u8], bundle: u64) -> &[u8]
     ensures { λ r. ⌜ now r ≡ findOf (now (code .entry)) bundle ⌝ }
 {
     if found(code, bundle) == ACCEPTED {
-        let at = bundle as usize * 16;
-        &code[at..at + 16]
+        sixteen(code, bundle)
     } else {
         &code[..0]
     }
+}
+
+// The sixteen bytes of a bundle that was found.
+fn sixteen(code: &[u8], bundle: u64) -> &[u8]
+    requires { ⌜ foundOf (now code) bundle ≡ accepted ⌝ }
+    ensures { λ r. ⌜ now r ≡ bundleAt (now (code .entry)) bundle ⌝ }
+{
+    let at = bundle as usize * 16;
+    &code[at..at + 16]
 }
 
 // What finding answers.
@@ -46,6 +54,47 @@ pub fn found(code: &[u8], bundle: u64) -> u8
     ACCEPTED
 }
 
+pub struct Seen {
+    pub answer: u8,
+    pub tag: u8,
+    pub units: [u8; 3],
+    pub halves: Halves,
+}
+
+fn unseen(answer: u8, tag: u8) -> Seen
+    ensures { λ r. ⌜ r ≡ unseenOf answer tag ⌝ }
+{
+    let halves = Halves { low: 0, high: 0 };
+    Seen {
+        answer,
+        tag,
+        units: [0; 3],
+        halves,
+    }
+}
+
+// A bundle's tag, units and halves.
+pub fn look(code: &[u8], bundle: u64) -> Seen
+    ensures { λ r. ⌜ r ≡ lookOf (now (code .entry)) bundle ⌝ }
+{
+    let answer = found(code, bundle);
+    if answer != ACCEPTED {
+        return unseen(answer, 0);
+    }
+    let halves = half::read(sixteen(code, bundle));
+    let tag = (halves.low % 32) as u8;
+    let units = template::units(tag as usize);
+    if units[0] == 0 {
+        return unseen(BAD_BUNDLE, tag);
+    }
+    Seen {
+        answer,
+        tag,
+        units,
+        halves,
+    }
+}
+
 pub struct Bundle {
     pub answer: u8,
     pub tag: u8,
@@ -53,35 +102,16 @@ pub struct Bundle {
     pub slots: [u64; 3],
 }
 
-fn refused(answer: u8, tag: u8) -> Bundle
-    ensures { λ r. ⌜ r ≡ refusedOf answer tag ⌝ }
-{
-    Bundle {
-        answer,
-        tag,
-        units: [0; 3],
-        slots: [0; 3],
-    }
-}
-
-// A bundle's tag, units and slots.
+// A bundle's tag, units and slots. Halves of zeros, where refused, are slots of zeros.
 pub fn cut(code: &[u8], bundle: u64) -> Bundle
     ensures { λ r. ⌜ r ≡ cutOf (now (code .entry)) bundle ⌝ }
 {
-    let answer = found(code, bundle);
-    if answer != ACCEPTED {
-        return refused(answer, 0);
-    }
-    let halves = half::read(find(code, bundle));
-    let tag = (halves.low % 32) as u8;
-    let units = template::units(tag as usize);
-    if units[0] == 0 {
-        return refused(BAD_BUNDLE, tag);
-    }
-    let slots = half::slots(halves);
+    let seen = look(code, bundle);
+    let units = seen.units;
+    let slots = half::slots(seen.halves);
     Bundle {
-        answer,
-        tag,
+        answer: seen.answer,
+        tag: seen.tag,
         units,
         slots,
     }

@@ -7,8 +7,19 @@ pub fn units(tag: usize) -> [u8; 3]
     requires { ⌜ tag < 32 ⌝ }
     ensures { λ r. ⌜ r ≡ unitsOf tag ⌝ }
 {
-    let table =
-        b"MIIMIIMIIMIIMLXMLX\0\0\0\0\0\0MMIMMIMMIMMIMFIMFIMMFMMFMIBMIBMBBMBB\0\0\0\0\0\0BBBBBBMMBMMB\0\0\0\0\0\0MFBMFB\0\0\0\0\0\0";
-    let at = 3 * tag;
-    [table[at], table[at + 1], table[at + 2]]
+    match tag / 2 {
+        0 => [b'M', b'I', b'I'],
+        1 => [b'M', b'I', b'I'],
+        2 => [b'M', b'L', b'X'],
+        4 => [b'M', b'M', b'I'],
+        5 => [b'M', b'M', b'I'],
+        6 => [b'M', b'F', b'I'],
+        7 => [b'M', b'M', b'F'],
+        8 => [b'M', b'I', b'B'],
+        9 => [b'M', b'B', b'B'],
+        11 => [b'B', b'B', b'B'],
+        12 => [b'M', b'M', b'B'],
+        14 => [b'M', b'F', b'B'],
+        _ => [0; 3],
+    }
 }

@@ -1,32 +1,40 @@
--- A part of two halves lies in the high one, in the low one, or across the seam, where it is two parts side by side.
+-- What stands at a place of two halves lies in the high one, in the low one, or across the seam, where it is two parts side by side.
 -- Assumes nothing.
-use mathlib.Core.Path.{_≡_, sym, ap, ap₂, _∙_}
-use Prim.Native.Nat.{ℕ, _+_, _-_, _/_, _≤_, _<_, _^_}
+use mathlib.Core.Path.{_≡_, sym, ap, ap₂, _∙_, subst}
+use Prim.Native.Nat.{ℕ, _+_, _-_, _*_, _/_, _%_, _≤_, _<_, _^_}
+use native.Mathlib.Nat.{div-one, mul-comm, lt-of-lt-of-le}
 use native.Mathlib.Omega.{arith}
+use lib.Pow.{pow-mono}
 use Rattle.bits.specs.Part.{part, above, put}
-use Rattle.bits.proofs.Laws.{part-join, above-within, above-high}
+use Rattle.bits.proofs.Laws.{part-top, part-join, above-within, above-high}
 use Rattle.bits.proofs.Seam.{put-low, put-high, put-split}
+use Rattle.bits.proofs.Shift.{shl-low}
+
+module _ (low high place : ℕ) (l : low < 2 ^ 64) where
+  pub word-high : high < 2 ^ 64 → 64 ≤ place → high / 2 ^ (place - 64) ≡ part (above 64 low high) place 64
+  word-high h g =
+      let e : 64 + (place - 64) ≡ place = omega arith in
+      let wide : 64 ≤ 64 + (place - 64) = omega arith in
+      sym (part-top high (place - 64) 64 (lt-of-lt-of-le h (pow-mono wide)))
+      ∙ sym (above-high 64 low high l (place - 64) 64)
+      ∙ ap (λ (p : ℕ). part (above 64 low high) p 64) e
+
+  pub word-seam : place ≤ 64 → low / 2 ^ place + (high * 2 ^ (64 - place)) % 2 ^ 64 ≡ part (above 64 low high) place 64
+  word-seam h =
+      let n = above 64 low high in
+      let below = 64 - place in
+      let s : place + below ≡ 64 = omega arith in
+      let t : below + place ≡ 64 = omega arith in
+      let fits : place + below ≤ 64 = omega arith in
+      let first = part-top low place below (subst (λ (k : ℕ). low < 2 ^ k) (sym t) l) in
+      let second =
+      ap (λ (x : ℕ). x % 2 ^ place) (sym (div-one high)) ∙ sym (above-high 64 low high l 0 place) ∙ ap (λ (p : ℕ). part n p place) (sym s) in
+      ap₂ (λ (x y : ℕ). x + y) (sym first ∙ sym (above-within 64 low high l place below fits))
+      (ap (λ (k : ℕ). (high * 2 ^ below) % 2 ^ k) (sym s) ∙ shl-low high place below ∙ mul-comm (high % 2 ^ place) (2 ^ below) ∙ ap (λ (x : ℕ). 2 ^ below * x) second)
+      ∙ part-join n place below place
+      ∙ ap (part n place) t
 
 module _ (low high place width : ℕ) (l : low < 2 ^ 64) where
-  pub get-high : 64 ≤ place → part high (place - 64) width ≡ part (above 64 low high) place width
-  get-high h =
-      let e : 64 + (place - 64) ≡ place = omega arith in
-      sym (above-high 64 low high l (place - 64) width) ∙ ap (λ (p : ℕ). part (above 64 low high) p width) e
-
-  pub get-low : place + width ≤ 64 → part low place width ≡ part (above 64 low high) place width
-  get-low h = sym (above-within 64 low high l place width h)
-
-  pub get-seam : (below : ℕ) → place + below ≡ 64 → below ≤ width
-      → above below (part low place below) (part high 0 (width - below)) ≡ part (above 64 low high) place width
-  get-seam below s h =
-      let n = above 64 low high in
-      let e : below + (width - below) ≡ width = omega arith in
-      let fits : place + below ≤ 64 = omega arith in
-      ap₂ (above below) (sym (above-within 64 low high l place below fits))
-      (sym (above-high 64 low high l 0 (width - below)) ∙ ap (λ (p : ℕ). part n p (width - below)) (sym s))
-      ∙ part-join n place below (width - below)
-      ∙ ap (part n place) e
-
   pub set-high : (v : ℕ) → 64 ≤ place → above 64 low (put high (place - 64) width v) ≡ put (above 64 low high) place width v
   set-high v h =
       let e : 64 + (place - 64) ≡ place = omega arith in

@@ -21,7 +21,7 @@ abbrev at : ℕ → Part → ℕ × ℕ
 at slot p = (standsAt slot (p .0), p .1)
 
 -- no part meets the tag
-stands-past : (slot place : ℕ) → 5 ≤ standsAt slot place
+pub stands-past : (slot place : ℕ) → 5 ≤ standsAt slot place
 stands-past slot place = by-word (ltb place 64)
   where
     by-word : (b : Bool) → 5 ≤ cond b (5 + 41 * slot + place) (46 + (place - 64))

@@ -12,7 +12,7 @@ use lib.Seq.{drop-cons}
 use mir.Facts.{and-yes, yes-and}
 use Rattle.bits.specs.Part.{part, above, put}
 use Rattle.bits.specs.Parts.{widths, gather, scatter, within}
-use Rattle.bits.proofs.Parts.{gather-lt}
+use Rattle.bits.proofs.Parts.{gather-lt, gather-none, scatter-none}
 use Rattle.bits.proofs.Shift.{shl}
 use Rattle.field.specs.Field.{standsAt, placed, bitsOf, inBundle, readable}
 use Rattle.field.specs.declared.Part.{Part}
@@ -71,6 +71,17 @@ module _ (n slot : ℕ) (ps : List Part) (i : ℕ) (h : i < length ps) where
       let e : widths (placed slot (drop i ps)) ≡ getD ps i (0, 0) .1 + widths (placed slot (drop (suc i) ps)) = ap widths split in
       let l : widths (placed slot (drop i ps)) ≤ 64 = omega (arith, bits-placed slot (drop (suc i) ps)) in
       lt-of-lt-of-le (gather-lt n (placed slot (drop i ps))) (pow-mono l)
+
+  -- a part of no width
+  module _ (none : getD ps i (0, 0) .1 ≡ 0) where
+    split-none : placed slot (drop i ps) ≡ (standsAt slot (getD ps i (0, 0) .0), 0) ∷ placed slot (drop (suc i) ps)
+    split-none = split ∙ ap (λ (w : ℕ). (standsAt slot (getD ps i (0, 0) .0), w) ∷ placed slot (drop (suc i) ps)) none
+
+    pub gather-skip : gather n (placed slot (drop i ps)) ≡ gather n (placed slot (drop (suc i) ps))
+    gather-skip = ap (gather n) split-none ∙ gather-none n _ _
+
+    pub scatter-skip : (v : ℕ) → scatter n (placed slot (drop i ps)) v ≡ scatter n (placed slot (drop (suc i) ps)) v
+    scatter-skip v = ap (λ qs. scatter n qs v) split-none ∙ scatter-none n _ _ v
 
   pub scatter-step : (v : ℕ)
       → scatter n (placed slot (drop i ps)) v

@@ -10,25 +10,23 @@ ghost use Rattle.field.specs.Field.{standsAt, placed, readable};
 use bundle::Halves;
 
 // A part's place and width. The place counts from bit 0 of the slot, and from `L` on from bit 0 of the L slot.
-pub struct Part(pub u32, pub u32);
+pub struct Part(pub u8, pub u8);
 
-pub const L: u32 = 64;
+pub const L: u8 = 64;
 
-// A part of a bundle, across the halves' seam where it lies there.
-fn get(halves: Halves, place: u32, width: u32) -> u64
-    requires { ⌜ (place < 128) × (width < 64) × (place + width ≤ 128) ⌝ }
-    ensures { λ r. ⌜ r ≡ part (whole halves) place width ⌝ }
+// The 64 bits of a bundle from a place on, across the halves' seam where they lie there.
+fn word_from(halves: Halves, place: u32) -> u64
+    requires { ⌜ (0 < place) × (place < 128) ⌝ }
+    ensures { λ r. ⌜ r ≡ part (whole halves) place 64 ⌝ }
 {
     if 64 <= place {
-        return bits::get(halves.high, place - 64, width);
+        halves.high >> (place - 64)
+    } else {
+        (halves.low >> place) + (halves.high << (64 - place))
     }
-    if place + width <= 64 {
-        return bits::get(halves.low, place, width);
-    }
-    let below = 64 - place;
-    bits::get(halves.low, place, below) + (bits::get(halves.high, 0, width - below) << below)
 }
 
+// The bundle with a value in a part of it.
 fn put(halves: Halves, place: u32, width: u32, value: u64) -> Halves
     requires { ⌜ (place < 128) × (width < 64) × (place + width ≤ 128) ⌝ }
     ensures { λ r. ⌜ whole r ≡ Part·put (whole halves) place width value ⌝ }
@@ -53,18 +51,20 @@ fn put(halves: Halves, place: u32, width: u32, value: u64) -> Halves
 }
 
 // Where a part of a slot stands in the bundle.
-fn stands_at(slot: u32, place: u32) -> u32
+fn stands_at(slot: u32, place: u8) -> u32
     requires { ⌜ (slot < 3) × (place < 128) ⌝ }
     ensures { λ r. ⌜ r ≡ standsAt slot place ⌝ }
 {
+    let bit = place as u32;
     if place < L {
-        5 + 41 * slot + place
+        5 + 41 * slot + bit
     } else {
-        46 + (place - L)
+        46 + (bit - L as u32)
     }
 }
 
-// The number that stands in the parts of a slot.
+// The number that stands in the parts of a slot. A part's place and width are read one by one, as a row stores them: a read of
+// both would wait for both stores.
 pub fn gather(halves: Halves, slot: u32, parts: [Part; 6]) -> u64
     requires { ⌜ (slot < 3) × T (readable slot parts) ⌝ }
     ensures { λ r. ⌜ r ≡ Parts·gather (whole halves) (placed slot parts) ⌝ }
@@ -73,9 +73,11 @@ pub fn gather(halves: Halves, slot: u32, parts: [Part; 6]) -> u64
     let mut i = 6;
     while 0 < i {
         i -= 1;
-        let part = parts[i];
-        let width = part.1;
-        raw = (raw << width) + get(halves, stands_at(slot, part.0), width);
+        let width = parts[i].1 as u32;
+        if 0 < width {
+            let word = word_from(halves, stands_at(slot, parts[i].0));
+            raw = (raw << width) + bits::get(word, 0, width);
+        }
     }
     raw
 }
@@ -89,10 +91,11 @@ pub fn scatter(halves: Halves, slot: u32, parts: [Part; 6], raw: u64) -> Halves
     let mut rest = raw;
     let mut i = 0;
     while i < 6 {
-        let part = parts[i];
-        let width = part.1;
-        bundle = put(bundle, stands_at(slot, part.0), width, rest);
-        rest = rest >> width;
+        let width = parts[i].1 as u32;
+        if 0 < width {
+            bundle = put(bundle, stands_at(slot, parts[i].0), width, rest);
+            rest = rest >> width;
+        }
         i += 1;
     }
     bundle

@@ -2,14 +2,16 @@
 use mathlib.Core.Path.{_≡_, refl, ap, _∙_}
 use mathlib.Core.Bool.{Bool, true, false, cond}
 use Prim.Native.Nat.{ℕ, suc, _+_, _-_, _*_, _/_, _%_, _≤_, _<_, _^_}
-use native.Mathlib.Nat.{mul-comm, mul-le-mul-left, le-trans, div-add-mod', div-lt-iff-lt-mul, le-div-iff-mul-le, pow-suc}
+use native.Mathlib.Nat.{mul-comm, mul-add, mul-le-mul-left, le-trans, le-of-lt, mod-lt, mod-eq-of-lt, div-add-mod', div-lt-iff-lt-mul, le-div-iff-mul-le, pow-suc}
+use native.Mathlib.Decide.{decLt}
 use native.Mathlib.Omega.{arith}
-use borrow.Author.Tests.{ltb-true, ltb-false}
+use borrow.Author.Tests.{ltb-true, ltb-false, lt-ltb, le-ltb}
 use lib.Dec.{ltb}
 use lib.Pow.{pow-pos}
 use lib.IntN.{ℤ, pos, negsuc}
 use mir.Syntax.{w64}
 use mir.Val.{SFits}
+use Rattle.bits.proofs.Laws.{above-mod}
 use Rattle.operand.specs.Pattern.{patternOf}
 use Rattle.immediate.specs.Meaning.{SignedFits, signedOf, rawUp, rawDown, rawSigned}
 
@@ -22,6 +24,49 @@ half w h =
 -- so many units, at most half of what w bits count, fit
 pub units-fit : (unit w n : ℕ) → SignedFits unit w → n ≤ 2 ^ (w - 1) → unit * n ≤ 2 ^ 63
 units-fit unit w n f h = le-trans (mul-le-mul-left unit h) (f .3)
+
+-- the top bit of a number of w bits, and what stands below it
+data Top (w raw : ℕ) : Type 0 where
+  clear : raw < 2 ^ (w - 1) → raw % 2 ^ (w - 1) ≡ raw → Top w raw
+  set : (t : ℕ) → t < 2 ^ (w - 1) → raw ≡ t + 2 ^ (w - 1) → raw % 2 ^ (w - 1) ≡ t → Top w raw
+
+top : (w raw : ℕ) → 1 ≤ w → raw < 2 ^ w → Top w raw
+top w raw h l =
+    elim (decLt raw (2 ^ (w - 1))) [
+      | yes g ↦ clear g (mod-eq-of-lt g)
+      | no g ↦
+          let t = raw - 2 ^ (w - 1) in
+          let below : t < 2 ^ (w - 1) = omega (arith, half w h) in
+          let e : raw ≡ t + 2 ^ (w - 1) * 1 = omega arith in
+          set t below (omega arith) (ap (λ (x : ℕ). x % 2 ^ (w - 1)) e ∙ above-mod (w - 1) t 1 below)
+    ]
+
+-- the top bit takes away what it would add
+module _ (unit w raw : ℕ) (f : SignedFits unit w) (l : raw < 2 ^ w) where
+  pub low-fits : unit * (raw % 2 ^ (w - 1)) ≤ 2 ^ 63
+  low-fits = units-fit unit w (raw % 2 ^ (w - 1)) f (le-of-lt (mod-lt raw (pow-pos (w - 1))))
+
+  pub top-fits : unit * (raw - raw % 2 ^ (w - 1)) ≤ 2 ^ 63
+  top-fits = units-fit unit w (raw - raw % 2 ^ (w - 1)) f (by-top (top w raw (f .0) l))
+    where
+      by-top : Top w raw → raw - raw % 2 ^ (w - 1) ≤ 2 ^ (w - 1)
+      by-top (clear g m) = omega arith
+      by-top (set t g e m) = omega arith
+
+  pub signed-pattern : (r : ℕ) → r < 2 ^ 64 → (r + unit * (raw - raw % 2 ^ (w - 1))) % 2 ^ 64 ≡ unit * (raw % 2 ^ (w - 1)) → r ≡ patternOf (signedOf unit w raw)
+  signed-pattern r small is = by-top (top w raw (f .0) l)
+    where
+      by-top : Top w raw → r ≡ patternOf (signedOf unit w raw)
+      by-top (clear g m) =
+          let d : raw - raw % 2 ^ (w - 1) ≡ 0 = omega arith in
+          rw (lt-ltb raw (2 ^ (w - 1)) g) (omega (arith, ap (λ (x : ℕ). unit * x) d, ap (λ (x : ℕ). unit * x) m))
+      by-top (set t g e m) =
+          let d : raw - raw % 2 ^ (w - 1) ≡ (2 ^ w - raw) + t = omega (arith, half w (f .0)) in
+          let some : 1 ≤ 2 ^ w - raw = omega arith in
+          let high : 2 ^ (w - 1) ≤ raw = omega arith in
+          let one : 1 ≤ unit = f .2 in
+          rw (le-ltb raw (2 ^ (w - 1)) high)
+          (omega (arith, top-fits, ap (λ (x : ℕ). unit * x) d, ap (λ (x : ℕ). unit * x) m, mul-add unit (2 ^ w - raw) t, mul-le-mul-left unit some))
 
 -- a number of w bits is seen by its upper part
 pub below-top : (w n : ℕ) → 1 ≤ w → n / 2 ^ (w - 1) < 2 → n < 2 ^ w

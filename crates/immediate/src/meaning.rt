@@ -23,16 +23,14 @@ pub fn value_of(meaning: Meaning, width: u32, raw: u64) -> Operand
     }
 }
 
-// The 64-bit pattern of a raw number with a sign.
+// The 64-bit pattern of a raw number with a sign: the top bit takes away what it would else add. No branch on it, since a
+// processor can't foresee signs.
 pub fn displacement(unit: u64, width: u32, raw: u64) -> u64
     requires { ⌜ SignedFits unit width × (raw < 2 ^ width) ⌝ }
     ensures { λ r. ⌜ r ≡ patternOf (signedOf unit width raw) ⌝ }
 {
-    if raw < 1 << (width - 1) {
-        unit * raw
-    } else {
-        u64::MAX - (unit * ((1 << width) - raw) - 1)
-    }
+    let low = raw % (1 << (width - 1));
+    std::num::wrapping_sub_u64(unit * low, unit * (raw - low))
 }
 
 pub enum Raw {

@@ -16,8 +16,8 @@ pub struct Opened {
 pub fn open(code: &[u8], bundle: u64, slot: u64, family: u64, row: Row) -> Opened
     ensures { λ r. ⌜ r ≡ openedOf (now (code .entry)) bundle slot family row ⌝ }
 {
-    let cut = bundle::cut(code, bundle);
-    let answer = cut.answer;
+    let seen = bundle::look(code, bundle);
+    let answer = seen.answer;
     if answer != ACCEPTED {
         return closed(answer);
     }
@@ -27,11 +27,11 @@ pub fn open(code: &[u8], bundle: u64, slot: u64, family: u64, row: Row) -> Opene
     if 2 < slot {
         return closed(BAD_SLOT);
     }
-    let units = cut.units;
+    let units = seen.units;
     if !fits(family, units[slot as usize]) {
         return closed(BAD_SLOT);
     }
-    let halves = bundle::read(bundle::find(code, bundle));
+    let halves = seen.halves;
     Opened { answer, halves }
 }
 

@@ -142,7 +142,8 @@ pub fn width(parts: [Part; 6]) -> u32
     requires { ⌜ bitsOf parts ≤ 64 ⌝ }
     ensures { λ r. ⌜ r ≡ bitsOf parts ⌝ }
 {
-    parts[0].1 + parts[1].1 + parts[2].1 + parts[3].1 + parts[4].1 + parts[5].1
+    let bits = parts[0].1 + parts[1].1 + parts[2].1 + parts[3].1 + parts[4].1 + parts[5].1;
+    bits as u32
 }
 
 // A forms

@@ -1,17 +1,21 @@
--- `gather` meets its contract: from the last part to the first, the number so far is that of the parts from i on. Assumes nothing.
+-- `gather` meets its contract: from the last part to the first, the number so far is that of the parts from i on,
+-- and a part of no width adds nothing. Assumes nothing.
 use mathlib.Core.Path.{_≡_, _∙_, ap, sym, subst}
 use mathlib.Core.List.{[]}
 use Prim.Native.Nat.{ℕ, suc, _+_, _-_, _*_, _%_, _≤_, _<_, _^_}
-use native.Mathlib.Nat.{le-of-eq}
+use native.Mathlib.Nat.{le-of-eq, lt-of-lt-of-le, add-zero}
 use native.Mathlib.Omega.{arith}
 use borrow.Author.Needs.{needs}
+use lib.Dec.{lit<}
 use lib.ListN.{length, getD, drop, drop-of-length-le}
 use mir.Facts.{fits-of-lt}
 use Rattle.bits.specs.Part.{part}
 use Rattle.bits.specs.Parts.{gather}
+use Rattle.bits.proofs.Laws.{part-part}
 use Rattle.bundle.specs.Bundle.{whole}
 use Rattle.field.specs.Field.{placed}
-use Rattle.field.proofs.Steps.{Reads, reads, gather-step, gather-fits}
+use Rattle.field.proofs.Placed.{stands-past}
+use Rattle.field.proofs.Steps.{Reads, reads, gather-step, gather-skip, gather-fits}
 use Rattle.field.proofs.gather.Statement.{statement}
 use Rattle.field.proofs.gather.Tie as tie
 
@@ -47,40 +51,63 @@ loop-holds c = (search needs, sym (ap (gather (whole (c .args .halves))) (none-l
 sub-i : tie.Need-sub-i Inv-loop μ-loop
 sub-i c = search needs
 
-mul-part : tie.Need-mul-part Inv-loop μ-loop
-mul-part c = search needs
+mul-width : tie.Need-mul-width Inv-loop μ-loop
+mul-width c = search needs
 
-array-copy-out-part : tie.Need-array-copy-out-part Inv-loop μ-loop
-array-copy-out-part c = search needs
+element-copy-out-width : tie.Need-element-copy-out-width Inv-loop μ-loop
+element-copy-out-width c = search needs
 
-cast-raw : tie.Need-cast-raw Inv-loop μ-loop
-cast-raw c = let r = can-read (c .before) in omega arith
+cast-width : tie.Need-cast-width Inv-loop μ-loop
+cast-width c = let r = can-read c in omega arith
 
-shl-raw : tie.Need-shl-raw Inv-loop μ-loop
-shl-raw c = can-read (c .before) .width-fits
+mul-stands-at : tie.Need-mul-stands-at Inv-loop μ-loop
+mul-stands-at c = search needs
+
+element-copy-out-stands-at : tie.Need-element-copy-out-stands-at Inv-loop μ-loop
+element-copy-out-stands-at c = search needs
 
 stands-at-requires : tie.Need-stands-at-requires Inv-loop μ-loop
 stands-at-requires c κs = (c .before .before .before .pre .0, can-read (c .before) .place-fits)
 
+word-from-requires : tie.Need-word-from-requires Inv-loop μ-loop
+word-from-requires c κs =
+    let r = can-read (c .before .before) in
+    let l = c .before .before .before in
+    let p = getD (l .before .args .t3) (l .loop .i - 1) (0, 0) in
+    rw (c .stands-at .ensures) (lt-of-lt-of-le (lit< tt) (stands-past (l .before .args .slot) (p .0)), r .stands)
+
+cast-raw : tie.Need-cast-raw Inv-loop μ-loop
+cast-raw c = let r = can-read (c .before .before .before) in omega arith
+
+shl-raw : tie.Need-shl-raw Inv-loop μ-loop
+shl-raw c = can-read (c .before .before .before) .width-fits
+
 get-requires : tie.Need-get-requires Inv-loop μ-loop
-get-requires c κs = let r = can-read (c .before .before) in rw (c .stands-at .ensures) (r .stands, r .width-fits, r .ends)
+get-requires c κs = (lit< tt, can-read (c .before .before .before) .width-fits)
 
 turned : (c : tie.After-get Inv-loop μ-loop) →
-    let l = c .before .before .before .before in
+    let l = c .before .before .before .before .before in
     let w = getD (l .before .args .t3) (l .loop .i - 1) (0, 0) .1 in
     (l .loop .raw * 2 ^ w) % 2 ^ 64 + c .get .result ≡ gather (whole (l .before .args .halves)) (placed (l .before .args .slot) (drop (l .loop .i - 1) (l .before .args .t3)))
 turned c =
-    let t = c .before .before .before in
+    let t = c .before .before .before .before in
     let l = t .before in
     let a = l .before .args in
     let n = whole (a .halves) in
+    let w = getD (a .t3) (l .loop .i - 1) (0, 0) .1 in
+    let fits : 0 + w ≤ 64 = let r = can-read t in omega arith in
+    let at = c .before .before .stands-at in
     let raw = l .loop .inv .1 ∙ ap (λ (k : ℕ). gather n (placed (a .slot) (drop k (a .t3)))) (sym (is-next t)) in
-    let got = c .get .ensures ∙ ap (λ (p : ℕ). part n p (getD (a .t3) (l .loop .i - 1) (0, 0) .1)) (c .before .stands-at .ensures) in
+    let got =
+    c .get .ensures
+    ∙ ap (λ (x : ℕ). part x 0 w) (c .before .word-from .ensures)
+    ∙ part-part n (at .result) 64 0 w fits
+    ∙ ap (λ (p : ℕ). part n p w) (add-zero (at .result) ∙ at .ensures) in
     gather-step n (a .slot) (a .t3) (l .loop .i - 1) (before t) (l .loop .raw) (c .get .result) (l .before .pre .1) raw got
 
 add-raw : tie.Need-add-raw Inv-loop μ-loop
 add-raw c =
-    let t = c .before .before .before in
+    let t = c .before .before .before .before in
     let l = t .before in
     let a = l .before .args in
     fits-of-lt (subst (λ (x : ℕ). x < 2 ^ 64) (sym (turned c)) (gather-fits (whole (a .halves)) (a .slot) (a .t3) (l .loop .i - 1) (before t) (l .before .pre .1)))
@@ -90,6 +117,22 @@ loop-less c = search needs
 
 loop-again : tie.Need-loop-again Inv-loop μ-loop
 loop-again c = (search needs, turned c)
+
+loop-less-2 : tie.Need-loop-less-2 Inv-loop μ-loop
+loop-less-2 c = search needs
+
+loop-again-2 : tie.Need-loop-again-2 Inv-loop μ-loop
+loop-again-2 c =
+    let t = c .before in
+    let l = t .before in
+    let a = l .before .args in
+    let n = whole (a .halves) in
+    let none : getD (a .t3) (l .loop .i - 1) (0, 0) .1 ≡ 0 = omega (arith, c .if1 .left) in (
+      search needs,
+      l .loop .inv .1
+          ∙ ap (λ (k : ℕ). gather n (placed (a .slot) (drop k (a .t3)))) (sym (is-next t))
+          ∙ sym (gather-skip n (a .slot) (a .t3) (l .loop .i - 1) (before t) none),
+    )
 
 returns : tie.Need-returns Inv-loop μ-loop
 returns c =
@@ -105,13 +148,19 @@ gather-spec =
     μ-loop
     loop-holds
     sub-i
-    mul-part
-    array-copy-out-part
+    mul-width
+    element-copy-out-width
+    cast-width
+    mul-stands-at
+    element-copy-out-stands-at
+    stands-at-requires
+    word-from-requires
     cast-raw
     shl-raw
-    stands-at-requires
     get-requires
     add-raw
     loop-less
     loop-again
+    loop-less-2
+    loop-again-2
     returns)

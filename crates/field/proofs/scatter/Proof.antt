@@ -1,6 +1,8 @@
--- `scatter` meets its contract: what is left to be scattered into the parts from i on gives the same bundle. Assumes nothing.
+-- `scatter` meets its contract: what is left to be scattered into the parts from i on gives the same bundle,
+-- and a part of no width takes nothing. Assumes nothing.
 use mathlib.Core.Path.{_≡_, _∙_, ap, ap₂, sym}
-use Prim.Native.Nat.{ℕ, suc, _-_, _/_, _≤_, _<_, _^_}
+use mathlib.Core.Logic.{⊎-elim}
+use Prim.Native.Nat.{ℕ, suc, _-_, _≤_, _<_}
 use native.Mathlib.Numerals.{add-one}
 use native.Mathlib.Omega.{arith}
 use borrow.Author.Needs.{needs}
@@ -9,7 +11,7 @@ use Rattle.bits.specs.Part.{put}
 use Rattle.bits.specs.Parts.{scatter}
 use Rattle.bundle.specs.Bundle.{whole}
 use Rattle.field.specs.Field.{placed}
-use Rattle.field.proofs.Steps.{Reads, reads, scatter-step}
+use Rattle.field.proofs.Steps.{Reads, reads, scatter-step, scatter-skip}
 use Rattle.field.proofs.scatter.Statement.{statement}
 use Rattle.field.proofs.scatter.Tie as tie
 
@@ -33,11 +35,20 @@ module _ (c : tie.In-loop Inv-loop μ-loop) where
 loop-holds : tie.Need-loop-holds Inv-loop μ-loop
 loop-holds c = search needs
 
-mul-part : tie.Need-mul-part Inv-loop μ-loop
-mul-part c = search needs
+mul-width : tie.Need-mul-width Inv-loop μ-loop
+mul-width c = search needs
 
-array-copy-out-part : tie.Need-array-copy-out-part Inv-loop μ-loop
-array-copy-out-part c = search needs
+element-copy-out-width : tie.Need-element-copy-out-width Inv-loop μ-loop
+element-copy-out-width c = search needs
+
+cast-width : tie.Need-cast-width Inv-loop μ-loop
+cast-width c = let r = can-read c in omega arith
+
+mul-stands-at : tie.Need-mul-stands-at Inv-loop μ-loop
+mul-stands-at c = search needs
+
+element-copy-out-stands-at : tie.Need-element-copy-out-stands-at Inv-loop μ-loop
+element-copy-out-stands-at c = search needs
 
 stands-at-requires : tie.Need-stands-at-requires Inv-loop μ-loop
 stands-at-requires c κs = (c .before .before .before .pre .0, can-read (c .before) .place-fits)
@@ -57,18 +68,38 @@ add-i c = search needs
 loop-less : tie.Need-loop-less Inv-loop μ-loop
 loop-less c = search needs
 
-loop-again : tie.Need-loop-again Inv-loop μ-loop
-loop-again c =
-    let t = c .before .before .before in
+-- a turn, by which of the two ways it went
+turned : (c : tie.Joined1 Inv-loop μ-loop) →
+    let l = c .before .before in
+    let a = l .before .args in
+    scatter (whole (l .loop .bundle)) (placed (a .slot) (drop (l .loop .i) (a .t3))) (l .loop .rest)
+    ≡ scatter (whole (c .if1 .bundle)) (placed (a .slot) (drop (suc (l .loop .i)) (a .t3))) (c .if1 .rest)
+turned c =
+    let t = c .before in
     let l = t .before in
     let a = l .before .args in
     let p = getD (a .t3) (l .loop .i) (0, 0) in
     let n = whole (l .loop .bundle) in
-    let put-is = c .put .ensures ∙ ap (λ (x : ℕ). put n x (p .1) (l .loop .rest)) (c .before .stands-at .ensures) in (
+    let after = placed (a .slot) (drop (suc (l .loop .i)) (a .t3)) in
+    ⊎-elim
+    (λ w.
+    let put-is = w .2 .ensures ∙ ap (λ (x : ℕ). put n x (p .1) (l .loop .rest)) (w .1 .ensures) in
+    scatter-step n (a .slot) (a .t3) (l .loop .i) (before t) (l .loop .rest)
+    ∙ ap₂ (λ (m v : ℕ). scatter m after v) (sym put-is ∙ ap whole (sym (w .3))) (sym (w .4)))
+    (λ w.
+    let none : p .1 ≡ 0 = omega (arith, w .0 .left) in
+    scatter-skip n (a .slot) (a .t3) (l .loop .i) (before t) none (l .loop .rest)
+    ∙ ap₂ (λ (m v : ℕ). scatter m after v) (ap whole (sym (w .1))) (sym (w .2)))
+    (c .if1 .came)
+
+loop-again : tie.Need-loop-again Inv-loop μ-loop
+loop-again c =
+    let l = c .before .before in
+    let a = l .before .args in (
       search needs,
       l .loop .inv .1
-          ∙ scatter-step n (a .slot) (a .t3) (l .loop .i) (before t) (l .loop .rest)
-          ∙ ap₂ (λ (m k : ℕ). scatter m (placed (a .slot) (drop k (a .t3))) (l .loop .rest / 2 ^ p .1)) (sym put-is) (sym (add-one (l .loop .i))),
+          ∙ turned c
+          ∙ ap (λ (k : ℕ). scatter (whole (c .if1 .bundle)) (placed (a .slot) (drop k (a .t3))) (c .if1 .rest)) (sym (add-one (l .loop .i))),
     )
 
 returns : tie.Need-returns Inv-loop μ-loop
@@ -86,8 +117,11 @@ scatter-spec =
     Inv-loop
     μ-loop
     loop-holds
-    mul-part
-    array-copy-out-part
+    mul-width
+    element-copy-out-width
+    cast-width
+    mul-stands-at
+    element-copy-out-stands-at
     stands-at-requires
     put-requires
     cast-rest

@@ -13,6 +13,12 @@ add-result c = search needs
 add-result-2 : tie.Need-add-result-2
 add-result-2 c = search needs
 
+cast-result : tie.Need-cast-result
+cast-result c = search needs
+
+sub-result : tie.Need-sub-result
+sub-result c = search needs
+
 add-result-3 : tie.Need-add-result-3
 add-result-3 c = search needs
 
@@ -24,4 +30,13 @@ returns-2 c = simp (le-ltb _ _ (c .if1 .left))
 
 pub stands-at-spec : {M : Type 1} → statement M
 stands-at-spec =
-    tie.close (tie.spec mul-result add-result add-result-2 add-result-3 returns returns-2)
+    tie.close
+    (tie.spec
+    mul-result
+    add-result
+    add-result-2
+    cast-result
+    sub-result
+    add-result-3
+    returns
+    returns-2)

@@ -1,56 +1,42 @@
--- `template::units` meets its contract: the code's table and the manual's are compared at every tag by one computed check.
--- Assumes nothing.
-use mathlib.Core.Path.{_≡_}
+-- `template::units` meets its contract: the code's table and the manual's are compared at every tag by one computed check, and a
+-- number that no arm names has no units. Assumes nothing.
+use mathlib.Core.Path.{_≡_, _∙_}
 use mathlib.Core.List.{List, [], _∷_}
-use Prim.Native.Nat.{ℕ, _+_, _*_, _<_}
-use lib.ListN.{getD}
+use Prim.Native.Nat.{ℕ, _/_, _<_}
+use Rattle.table.specs.Table.{select}
 use Rattle.table.proofs.Check.{checked, same, same→eq}
-use Rattle.bundle.specs.Template.{M, I, F, B, L, X, unitsOf}
-use borrow.Author.Needs.{needs}
+use Rattle.table.proofs.Match.{ones, otherwise}
+use Rattle.bundle.specs.Template.{M, I, F, B, L, X, none, unitsOf}
 use Rattle.bundle.proofs.template.units.Statement.{statement}
 use Rattle.bundle.proofs.template.units.Tie as tie
 
 -- the code's table
-table : List ℕ
-table = M ∷ I ∷ I ∷ M ∷ I ∷ I ∷ M ∷ I ∷ I ∷ M ∷ I ∷ I ∷ M ∷ L ∷ X ∷ M ∷ L ∷ X ∷ 0 ∷ 0 ∷ 0 ∷ 0 ∷ 0 ∷ 0 ∷ M ∷ M ∷ I ∷ M ∷ M ∷ I ∷ M ∷ M ∷ I ∷ M ∷ M ∷ I ∷ M ∷ F ∷ I ∷ M ∷ F ∷ I ∷ M ∷ M ∷ F ∷ M ∷ M ∷ F ∷ M ∷ I ∷ B ∷ M ∷ I ∷ B ∷ M ∷ B ∷ B ∷ M ∷ B ∷ B ∷ 0 ∷ 0 ∷ 0 ∷ 0 ∷ 0 ∷ 0 ∷ B ∷ B ∷ B ∷ B ∷ B ∷ B ∷ M ∷ M ∷ B ∷ M ∷ M ∷ B ∷ 0 ∷ 0 ∷ 0 ∷ 0 ∷ 0 ∷ 0 ∷ M ∷ F ∷ B ∷ M ∷ F ∷ B ∷ 0 ∷ 0 ∷ 0 ∷ 0 ∷ 0 ∷ 0 ∷ []
+abbrev table : List (ℕ × List ℕ)
+table =
+    (0, M ∷ I ∷ I ∷ []) ∷ (1, M ∷ I ∷ I ∷ []) ∷ (2, M ∷ L ∷ X ∷ []) ∷ (4, M ∷ M ∷ I ∷ []) ∷ (5, M ∷ M ∷ I ∷ []) ∷ (6, M ∷ F ∷ I ∷ []) ∷ (7, M ∷ M ∷ F ∷ [])
+    ∷ (8, M ∷ I ∷ B ∷ []) ∷ (9, M ∷ B ∷ B ∷ []) ∷ (11, B ∷ B ∷ B ∷ []) ∷ (12, M ∷ M ∷ B ∷ []) ∷ (14, M ∷ F ∷ B ∷ []) ∷ []
 
-three : ℕ → List ℕ
-three tag = getD table (3 * tag) 0 ∷ getD table (3 * tag + 1) 0 ∷ getD table (3 * tag + 2) 0 ∷ []
+at-tag : (tag : ℕ) → tag < 32 → select (tag / 2) table none ≡ unitsOf tag
+unfolding unitsOf
+at-tag tag h = same→eq (select (tag / 2) table none) (unitsOf tag) (checked (λ k. same (select (k / 2) table none) (unitsOf k)) 32 tt tag h)
 
-at-tag : (tag : ℕ) → tag < 32 → three tag ≡ unitsOf tag
-unfolding table three unitsOf
-at-tag tag h = same→eq (three tag) (unitsOf tag) (checked (λ k. same (three k) (unitsOf k)) 32 tt tag h)
-
-mul-at : tie.Need-mul-at
-mul-at c = search needs
-
-element-copy-out-t7 : tie.Need-element-copy-out-t7
-element-copy-out-t7 c = search needs
-
-add-t8 : tie.Need-add-t8
-add-t8 c = search needs
-
-element-copy-out-t11 : tie.Need-element-copy-out-t11
-element-copy-out-t11 c = search needs
-
-add-t12 : tie.Need-add-t12
-add-t12 c = search needs
-
-element-copy-out-t15 : tie.Need-element-copy-out-t15
-element-copy-out-t15 c = search needs
-
-returns : tie.Need-returns
-unfolding table three
-returns c = at-tag (c .before .before .before .before .args .tag) (c .before .before .before .before .pre)
+arm : (tag : ℕ) (units : List ℕ) → tag < 32 → units ≡ select (tag / 2) table none → units ≡ unitsOf tag
+arm tag units h e = e ∙ at-tag tag h
 
 pub units-spec : {M : Type 1} → statement M
 units-spec =
     tie.close
     (tie.spec
-    mul-at
-    element-copy-out-t7
-    add-t8
-    element-copy-out-t11
-    add-t12
-    element-copy-out-t15
-    returns)
+    (λ c. arm _ _ (c .before .pre) (rw (c .match .keys1)))
+    (λ c. arm _ _ (c .before .pre) (rw (c .match .keys2)))
+    (λ c. arm _ _ (c .before .pre) (rw (c .match .keys3)))
+    (λ c. arm _ _ (c .before .pre) (rw (c .match .keys4)))
+    (λ c. arm _ _ (c .before .pre) (rw (c .match .keys5)))
+    (λ c. arm _ _ (c .before .pre) (rw (c .match .keys6)))
+    (λ c. arm _ _ (c .before .pre) (rw (c .match .keys7)))
+    (λ c. arm _ _ (c .before .pre) (rw (c .match .keys8)))
+    (λ c. arm _ _ (c .before .pre) (rw (c .match .keys9)))
+    (λ c. arm _ _ (c .before .pre) (rw (c .match .keys10)))
+    (λ c. arm _ _ (c .before .pre) (rw (c .match .keys11)))
+    (λ c. arm _ _ (c .before .pre) (rw (c .match .keys12)))
+    (λ c. arm _ _ (c .before .pre) (otherwise (ones (14 ∷ 12 ∷ 11 ∷ 9 ∷ 8 ∷ 7 ∷ 6 ∷ 5 ∷ 4 ∷ 2 ∷ 1 ∷ 0 ∷ [])) _ table none tt (c .match .rest))))

@@ -3,27 +3,27 @@ use mathlib.Core.Path.{_≡_, refl, _∙_, ap, sym}
 use mathlib.Core.Bool.{true, false}
 use borrow.Author.Tests.{lt-ltb, le-ltb, eqb-false, not-true, not-false}
 use denote.Ref.{now}
-use lib.ListN.{length, getD}
+use lib.ListN.{getD}
 use Rattle.answer.specs.Answer.{accepted, first}
-use Rattle.bundle.specs.Bytes.{number}
-use Rattle.bundle.specs.Bundle.{foundOf, cutRefusals, halvesOf}
-use Rattle.bundle.specs.declared.Bundle.{Bundle}
-use Rattle.bundle.proofs.Laws.{cut-answer, cut-found, cut-bundle, found-part, found-sixteen}
+use Rattle.bundle.specs.Template.{unitsOf}
+use Rattle.bundle.specs.Bundle.{numberAt, tagOf, cutRefusals, halvesOf}
+use Rattle.bundle.specs.declared.Seen.{Seen}
+use Rattle.bundle.proofs.Laws.{cut-bundle, look-answer, look-done}
 use Rattle.immediate.specs.Immediate.{isNone, fits, unitAt, openRefusals}
 use Rattle.immediate.proofs.Laws.{closed-by, open-not-cut, open-cut, open-done}
 use borrow.Author.Needs.{needs}
 use Rattle.immediate.proofs.opening.open.Statement.{statement}
 use Rattle.immediate.proofs.opening.open.Tie as tie
 
-cut-requires : tie.Need-cut-requires
-cut-requires c κs = search needs
+look-requires : tie.Need-look-requires
+look-requires c κs = search needs
 
 closed-requires : tie.Need-closed-requires
 closed-requires c κs = search needs
 
--- what the cut answers
-answer : (c : tie.After-cut) → c .cut .result .answer ≡ first (cutRefusals (now (c .before .before .args .code)) (c .before .before .args .bundle))
-answer c = ap (λ (b : Bundle). b .answer) (c .cut .ensures) ∙ cut-answer _ _
+-- what the look answers
+answer : (c : tie.After-look) → c .look .result .answer ≡ first (cutRefusals (now (c .before .before .args .code)) (c .before .before .args .bundle))
+answer c = ap (λ (s : Seen). s .answer) (c .look .ensures) ∙ look-answer _ _
 
 returns : tie.Need-returns
 returns c =
@@ -36,9 +36,15 @@ returns c =
 is-none-requires : tie.Need-is-none-requires
 is-none-requires c κs = search needs
 
--- the cut accepted
+-- the look accepted
 is-cut : (c : tie.Else1) → first (cutRefusals (now (c .before .before .before .args .code)) (c .before .before .before .args .bundle)) ≡ accepted
 is-cut c = sym (answer (c .before)) ∙ c .if1 .left
+
+-- what was seen then
+seen-is : (c : tie.Else1) →
+    let n = numberAt (now (c .before .before .before .args .code)) (c .before .before .before .args .bundle) in
+    c .before .look .result ≡ record { answer = accepted; tag = tagOf n; units = unitsOf (tagOf n); halves = halvesOf n }
+seen-is c = c .before .look .ensures ∙ look-done _ _ (cut-bundle _ _ (is-cut c))
 
 closed-requires-2 : tie.Need-closed-requires-2
 closed-requires-2 c κs = search needs
@@ -80,7 +86,7 @@ fits-is : (c : tie.After-fits2) →
 fits-is c =
     let e1 = c .before .before .before .before .before in
     let a = e1 .before .before .before .args in
-    c .fits2 .ensures ∙ ap (λ (b : Bundle). fits (a .family) (getD (b .units) (a .slot) 0)) (e1 .before .cut .ensures ∙ cut-bundle (now (a .code)) (a .bundle) (is-cut e1))
+    c .fits2 .ensures ∙ ap (λ (s : Seen). fits (a .family) (getD (s .units) (a .slot) 0)) (seen-is e1)
 
 returns-4 : tie.Need-returns-4
 returns-4 c =
@@ -93,35 +99,24 @@ returns-4 c =
     (open-cut (now (a .code)) (a .bundle) (a .slot) (a .family) (a .row) (is-cut (e3 .before .before .before))
     ∙ rw (some-row (e3 .before), le-ltb 2 (a .slot) (e3 .if3 .left), misfit)) (eqb-false 5 0 refl)
 
-find-requires : tie.Need-find-requires
-find-requires c κs = search needs
-
-is-found : (c : tie.After-fits2) → foundOf (now (c .before .before .before .before .before .before .before .before .args .code)) (c .before .before .before .before .before .before .before .before .args .bundle) ≡ accepted
-is-found c = cut-found _ _ (is-cut (c .before .before .before .before .before))
-
-read-requires : tie.Need-read-requires
-read-requires c κs =
-    let f = is-found (c .before .before) in
-    ap length (c .find .ensures ∙ found-part _ _ f) ∙ found-sixteen _ _ f
-
 returns-5 : tie.Need-returns-5
 returns-5 c =
-    let u = c .before .before .before in
+    let u = c .before .before in
     let e3 = u .before .before in
     let e1 = e3 .before .before .before in
     let a = e1 .before .before .before .args in
-    let fit = sym (fits-is u) ∙ not-false (u .fits2 .result) (c .before .before .if4 .left) in
+    let fit = sym (fits-is u) ∙ not-false (u .fits2 .result) (c .before .if4 .left) in
     let done : first (openRefusals (now (a .code)) (a .bundle) (a .slot) (a .family) (a .row)) ≡ accepted =
     open-cut (now (a .code)) (a .bundle) (a .slot) (a .family) (a .row) (is-cut e1)
     ∙ rw (some-row (e3 .before), le-ltb 2 (a .slot) (e3 .if3 .left), fit) in
-    let halves = c .read .ensures ∙ ap (λ l. halvesOf (number l)) (c .before .find .ensures ∙ found-part _ _ (is-found u)) in
+    let halves = ap (λ (s : Seen). s .halves) (seen-is e1) in
     (λ i. record { answer = e1 .if1 .left i; halves = halves i }) ∙ sym (open-done (now (a .code)) (a .bundle) (a .slot) (a .family) (a .row) done)
 
 pub open-spec : {M : Type 1} → statement M
 open-spec =
     tie.close
     (tie.spec
-    cut-requires
+    look-requires
     closed-requires
     returns
     is-none-requires
@@ -133,6 +128,4 @@ open-spec =
     fits-requires
     closed-requires-4
     returns-4
-    find-requires
-    read-requires
     returns-5)

@@ -1,0 +1,39 @@
+-- `sixteen` meets its contract: the sixteen bytes of a bundle that was found lie in the code. Assumes nothing.
+use mathlib.Core.Path.{_≡_, ap₂}
+use Prim.Native.Nat.{ℕ, _+_, _-_, _*_}
+use native.Mathlib.Omega.{arith}
+use borrow.Author.Needs.{needs}
+use denote.Ref.{now}
+use lib.ListN.{take, drop}
+use Rattle.bundle.proofs.Lies.{Lies, lies}
+use Rattle.bundle.proofs.sixteen.Statement.{statement}
+use Rattle.bundle.proofs.sixteen.Tie as tie
+
+found : (c : tie.Start) → Lies (now (c .args .code)) (c .args .bundle)
+found c = lies _ _ (c .pre)
+
+mul-at : tie.Need-mul-at
+mul-at c = let h = found c in omega arith
+
+add-result : tie.Need-add-result
+add-result c = let h = found c in omega arith
+
+sub-result : tie.Need-sub-result
+sub-result c = search needs
+
+part-result-start : tie.Need-part-result-start
+part-result-start c = search needs
+
+part-result-end : tie.Need-part-result-end
+part-result-end c = let h = found c in omega arith
+
+returns : tie.Need-returns
+returns c =
+    let a = c .before .args in
+    let at : a .bundle * 16 ≡ 16 * a .bundle = omega arith in
+    let size : a .bundle * 16 + 16 - a .bundle * 16 ≡ 16 = omega arith in
+    ap₂ (λ (n m : ℕ). take n (drop m (now (a .code)))) size at
+
+pub sixteen-spec : {M : Type 1} → statement M
+sixteen-spec =
+    tie.close (tie.spec mul-at add-result sub-result part-result-start part-result-end returns)
