@@ -1,12 +1,13 @@
 -- What a plan, an edit and an undo come to, case by case: the list of refusals goes on after those of opening the bundle. Assumes nothing.
 use mathlib.Core.Path.{_≡_, refl, sym, ap, _∙_, subst}
-use mathlib.Core.Bool.{Bool, true, false, cond}
+use mathlib.Core.Bool.{Bool, true, false, cond, not}
 use mathlib.Core.List.{List, [], _∷_, _++_}
-use Prim.Native.Nat.{ℕ, zero, suc, _≤_, _<_, _^_, zero-le, suc-le-suc}
-use borrow.Author.Tests.{leb-false, ltb-false, eqb-false, not-false}
-use lib.Dec.{T, leb, leb→le}
+use Prim.Native.Nat.{ℕ, zero, suc, _+_, _*_, _≤_, _<_, _^_, zero-le, suc-le-suc}
+use borrow.Author.Tests.{leb-false, ltb-false, eqb-false, not-false, lt-ltb, le-ltb}
+use lib.Dec.{T, eqb, leb, ltb, leb→le}
+use lib.ListN.{length}
 use mir.Facts.{and-yes}
-use Rattle.answer.specs.Answer.{Refusal, accepted, badValue, first}
+use Rattle.answer.specs.Answer.{Refusal, accepted, exhaustedInput, badValue, empty, stale, tooLong, badJournal, first}
 use Rattle.answer.proofs.Laws.{none-applies, first-on, first-stop, accepts, refuses, answered}
 use Rattle.bundle.specs.Bundle.{numberAt, halvesOf, whole}
 use Rattle.bundle.proofs.Bytes.{Bytes}
@@ -20,9 +21,10 @@ use Rattle.immediate.proofs.Laws.{opened, open-sound}
 use Rattle.immediate.proofs.Written.{written-lt}
 use Rattle.immediate.specs.declared.meaning.Raw.{Raw}
 use Rattle.immediate.specs.declared.meaning.Raw.the-variants.{Is, Bad}
-use Rattle.journal.specs.Edit.{isBad, rawIn, rawFor, editedNumber, planRefusals, planOf, noHalves, rewritten, recordOf, editRefusals, editOf, undoRefusals, undoOf}
+use Rattle.journal.specs.Edit.{isBad, rawIn, rawFor, editedNumber, planRefusals, planOf, noHalves, rewritten, recordOf, editRefusals, editOf, sameHalves, undoRefusals, undoOf}
 use Rattle.journal.specs.Journal.{placesValid, validOf, roomRefusals, pushOf, lastOf, popOf}
 use Rattle.journal.specs.declared.records.Journal.{Journal}
+use Rattle.journal.specs.declared.records.Record.{Record}
 use Rattle.journal.specs.declared.plan.Plan.{Plan}
 
 module _ (code : List ℕ) (k slot family number : ℕ) (value : Operand) where
@@ -120,11 +122,47 @@ pub valid-count : (journal : Journal) → validOf journal ≡ true → journal .
 unfolding validOf
 valid-count journal e = leb→le _ _ (and-yes (leb (journal .count) 64) (placesValid (journal .count) 0 (journal .records)) (subst T (sym e) tt) .0)
 
+-- when a journal has no record to undo
+abbrev pub lastRefusals : Journal → List Refusal
+lastRefusals journal = (badJournal, not (validOf journal)) ∷ (empty, eqb (journal .count) 0) ∷ []
+
+-- when a record's bundle does not stand in the code
+abbrev pub standRefusals : List ℕ → Record → List Refusal
+standRefusals code last =
+    (exhaustedInput, ltb (length code) (16 * last .bundle + 16))
+    ∷ (stale, not (sameHalves (halvesOf (numberAt code (last .bundle))) (last .new)))
+    ∷ []
+
+-- a journal with a record to undo
+pub has-last : (journal : Journal) → first (lastRefusals journal) ≡ accepted → (0 < journal .count) × (journal .count ≤ 64)
+has-last journal e =
+    let n = none-applies (lastRefusals journal) tt e in
+    (pos-of (journal .count) (eqb-false (journal .count) 0 (n .1 .0)), valid-count journal (not-false _ (n .0)))
+  where
+    pos-of : (n : ℕ) → (n ≡ 0 → ⊥) → 0 < n
+    pos-of zero d = absurd (d refl)
+    pos-of (suc n) d = suc-le-suc zero-le
+
 -- what undoing comes to, case by case
 module _ (code : List ℕ) (journal : Journal) where
   pub undo-refused : (first (undoRefusals code journal) ≡ accepted → ⊥) → undoOf code journal ≡ record { answer = first (undoRefusals code journal); journal = journal; code = code }
   unfolding undoOf
   undo-refused d = refuses (first (undoRefusals code journal)) _ _ d
+
+  pub undo-refused-by : (a : ℕ) → first (undoRefusals code journal) ≡ a → (a ≡ accepted → ⊥) → record { answer = a; journal = journal; code = code } ≡ undoOf code journal
+  undo-refused-by a e d = ap (λ (x : ℕ). record { answer = x; journal = journal; code = code }) (sym e) ∙ sym (undo-refused (λ q. d (sym e ∙ q)))
+
+  pub undo-long : 65536 < length code → first (undoRefusals code journal) ≡ tooLong
+  undo-long h = rw (lt-ltb 65536 (length code) h)
+
+  module _ (short : length code ≤ 65536) where
+    pub undo-none : (first (lastRefusals journal) ≡ accepted → ⊥)
+        → first (undoRefusals code journal) ≡ first (lastRefusals journal)
+    undo-none d = rw (le-ltb 65536 (length code) short) (first-stop (lastRefusals journal) (standRefusals code (lastOf journal)) d)
+
+    pub undo-some : first (lastRefusals journal) ≡ accepted
+        → first (undoRefusals code journal) ≡ first (standRefusals code (lastOf journal))
+    undo-some e = rw (le-ltb 65536 (length code) short) (first-on (lastRefusals journal) (standRefusals code (lastOf journal)) tt e)
 
   module _ (e : first (undoRefusals code journal) ≡ accepted) where
     pub undo-done : undoOf code journal ≡ record { answer = accepted; journal = popOf journal; code = rewritten code (lastOf journal .bundle) (whole (lastOf journal .old)) }
@@ -135,12 +173,3 @@ module _ (code : List ℕ) (journal : Journal) where
     undo-lies =
         let n = none-applies (undoRefusals code journal) tt e in
         record { short = ltb-false _ _ (n .0); within = ltb-false _ _ (n .1 .1 .1 .0) }
-
-    pub undo-counts : (0 < journal .count) × (journal .count ≤ 64)
-    undo-counts =
-        let n = none-applies (undoRefusals code journal) tt e in
-        (pos-of (journal .count) (eqb-false (journal .count) 0 (n .1 .1 .0)), valid-count journal (not-false _ (n .1 .0)))
-      where
-        pos-of : (n : ℕ) → (n ≡ 0 → ⊥) → 0 < n
-        pos-of zero d = absurd (d refl)
-        pos-of (suc n) d = suc-le-suc zero-le

@@ -1,4 +1,5 @@
 pub mod Laws
+pub mod Places
 pub mod Rewritten
 pub mod Run
 pub mod Standing

@@ -4,29 +4,26 @@ mod records;
 
 pub use plan::Plan;
 pub use plan::planned;
+pub use records::Edited;
 pub use records::Journal;
 pub use records::Record;
 pub use records::empty;
 pub use records::valid;
 ghost use mathlib.Core.Path.{_≡_};
 ghost use Prim.Native.Nat.{_+_, _*_, _≤_};
+ghost use mathlib.Core.Bool.{not};
+ghost use mathlib.Core.List.{[], _∷_};
+ghost use lib.Dec.{ltb};
 ghost use lib.ListN.{length};
-ghost use Rattle.answer.specs.Answer.{first};
-ghost use Rattle.bundle.specs.Bundle.{whole};
-ghost use Rattle.journal.specs.Edit.{Outcome, rewritten, editOf, sameHalves, undoRefusals, undoOf};
+ghost use Rattle.answer.specs.Answer.{first, exhaustedInput, stale};
+ghost use Rattle.bundle.specs.Bundle.{numberAt, halvesOf, whole};
+ghost use Rattle.journal.specs.Edit.{Outcome, rewritten, editOf, sameHalves, undoOf};
 use answer::ACCEPTED;
-use answer::BAD_JOURNAL;
-use answer::EMPTY;
 use answer::EXHAUSTED_INPUT;
 use answer::STALE;
 use answer::TOO_LONG;
 use bundle::Halves;
 use operand::Operand;
-
-pub struct Edited {
-    pub answer: u8,
-    pub journal: Journal,
-}
 
 // Writes a value into a form's immediate, and records the bundle before and after.
 pub fn edit(
@@ -48,7 +45,7 @@ pub fn edit(
             journal,
         };
     }
-    let room = records::room(journal);
+    let room = records::room(records::valid(journal), journal.count);
     if room != ACCEPTED {
         return Edited {
             answer: room,
@@ -58,11 +55,7 @@ pub fn edit(
     let old = plan.old;
     let new = plan.new;
     rewrite(code, bundle, new);
-    let pushed = records::pushed(journal, Record { bundle, old, new });
-    Edited {
-        answer: ACCEPTED,
-        journal: pushed,
-    }
+    records::pushed(journal, Record { bundle, old, new })
 }
 
 // Lends a bundle's sixteen bytes on to be written.
@@ -83,21 +76,11 @@ fn same(a: Halves, b: Halves) -> bool
     a.high == b.high
 }
 
-// What undoing answers.
-fn undoable(code: &[u8], journal: Journal) -> u8
-    ensures { λ r. ⌜ r ≡ first (undoRefusals (now (code .entry)) journal) ⌝ }
+// Whether a record's bundle stands in the code as the record left it.
+fn stands(code: &[u8], last: Record) -> u8
+    requires { ⌜ length (now code) ≤ 65536 ⌝ }
+    ensures { λ r. ⌜ r ≡ first ((exhaustedInput, ltb (length (now (code .entry))) (16 * last .bundle + 16)) ∷ (stale, not (sameHalves (halvesOf (numberAt (now (code .entry)) (last .bundle))) (last .new))) ∷ []) ⌝ }
 {
-    if 65536 < code.len() {
-        return TOO_LONG;
-    }
-    if !records::valid(journal) {
-        return BAD_JOURNAL;
-    }
-    let count = journal.count;
-    if count == 0 {
-        return EMPTY;
-    }
-    let last = journal.records[(count - 1) as usize];
     let bundle = last.bundle;
     if bundle::found(code, bundle) != ACCEPTED {
         return EXHAUSTED_INPUT;
@@ -113,21 +96,30 @@ fn undoable(code: &[u8], journal: Journal) -> u8
 pub fn undo(code: &mut [u8], journal: Journal) -> Edited
     ensures { λ r. ⌜ _≡_ {A = Outcome} (record { answer = r .answer; journal = r .journal; code = now (code .exit) }) (undoOf (now (code .entry)) journal) ⌝ }
 {
-    let refusal = undoable(code, journal);
-    if refusal != ACCEPTED {
+    if 65536 < code.len() {
         return Edited {
-            answer: refusal,
+            answer: TOO_LONG,
             journal,
         };
     }
     let count = journal.count;
+    let none = records::some(records::valid(journal), count);
+    if none != ACCEPTED {
+        return Edited {
+            answer: none,
+            journal,
+        };
+    }
     let last = journal.records[(count - 1) as usize];
+    let gone = stands(code, last);
+    if gone != ACCEPTED {
+        return Edited {
+            answer: gone,
+            journal,
+        };
+    }
     let bundle = last.bundle;
     let old = last.old;
     rewrite(code, bundle, old);
-    let popped = records::popped(journal);
-    Edited {
-        answer: ACCEPTED,
-        journal: popped,
-    }
+    records::popped(journal)
 }

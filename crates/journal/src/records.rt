@@ -1,10 +1,14 @@
 // The journal: up to 64 records, the oldest first, and zeros in the places that are free.
 ghost use mathlib.Core.Path.{_≡_};
+ghost use mathlib.Core.Bool.{not};
+ghost use mathlib.Core.List.{[], _∷_};
 ghost use Prim.Native.Nat.{_≤_, _<_};
-ghost use Rattle.answer.specs.Answer.{first};
-ghost use Rattle.journal.specs.Journal.{fresh, noRecord, isZero, isFree, placeValid, validOf, roomRefusals, pushOf, popOf};
+ghost use lib.Dec.{eqb, leb};
+ghost use Rattle.answer.specs.Answer.{accepted, first, full, empty, badJournal};
+ghost use Rattle.journal.specs.Journal.{fresh, noRecord, isZero, isFree, placeValid, validOf, pushOf, popOf};
 use answer::ACCEPTED;
 use answer::BAD_JOURNAL;
+use answer::EMPTY;
 use answer::FULL;
 use bundle::Halves;
 
@@ -18,6 +22,12 @@ pub struct Record {
 pub struct Journal {
     pub count: u64,
     pub records: [Record; 64],
+}
+
+// What a call answers, and the journal after it.
+pub struct Edited {
+    pub answer: u8,
+    pub journal: Journal,
 }
 
 const NONE: Record = Record {
@@ -73,51 +83,66 @@ pub fn valid(journal: Journal) -> bool
     ensures { λ r. ⌜ r ≡ validOf journal ⌝ }
 {
     let count = journal.count;
-    if 64 < count {
-        return false;
-    }
+    let mut valid = count <= 64;
     let mut i = 0;
     while i < 64 {
         let place = journal.records[i];
-        if !place_valid((i as u64) < count, place) {
-            return false;
-        }
+        valid = valid & place_valid((i as u64) < count, place);
         i += 1;
     }
-    true
+    valid
 }
 
 // Whether a record can be added.
-pub fn room(journal: Journal) -> u8
-    ensures { λ r. ⌜ r ≡ first (roomRefusals journal) ⌝ }
+pub fn room(valid: bool, count: u64) -> u8
+    ensures { λ r. ⌜ r ≡ first ((badJournal, not valid) ∷ (full, leb 64 count) ∷ []) ⌝ }
 {
-    if !valid(journal) {
+    if !valid {
         return BAD_JOURNAL;
     }
-    if 64 <= journal.count {
+    if 64 <= count {
         return FULL;
     }
     ACCEPTED
 }
 
-pub fn pushed(journal: Journal, last: Record) -> Journal
-    requires { ⌜ journal .count < 64 ⌝ }
-    ensures { λ r. ⌜ r ≡ pushOf journal last ⌝ }
+// Whether there is a record to undo.
+pub fn some(valid: bool, count: u64) -> u8
+    ensures { λ r. ⌜ r ≡ first ((badJournal, not valid) ∷ (empty, eqb count 0) ∷ []) ⌝ }
 {
-    let mut next = journal;
-    let count = journal.count;
-    next.records[count as usize] = last;
-    next.count = count + 1;
-    next
+    if !valid {
+        return BAD_JOURNAL;
+    }
+    if count == 0 {
+        return EMPTY;
+    }
+    ACCEPTED
 }
 
-pub fn popped(journal: Journal) -> Journal
-    requires { ⌜ (0 < journal .count) × (journal .count ≤ 64) ⌝ }
-    ensures { λ r. ⌜ r ≡ popOf journal ⌝ }
+// The journal with one record more.
+pub fn pushed(mut journal: Journal, last: Record) -> Edited
+    requires { ⌜ journal .count < 64 ⌝ }
+    ensures { λ r. ⌜ r ≡ record { answer = accepted; journal = pushOf journal last } ⌝ }
 {
-    let mut next = journal;
+    let count = journal.count;
+    journal.records[count as usize] = last;
+    journal.count = count + 1;
+    Edited {
+        answer: ACCEPTED,
+        journal,
+    }
+}
+
+// The journal with one record less.
+pub fn popped(mut journal: Journal) -> Edited
+    requires { ⌜ (0 < journal .count) × (journal .count ≤ 64) ⌝ }
+    ensures { λ r. ⌜ r ≡ record { answer = accepted; journal = popOf journal } ⌝ }
+{
     let count = journal.count - 1;
-    next.records[count as usize] = NONE;
-    next.count = count;
-    next
+    journal.records[count as usize] = NONE;
+    journal.count = count;
+    Edited {
+        answer: ACCEPTED,
+        journal,
+    }
 }

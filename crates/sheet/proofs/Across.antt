@@ -16,7 +16,7 @@ use Rattle.bundle.proofs.Bytes.{Bytes}
 use Rattle.journal.specs.Journal.{noRecord, validOf}
 use Rattle.journal.specs.Edit.{Outcome, editOf, undoOf}
 use Rattle.journal.specs.Demand3.{Edit, Call, edit, undo, step, run, standing, recordsOf, journalOf}
-use Rattle.journal.specs.declared.Edited.{Edited}
+use Rattle.journal.specs.declared.records.Edited.{Edited}
 use Rattle.journal.specs.declared.records.Journal.{Journal}
 use Rattle.journal.specs.declared.records.Record.{Record}
 use Rattle.journal.proofs.Run.{holds, run-valid, run-most}

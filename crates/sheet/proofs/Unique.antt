@@ -4,7 +4,7 @@ use mathlib.Core.Path.{_≡_}
 use mathlib.Core.List.{List}
 use Prim.Native.Nat.{ℕ}
 use Rattle.answer.proofs.Laws.{one-outcome}
-use Rattle.journal.specs.declared.Edited.{Edited}
+use Rattle.journal.specs.declared.records.Edited.{Edited}
 use Rattle.journal.specs.declared.records.Journal.{Journal}
 use Rattle.sheet.specs.Load.{loadOf}
 

@@ -8,7 +8,7 @@ use lib.ListN.{length, getD, set}
 use Rattle.answer.specs.Answer.{accepted, badSheet}
 use Rattle.bundle.specs.declared.half.Halves.{Halves}
 use Rattle.journal.specs.Journal.{fresh}
-use Rattle.journal.specs.declared.Edited.{Edited}
+use Rattle.journal.specs.declared.records.Edited.{Edited}
 use Rattle.journal.specs.declared.records.Journal.{Journal}
 use Rattle.journal.specs.declared.records.Record.{Record}
 use Rattle.text.specs.Ascii.{ascii}
