@@ -42,6 +42,12 @@ same-length-6 c = search needs
 returns-2 : tie.Need-returns-2 Inv-loop μ-loop
 returns-2 c = search needs
 
+readable-requires : tie.Need-readable-requires Inv-loop μ-loop
+readable-requires c κs = search needs
+
+sub-line : tie.Need-sub-line Inv-loop μ-loop
+sub-line c = search needs
+
 part-line-start : tie.Need-part-line-start Inv-loop μ-loop
 part-line-start c = search needs
 
@@ -88,6 +94,8 @@ whole-lines-spec =
     same-length-5
     same-length-6
     returns-2
+    readable-requires
+    sub-line
     part-line-start
     part-line-end
     line-requires
