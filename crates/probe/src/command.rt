@@ -101,7 +101,7 @@ pub fn answer(
     let call = read(line);
     let of = call.of;
     let command = call.command;
-    let name = out::text(out, at, part::word(&WORDS, command));
+    let name = word(out, at, command);
     if command == CODE {
         return code::answer(of.0, code, length, name);
     }
@@ -145,6 +145,10 @@ fn count(command: u64) -> usize
 // Whether text follows the numbers.
 fn takes_text(command: u64) -> bool {
     command == PUT || command == EDIT || command == LOAD
+}
+
+fn word(out: &mut [u8], at: usize, command: u64) -> usize {
+    out::text(out, at, part::word(&WORDS, command))
 }
 
 fn called(

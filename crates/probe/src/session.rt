@@ -53,7 +53,7 @@ fn read(text: &mut [u8], held: usize) -> usize {
 // What stands after the last newline is no line.
 fn last(s: State, out: &mut [u8]) {
     if s.cut || 0 < s.held {
-        let to = out::text(out, 0, b"error\n");
+        let to = ended(out, 0, command::UNREAD);
         write(out, to);
     }
 }
@@ -101,10 +101,7 @@ fn whole_lines(text: &[u8], code: &mut [u8], kept: &mut [u64], out: &mut [u8], s
     let mut from = 0;
     while from < text.len() {
         let end = part::first(text, from, b'\n');
-        if end == text.len() {
-            return t;
-        }
-        if end < from {
+        if end == text.len() || end < from {
             return t;
         }
         let to = readable(t.cut, from, end);
