@@ -2,12 +2,15 @@
 ghost use Prim.Native.Nat.{_≤_};
 use text::Number;
 
+pub struct Six(pub u64, pub u64, pub u64, pub u64, pub u64, pub u64);
+
 pub struct Numbers {
     // whether they read
     pub ok: bool,
     // where they end
     pub at: usize,
-    pub of: [u64; 6],
+    // those that there are, then zeros
+    pub of: Six,
 }
 
 // The first `count` fields from `from` on, all of them numbers.
@@ -25,14 +28,23 @@ pub fn numbers_at(line: &[u8], from: usize, count: usize) -> Numbers
         at = end;
         i += 1;
     }
-    Numbers { ok: true, at, of }
+    let six = apart(of);
+    Numbers {
+        ok: true,
+        at,
+        of: six,
+    }
+}
+
+fn apart(of: [u64; 6]) -> Six {
+    Six(of[0], of[1], of[2], of[3], of[4], of[5])
 }
 
 fn unread() -> Numbers {
     Numbers {
         ok: false,
         at: 0,
-        of: [0; 6],
+        of: Six(0, 0, 0, 0, 0, 0),
     }
 }
 

@@ -1,6 +1,5 @@
-// The commands, by name: first those that numbers follow, then those that text follows too. Each answers
-// where the output stands then, and leaves it where it was given if the line doesn't read: `error` is then
-// written for it.
+// The commands, by name: first those that show the code, then those that show the journal, then those that
+// change either. A command's answer starts with a word, and each answers where the output stands then.
 ghost use Prim.Native.Nat.{_≤_};
 
 mod code;
@@ -22,6 +21,8 @@ mod target;
 mod undo;
 
 use lines::fields;
+use lines::fields::Six;
+use lines::out;
 use lines::part;
 
 pub struct Done {
@@ -29,11 +30,31 @@ pub struct Done {
     pub at: usize,
 }
 
-const NAMES: [u8; 99] =
-    *b"code get sum find cut join operands immediate target put journal place records undo sheet edit load";
+// A line that was read: its command, the numbers after it, and where they end.
+struct Call {
+    command: u64,
+    of: Six,
+    rest: usize,
+}
 
-// Places in the list of names: first the commands that leave the journal alone, then the others; the
-// last of both have text after their numbers.
+// What a command that changes something has to say after its word, or that the line doesn't read.
+pub enum Said {
+    Answer(u8),
+    Nothing,
+    Unread,
+}
+
+// No answer ends there, since each starts with a word: the line doesn't read.
+pub const UNREAD: usize = 0;
+
+const NAMES: [u8; 99] =
+    *b"code get sum find cut join operands immediate target records sheet put journal place undo edit load";
+
+// The words that the answers start with.
+const WORDS: [u8; 90] =
+    *b"ok bytes sum find cut join operands immediate target records sheet ok ok ok undo edit load";
+
+// Places in both lists.
 const CODE: u64 = 0;
 
 const GET: u64 = 1;
@@ -52,17 +73,17 @@ const IMMEDIATE: u64 = 7;
 
 const TARGET: u64 = 8;
 
-const PUT: u64 = 9;
+const RECORDS: u64 = 9;
 
-const JOURNAL: u64 = 10;
+const SHEET: u64 = 10;
 
-const PLACE: u64 = 11;
+const PUT: u64 = 11;
 
-const RECORDS: u64 = 12;
+const JOURNAL: u64 = 12;
 
-const UNDO: u64 = 13;
+const PLACE: u64 = 13;
 
-const SHEET: u64 = 14;
+const UNDO: u64 = 14;
 
 const EDIT: u64 = 15;
 
@@ -77,21 +98,33 @@ pub fn answer(
     out: &mut [u8],
     at: usize,
 ) -> Done {
+    let call = read(line);
+    let of = call.of;
+    let command = call.command;
+    let name = word(out, at, command);
+    if command == CODE {
+        return code::answer(of.0, code, length, name);
+    }
+    let n = part::within(code, length);
+    let rest = part::within(line, call.rest);
+    Done {
+        length,
+        at: called(command, of, &line[rest..], &mut code[0..n], kept, out, name),
+    }
+}
+
+// What a line calls; where it doesn't read, a command that there isn't.
+fn read(line: &[u8]) -> Call {
     let end = part::first(line, 0, b' ');
     let command = part::place(&NAMES, &line[0..end]);
     let f = fields::numbers_at(line, end, count(command));
     let of = f.of;
-    let rest = part::within(line, f.at);
-    if !f.ok {
-        return Done { length, at };
-    }
-    if command == CODE {
-        return code::answer(of[0], &line[rest..], code, length, out, at);
-    }
-    let n = part::within(code, length);
-    Done {
-        length,
-        at: called(command, of, &line[rest..], &mut code[0..n], kept, out, at),
+    let rest = f.at;
+    let reads = f.ok && (line.len() <= rest || takes_text(command));
+    Call {
+        command: if reads { command } else { u64::MAX },
+        of,
+        rest,
     }
 }
 
@@ -109,61 +142,65 @@ fn count(command: u64) -> usize
     }
 }
 
+// Whether text follows the numbers.
+fn takes_text(command: u64) -> bool {
+    command == PUT || command == EDIT || command == LOAD
+}
+
+fn word(out: &mut [u8], at: usize, command: u64) -> usize {
+    out::text(out, at, part::word(&WORDS, command))
+}
+
 fn called(
     command: u64,
-    of: [u64; 6],
+    of: Six,
     rest: &[u8],
     code: &mut [u8],
     kept: &mut [u64],
     out: &mut [u8],
     at: usize,
 ) -> usize {
-    if command == PUT {
-        return put::answer(of[0], rest, code, out, at);
-    }
-    if command == EDIT {
-        return edit::answer(of, rest, code, kept, out, at);
-    }
-    if command == LOAD {
-        return load::answer(rest, kept, out, at);
-    }
-    if 0 < rest.len() {
-        return at;
-    }
-    if command < PUT {
+    if command < RECORDS {
         return on_code(command, of, code, out, at);
     }
-    on_journal(command, of, code, kept, out, at)
+    if command == RECORDS {
+        return records::answer(kept, out, at);
+    }
+    if command == SHEET {
+        return sheets::answer(of.0, kept, out, at);
+    }
+    told(out, at, changed(command, of, rest, code, kept))
 }
 
-fn on_code(command: u64, of: [u64; 6], code: &[u8], out: &mut [u8], at: usize) -> usize {
+fn on_code(command: u64, of: Six, code: &[u8], out: &mut [u8], at: usize) -> usize {
     match command {
-        GET => get::answer(of[0], of[1], code, out, at),
+        GET => get::answer(of.0, of.1, code, out, at),
         SUM => sum::answer(code, out, at),
-        FIND => find::answer(of[0], code, out, at),
-        CUT => cut::answer(of[0], code, out, at),
+        FIND => find::answer(of.0, code, out, at),
+        CUT => cut::answer(of.0, code, out, at),
         JOIN => join::answer(of, out, at),
         OPERANDS => operands::answer(of, out, at),
         IMMEDIATE => immediates::answer(of, code, out, at),
-        TARGET => target::answer(of, code, out, at),
-        _ => at,
+        _ => target::answer(of, code, out, at),
     }
 }
 
-fn on_journal(
-    command: u64,
-    of: [u64; 6],
-    code: &mut [u8],
-    kept: &mut [u64],
-    out: &mut [u8],
-    at: usize,
-) -> usize {
+fn changed(command: u64, of: Six, rest: &[u8], code: &mut [u8], kept: &mut [u64]) -> Said {
     match command {
-        JOURNAL => journals::answer(of[0], kept, out, at),
-        PLACE => place::answer(of, kept, out, at),
-        RECORDS => records::answer(kept, out, at),
-        UNDO => undo::answer(code, kept, out, at),
-        SHEET => sheets::answer(of[0], kept, out, at),
-        _ => at,
+        PUT => put::answer(of.0, rest, code),
+        JOURNAL => journals::answer(of.0, kept),
+        PLACE => place::answer(of, kept),
+        UNDO => undo::answer(code, kept),
+        EDIT => edit::answer(of, rest, code, kept),
+        LOAD => load::answer(rest, kept),
+        _ => Said::Unread,
+    }
+}
+
+fn told(out: &mut [u8], at: usize, said: Said) -> usize {
+    match said {
+        Said::Answer(answer) => out::number(out, at, answer as u64),
+        Said::Nothing => at,
+        Said::Unread => UNREAD,
     }
 }

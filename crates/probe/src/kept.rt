@@ -1,5 +1,6 @@
 // The journal between the lines: its count, and after it the five numbers of each place.
 use bundle::Halves;
+use journal::Edited;
 use journal::Journal;
 use journal::Record;
 
@@ -62,12 +63,18 @@ fn place(kept: &[u64], before: usize) -> Record {
     }
 }
 
-pub fn keep(kept: &mut [u64], j: Journal) {
+// Keeps the journal that a call handed back, and gives its answer.
+pub fn keep(kept: &mut [u64], edited: Edited) -> u8 {
+    let j = edited.journal;
+    set_journal(kept, j);
+    edited.answer
+}
+
+fn set_journal(kept: &mut [u64], j: Journal) {
     set(kept, 0, j.count);
-    let records = j.records;
     let mut i = 0;
     while i < PLACES {
-        let one = records[i];
+        let one = j.records[i];
         set_place(kept, i * 5 + 1, numbers(one));
         i += 1;
     }

@@ -1,4 +1,5 @@
 // The run over standard input: read in blocks, answered line by line, written in blocks.
+ghost use Prim.Native.Nat.{_≤_};
 use crate::command;
 use lines::out;
 use lines::part;
@@ -52,7 +53,7 @@ fn read(text: &mut [u8], held: usize) -> usize {
 // What stands after the last newline is no line.
 fn last(s: State, out: &mut [u8]) {
     if s.cut || 0 < s.held {
-        let to = out::text(out, 0, b"error\n");
+        let to = ended(out, 0, command::UNREAD);
         write(out, to);
     }
 }
@@ -100,23 +101,33 @@ fn whole_lines(text: &[u8], code: &mut [u8], kept: &mut [u64], out: &mut [u8], s
     let mut from = 0;
     while from < text.len() {
         let end = part::first(text, from, b'\n');
-        if end == text.len() {
+        if end == text.len() || end < from {
             return t;
         }
-        if end < from {
-            return t;
-        }
-        t = line(&text[from..end], code, kept, out, t);
+        let to = readable(t.cut, from, end);
+        t = line(&text[from..to], code, kept, out, t);
         from = end + 1;
         t.held = from;
     }
     t
 }
 
+// Where what is answered of a line ends: of one that is cut or too long, nothing is.
+fn readable(cut: bool, from: usize, end: usize) -> usize
+    requires { ⌜ from ≤ end ⌝ }
+    ensures { λ r. ⌜ (from ≤ r) × (r ≤ end) ⌝ }
+{
+    if cut || LONGEST < end - from {
+        from
+    } else {
+        end
+    }
+}
+
 // One line, and a newline after its answer.
 fn line(text: &[u8], code: &mut [u8], kept: &mut [u64], out: &mut [u8], s: State) -> State {
     let at = flushed(out, s.at);
-    let done = answered(text, code, kept, out, s, at);
+    let done = command::answer(text, code, s.length, kept, out, at);
     State {
         held: s.held,
         cut: false,
@@ -125,27 +136,9 @@ fn line(text: &[u8], code: &mut [u8], kept: &mut [u64], out: &mut [u8], s: State
     }
 }
 
-fn answered(
-    text: &[u8],
-    code: &mut [u8],
-    kept: &mut [u64],
-    out: &mut [u8],
-    s: State,
-    at: usize,
-) -> command::Done {
-    let length = s.length;
-    if s.cut {
-        return command::Done { length, at };
-    }
-    if LONGEST < text.len() {
-        return command::Done { length, at };
-    }
-    command::answer(text, code, length, kept, out, at)
-}
-
 // A line that wrote nothing doesn't read.
 fn ended(out: &mut [u8], from: usize, to: usize) -> usize {
-    if to == from {
+    if to <= from {
         return out::text(out, from, b"error\n");
     }
     out::byte(out, to, b'\n')

@@ -3,18 +3,21 @@ use lines::out;
 
 pub fn answer(number: u64, code: &[u8], out: &mut [u8], at: usize) -> usize {
     let cut = bundle::cut(code, number);
+    let said = cut.answer as u64;
+    let tag = cut.tag as u64;
     let kinds = cut.units;
     let words = cut.slots;
-    let name = out::text(out, at, b"cut");
-    let to = out::numbers(out, name, &[cut.answer as u64, cut.tag as u64]);
-    let end = units(out, to, kinds);
-    out::numbers(out, end, &[words[0], words[1], words[2]])
+    let to = out::number(out, at, said);
+    let middle = out::number(out, to, tag);
+    let end = units(out, middle, kinds);
+    out::numbers(out, end, &words)
 }
 
 // A space and the units' letters, `-` where there are none.
 fn units(out: &mut [u8], at: usize, of: [u8; 3]) -> usize {
+    let to = out::byte(out, at, b' ');
     if of[0] == 0 {
-        return out::text(out, at, b" -");
+        return out::byte(out, to, b'-');
     }
-    out::text(out, at, &[b' ', of[0], of[1], of[2]])
+    out::text(out, to, &of)
 }

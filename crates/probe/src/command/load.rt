@@ -1,27 +1,31 @@
 // `load BYTES`: the journal of a sheet.
+ghost use mathlib.Core.Path.{_≡_};
+ghost use lib.ListN.{length};
+use crate::command::Said;
 use crate::kept;
 use lines::bytes;
 use lines::bytes::Spelt;
 use lines::fields;
-use lines::out;
 use lines::part;
 
-pub fn answer(rest: &[u8], kept: &mut [u64], out: &mut [u8], at: usize) -> usize {
+pub fn answer(rest: &[u8], kept: &mut [u64]) -> Said {
     let text = fields::rest(rest);
     let Spelt::Of(count) = bytes::count(text) else {
-        return at;
+        return Said::Unread;
     };
-    let mut room = [0u8; 200000];
+    let mut room = room();
     bytes::put(text, &mut room);
-    let said = loaded(kept, &room, count);
-    let to = out::text(out, at, b"load");
-    out::number(out, to, said as u64)
+    Said::Answer(loaded(kept, &room, count))
+}
+
+fn room() -> [u8; 200000]
+    ensures { λ r. ⌜ 200000 ≡ length r ⌝ }
+{
+    [0; 200000]
 }
 
 fn loaded(kept: &mut [u64], room: &[u8], count: u64) -> u8 {
     let n = part::within(room, count as usize);
     let loaded = sheet::load(kept::journal(kept), &room[0..n]);
-    let now = loaded.journal;
-    kept::keep(kept, now);
-    loaded.answer
+    kept::keep(kept, loaded)
 }

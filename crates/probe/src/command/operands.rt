@@ -1,16 +1,18 @@
 // `operands F N WORD L`: the last-written position and five operands.
+use lines::fields::Six;
 use lines::operands;
 use lines::out;
 use operand::Position;
 use operand::Reading;
 
-pub fn answer(of: [u64; 6], out: &mut [u8], at: usize) -> usize {
-    let read = readers::operands(of[0], of[1], of[2], of[3]);
-    let name = out::text(out, at, b"operands");
-    let to = out::number(out, name, read.answer as u64);
+pub fn answer(of: Six, out: &mut [u8], at: usize) -> usize {
+    let read = readers::operands(of.0, of.1, of.2, of.3);
+    let said = read.answer as u64;
     let reading = read.reading;
     let last = reading.position;
-    let end = out::text(out, to, &[b' ', position(last)]);
+    let to = out::number(out, at, said);
+    let gap = out::byte(out, to, b' ');
+    let end = out::byte(out, gap, position(last));
     shown(out, end, reading)
 }
 

@@ -1,16 +1,16 @@
 // `place I BUNDLE OLDLOW OLDHIGH NEWLOW NEWHIGH`: sets a place of the journal.
+use crate::command::Said;
 use crate::kept;
-use lines::out;
+use lines::fields::Six;
 
-pub fn answer(of: [u64; 6], kept: &mut [u64], out: &mut [u8], at: usize) -> usize {
-    let i = of[0];
-    if 63 < i {
-        return at;
+pub fn answer(of: Six, kept: &mut [u64]) -> Said {
+    if 63 < of.0 {
+        return Said::Unread;
     }
     kept::set_place(
         kept,
-        (i * 5 + 1) as usize,
-        [of[1], of[2], of[3], of[4], of[5]],
+        (of.0 * 5 + 1) as usize,
+        [of.1, of.2, of.3, of.4, of.5],
     );
-    out::text(out, at, b"ok")
+    Said::Nothing
 }

@@ -1,23 +1,23 @@
 // `put AT BYTES`: writes bytes into the code.
+use crate::command::Said;
 use lines::bytes;
 use lines::bytes::Spelt;
 use lines::fields;
-use lines::out;
 use lines::part;
 
-pub fn answer(place: u64, rest: &[u8], code: &mut [u8], out: &mut [u8], at: usize) -> usize {
+pub fn answer(place: u64, rest: &[u8], code: &mut [u8]) -> Said {
     let text = fields::rest(rest);
     let Spelt::Of(count) = bytes::count(text) else {
-        return at;
+        return Said::Unread;
     };
     let start = place as usize;
     let end = part::end(code, place, count) as usize;
     if code.len() < end {
-        return at;
+        return Said::Unread;
     }
     if end < start {
-        return at;
+        return Said::Unread;
     }
     bytes::put(text, &mut code[start..end]);
-    out::text(out, at, b"ok")
+    Said::Nothing
 }

@@ -3,8 +3,7 @@ use crate::kept;
 use lines::out;
 
 pub fn answer(kept: &[u64], out: &mut [u8], at: usize) -> usize {
-    let name = out::text(out, at, b"records");
-    let mut to = out::number(out, name, kept::get(kept, 0));
+    let mut to = out::number(out, at, kept::get(kept, 0));
     let mut i = 0;
     while i < 64 {
         to = place(kept, i, out, to);

@@ -1,5 +1,8 @@
 // `sheet OUTLEN`: into an output of OUTLEN bytes, at most 130,000, that are all 238.
+ghost use mathlib.Core.Path.{_≡_};
 ghost use Prim.Native.Nat.{_+_, _≤_, _<_, _^_};
+ghost use lib.ListN.{length};
+use crate::command::UNREAD;
 use crate::kept;
 use lines::out;
 use lines::part;
@@ -9,15 +12,21 @@ const BLANK: u8 = 238;
 
 pub fn answer(length: u64, kept: &[u64], out: &mut [u8], at: usize) -> usize {
     if 130000 < length {
-        return at;
+        return UNREAD;
     }
-    let mut room = [BLANK; 130000];
+    let mut room = blank();
     let written = write(length, kept, &mut room);
-    let name = out::text(out, at, b"sheet");
     let count = written.length as u64;
-    let to = out::numbers(out, name, &[written.answer as u64, count]);
+    let said = out::number(out, at, written.answer as u64);
+    let to = out::number(out, said, count);
     let end = out::first(out, to, &room, count);
     out::number(out, end, blanks(&room, written.length, length))
+}
+
+fn blank() -> [u8; 130000]
+    ensures { λ r. ⌜ 130000 ≡ length r ⌝ }
+{
+    [BLANK; 130000]
 }
 
 fn write(length: u64, kept: &[u64], room: &mut [u8]) -> Written {

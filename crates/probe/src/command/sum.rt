@@ -5,8 +5,8 @@ use lines::out;
 const PRIME: u64 = 4294967291;
 
 pub fn answer(code: &[u8], out: &mut [u8], at: usize) -> usize {
-    let to = out::text(out, at, b"sum");
-    out::numbers(out, to, &[code.len() as u64, of(code)])
+    let to = out::number(out, at, code.len() as u64);
+    out::number(out, to, of(code))
 }
 
 fn of(code: &[u8]) -> u64 {

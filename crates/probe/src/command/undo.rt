@@ -1,11 +1,8 @@
 // `undo`: takes the last edit back.
+use crate::command::Said;
 use crate::kept;
-use lines::out;
 
-pub fn answer(code: &mut [u8], kept: &mut [u64], out: &mut [u8], at: usize) -> usize {
+pub fn answer(code: &mut [u8], kept: &mut [u64]) -> Said {
     let undone = journal::undo(code, kept::journal(kept));
-    let now = undone.journal;
-    kept::keep(kept, now);
-    let to = out::text(out, at, b"undo");
-    out::number(out, to, undone.answer as u64)
+    Said::Answer(kept::keep(kept, undone))
 }

@@ -50,6 +50,9 @@ loop-less c = search needs
 loop-again : tie.Need-loop-again Inv-loop μ-loop
 loop-again c = simp length-set (omega arith)
 
+apart-requires : tie.Need-apart-requires Inv-loop μ-loop
+apart-requires c κs = search needs
+
 returns-2 : tie.Need-returns-2 Inv-loop μ-loop
 returns-2 c = search needs
 
@@ -71,4 +74,5 @@ numbers-at-spec =
     add-i
     loop-less
     loop-again
+    apart-requires
     returns-2)

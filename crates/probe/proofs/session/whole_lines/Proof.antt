@@ -30,17 +30,11 @@ same-length-3 c = search needs
 returns : tie.Need-returns Inv-loop μ-loop
 returns c = search needs
 
-same-length-4 : tie.Need-same-length-4 Inv-loop μ-loop
-same-length-4 c = search needs
+readable-requires : tie.Need-readable-requires Inv-loop μ-loop
+readable-requires c κs = search needs
 
-same-length-5 : tie.Need-same-length-5 Inv-loop μ-loop
-same-length-5 c = search needs
-
-same-length-6 : tie.Need-same-length-6 Inv-loop μ-loop
-same-length-6 c = search needs
-
-returns-2 : tie.Need-returns-2 Inv-loop μ-loop
-returns-2 c = search needs
+sub-line : tie.Need-sub-line Inv-loop μ-loop
+sub-line c = search needs
 
 part-line-start : tie.Need-part-line-start Inv-loop μ-loop
 part-line-start c = search needs
@@ -60,17 +54,17 @@ loop-less c = search needs
 loop-again : tie.Need-loop-again Inv-loop μ-loop
 loop-again c = search needs
 
-same-length-7 : tie.Need-same-length-7 Inv-loop μ-loop
-same-length-7 c = search needs
+same-length-4 : tie.Need-same-length-4 Inv-loop μ-loop
+same-length-4 c = search needs
 
-same-length-8 : tie.Need-same-length-8 Inv-loop μ-loop
-same-length-8 c = search needs
+same-length-5 : tie.Need-same-length-5 Inv-loop μ-loop
+same-length-5 c = search needs
 
-same-length-9 : tie.Need-same-length-9 Inv-loop μ-loop
-same-length-9 c = search needs
+same-length-6 : tie.Need-same-length-6 Inv-loop μ-loop
+same-length-6 c = search needs
 
-returns-3 : tie.Need-returns-3 Inv-loop μ-loop
-returns-3 c = search needs
+returns-2 : tie.Need-returns-2 Inv-loop μ-loop
+returns-2 c = search needs
 
 pub whole-lines-spec : {M : Type 1} → statement M
 whole-lines-spec =
@@ -84,17 +78,15 @@ whole-lines-spec =
     same-length-2
     same-length-3
     returns
-    same-length-4
-    same-length-5
-    same-length-6
-    returns-2
+    readable-requires
+    sub-line
     part-line-start
     part-line-end
     line-requires
     add-from
     loop-less
     loop-again
-    same-length-7
-    same-length-8
-    same-length-9
-    returns-3)
+    same-length-4
+    same-length-5
+    same-length-6
+    returns-2)

@@ -7,16 +7,10 @@ use Rattle.probe.proofs.command.records.answer.Statement.{statement}
 use Rattle.probe.proofs.command.records.answer.Tie as tie
 
 abbrev Inv-loop : tie.InvT-loop
-Inv-loop kept out₀ at name to₀ i₀ out to i = (i ≤ 64) × (length out ≡ length out₀)
+Inv-loop kept out₀ at to₀ i₀ out to i = (i ≤ 64) × (length out ≡ length out₀)
 
 abbrev μ-loop : tie.MeasureT-loop
-μ-loop kept out₀ at name to₀ i₀ out to i = 64 - i
-
-slice-aggregate-text : tie.Need-slice-aggregate-text Inv-loop μ-loop
-slice-aggregate-text c = search needs
-
-text-requires : tie.Need-text-requires Inv-loop μ-loop
-text-requires c κs = search needs
+μ-loop kept out₀ at to₀ i₀ out to i = 64 - i
 
 get-requires : tie.Need-get-requires Inv-loop μ-loop
 get-requires c κs = search needs
@@ -51,8 +45,6 @@ answer-spec =
     (tie.spec
     Inv-loop
     μ-loop
-    slice-aggregate-text
-    text-requires
     get-requires
     number-requires
     loop-holds

@@ -1,16 +1,16 @@
--- `kept::keep`: as many places as there are, and the slice keeps its length.
+-- `kept::set_journal`: as many places as there are, and the slice keeps its length.
 use Prim.Native.Nat.{_≤_, _-_}
 use borrow.Author.Needs.{needs}
 use mathlib.Core.Path.{_≡_}
 use lib.ListN.{length}
-use Rattle.probe.proofs.kept.keep.Statement.{statement}
-use Rattle.probe.proofs.kept.keep.Tie as tie
+use Rattle.probe.proofs.kept.set_journal.Statement.{statement}
+use Rattle.probe.proofs.kept.set_journal.Tie as tie
 
 abbrev Inv-loop : tie.InvT-loop
-Inv-loop kept₀ records i₀ kept i = (i ≤ 64) × (length kept ≡ length kept₀)
+Inv-loop kept₀ j i₀ kept i = (i ≤ 64) × (length kept ≡ length kept₀)
 
 abbrev μ-loop : tie.MeasureT-loop
-μ-loop kept₀ records i₀ kept i = 64 - i
+μ-loop kept₀ j i₀ kept i = 64 - i
 
 set-requires : tie.Need-set-requires Inv-loop μ-loop
 set-requires c κs = search needs
@@ -21,8 +21,8 @@ loop-holds c = search needs
 mul-one : tie.Need-mul-one Inv-loop μ-loop
 mul-one c = search needs
 
-array-copy-out-one : tie.Need-array-copy-out-one Inv-loop μ-loop
-array-copy-out-one c = search needs
+element-copy-out-one : tie.Need-element-copy-out-one Inv-loop μ-loop
+element-copy-out-one c = search needs
 
 mul-set-place : tie.Need-mul-set-place Inv-loop μ-loop
 mul-set-place c = search needs
@@ -51,8 +51,8 @@ same-length c = search needs
 returns : tie.Need-returns Inv-loop μ-loop
 returns c = search needs
 
-pub keep-spec : {M : Type 1} → statement M
-keep-spec =
+pub set-journal-spec : {M : Type 1} → statement M
+set-journal-spec =
     tie.close
     (tie.spec
     Inv-loop
@@ -60,7 +60,7 @@ keep-spec =
     set-requires
     loop-holds
     mul-one
-    array-copy-out-one
+    element-copy-out-one
     mul-set-place
     add-set-place
     numbers-requires
