@@ -17,7 +17,8 @@ use answer::EXHAUSTED_INPUT;
 use answer::NO_ROOM;
 use answer::TOO_LONG;
 
-const MOST: usize = 65536;
+// The longest code.
+pub const MOST: usize = 65536;
 
 const WORD: u64 = 1 << 41;
 

@@ -96,7 +96,7 @@ fn stands(code: &[u8], last: Record) -> u8
 pub fn undo(code: &mut [u8], journal: Journal) -> Edited
     ensures { λ r. ⌜ _≡_ {A = Outcome} (record { answer = r .answer; journal = r .journal; code = now (code .exit) }) (undoOf (now (code .entry)) journal) ⌝ }
 {
-    if 65536 < code.len() {
+    if bundle::MOST < code.len() {
         return Edited {
             answer: TOO_LONG,
             journal,

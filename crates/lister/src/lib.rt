@@ -12,10 +12,9 @@ ghost use Rattle.lister.specs.Listing.{listOf, listRefusals, listingOf};
 use answer::ACCEPTED;
 use answer::NO_ROOM;
 use answer::TOO_LONG;
+use bundle::MOST;
 use text::Ending;
 use text::Written;
-
-const MOST: usize = 65536;
 
 // So many characters of a text decide its listing: three for each byte, and two digits of one byte more
 // (the law `listing-enough`).

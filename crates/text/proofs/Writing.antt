@@ -12,9 +12,6 @@ pub written-append : (out : List ℕ) (at : ℕ) (a b : List ℕ) → written (w
 written-append out at [] b = rw add-zero
 written-append out at (x ∷ a) b = rw (add-suc, ← suc-add) (written-append _ (suc at) a b)
 
-pub written-length : (out : List ℕ) (at : ℕ) (text : List ℕ) → length (written out at text) ≡ length out
-written-length out at text = length-sets out at text
-
 -- with room: what stood before it, the text, and what stood past it
 pub written-is : (out : List ℕ) (at : ℕ) (text : List ℕ) → at + length text ≤ length out → written out at text ≡ take at out ++ text ++ drop (at + length text) out
 written-is out at text h = sets-eq text out at h
