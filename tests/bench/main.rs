@@ -162,9 +162,10 @@ fn edits(random: &mut Random) {
             let mut journal = filled(&mut other, standing - 1);
             let mut sum = 0;
             for _ in 0..TIMES {
-                let made = plain::edit(&mut other, journal, 63, 2, b'B' as u64, 1, Value::Signed(32)).1;
-                journal = plain::undo(&mut other, made).1;
-                sum += made.count + journal.count;
+                let edited = plain::edit(&mut other, journal, 63, 2, b'B' as u64, 1, Value::Signed(32));
+                let undone = plain::undo(&mut other, edited.1);
+                sum += (edited.0 + undone.0) as u64;
+                journal = undone.1;
             }
             sum
         };
@@ -196,8 +197,9 @@ fn sheets(random: &mut Random) {
         let mut journal = Journal::empty();
         let mut sum = 0;
         for _ in 0..TIMES {
-            journal = plain::load_sheet(journal, text).1;
-            sum += journal.count;
+            let loaded = plain::load_sheet(journal, text);
+            sum += loaded.0 as u64;
+            journal = loaded.1;
         }
         sum
     };

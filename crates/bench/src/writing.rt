@@ -1,7 +1,7 @@
 // Calls that write: immediates, `edit` and `undo`, and sheets.
 use crate::sum;
 use crate::sum::plus;
-use journal::Journal;
+use journal::Edited;
 use operand::Operand;
 
 // An immediate's value for a row with a sign, or without.
@@ -37,31 +37,31 @@ pub extern "C" fn bench_write(
     sum
 }
 
-// A journal with so many records: slot 2, B1, of the first bundles set to 16.
-fn filled(code: &mut [u8], records: u64) -> Journal {
-    let mut journal = journal::empty();
+// The last of so many edits of an empty journal: slot 2, B1, of the first bundles set to 16.
+fn filled(code: &mut [u8], records: u64) -> Edited {
+    let mut last = Edited {
+        answer: 0,
+        journal: journal::empty(),
+    };
     let mut n = 0;
     while n < records {
-        let edited = journal::edit(code, journal, n, 2, 66, 1, Operand::ImmI64(16));
-        journal = edited.journal;
+        last = journal::edit(code, last.journal, n, 2, 66, 1, Operand::ImmI64(16));
         n += 1;
     }
-    journal
+    last
 }
 
 // So many edits, each undone, after so many that stand.
 #[no_mangle]
 pub extern "C" fn bench_edit(code: &mut [u8], standing: u64, times: u64) -> u64 {
-    let mut journal = filled(code, standing);
+    let mut last = filled(code, standing);
     let mut sum = 0;
     let mut left = times;
     while 0 < left {
-        let edited = journal::edit(code, journal, 63, 2, 66, 1, Operand::ImmI64(32));
-        let made = edited.journal;
-        sum = plus(sum, made.count);
-        let undone = journal::undo(code, made);
-        journal = undone.journal;
-        sum = plus(sum, journal.count);
+        last = journal::edit(code, last.journal, 63, 2, 66, 1, Operand::ImmI64(32));
+        sum = plus(sum, last.answer as u64);
+        last = journal::undo(code, last.journal);
+        sum = plus(sum, last.answer as u64);
         left -= 1;
     }
     sum
@@ -70,11 +70,11 @@ pub extern "C" fn bench_edit(code: &mut [u8], standing: u64, times: u64) -> u64 
 // The sheet of a journal with so many records, written so many times.
 #[no_mangle]
 pub extern "C" fn bench_sheet(code: &mut [u8], standing: u64, times: u64, out: &mut [u8]) -> u64 {
-    let journal = filled(code, standing);
+    let last = filled(code, standing);
     let mut sum = 0;
     let mut left = times;
     while 0 < left {
-        let written = sheet::write(journal, out);
+        let written = sheet::write(last.journal, out);
         sum = plus(sum, written.length as u64);
         left -= 1;
     }
@@ -84,13 +84,15 @@ pub extern "C" fn bench_sheet(code: &mut [u8], standing: u64, times: u64, out: &
 // A sheet, loaded so many times.
 #[no_mangle]
 pub extern "C" fn bench_load(text: &[u8], times: u64) -> u64 {
-    let mut journal = journal::empty();
+    let mut last = Edited {
+        answer: 0,
+        journal: journal::empty(),
+    };
     let mut sum = 0;
     let mut left = times;
     while 0 < left {
-        let loaded = sheet::load(journal, text);
-        journal = loaded.journal;
-        sum = plus(sum, journal.count);
+        last = sheet::load(last.journal, text);
+        sum = plus(sum, last.answer as u64);
         left -= 1;
     }
     sum

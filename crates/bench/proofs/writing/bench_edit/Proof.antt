@@ -7,10 +7,10 @@ use Rattle.bench.proofs.writing.bench_edit.Statement.{statement}
 use Rattle.bench.proofs.writing.bench_edit.Tie as tie
 
 abbrev Inv-loop : tie.InvT-loop
-Inv-loop code₀ standing times journal₀ sum₀ left₀ code journal sum left = (length code ≡ length code₀) × (left ≤ times)
+Inv-loop code₀ standing times last₀ sum₀ left₀ code last sum left = (length code ≡ length code₀) × (left ≤ times)
 
 abbrev μ-loop : tie.MeasureT-loop
-μ-loop code₀ standing times journal₀ sum₀ left₀ code journal sum left = left
+μ-loop code₀ standing times last₀ sum₀ left₀ code last sum left = left
 
 filled-requires : tie.Need-filled-requires Inv-loop μ-loop
 filled-requires c κs = search needs
@@ -21,11 +21,17 @@ loop-holds c = search needs
 edit-requires : tie.Need-edit-requires Inv-loop μ-loop
 edit-requires c κs = search needs
 
+cast-plus : tie.Need-cast-plus Inv-loop μ-loop
+cast-plus c = search needs
+
 plus-requires : tie.Need-plus-requires Inv-loop μ-loop
 plus-requires c κs = search needs
 
 undo-requires : tie.Need-undo-requires Inv-loop μ-loop
 undo-requires c κs = search needs
+
+cast-plus-2 : tie.Need-cast-plus-2 Inv-loop μ-loop
+cast-plus-2 c = search needs
 
 plus-requires-2 : tie.Need-plus-requires-2 Inv-loop μ-loop
 plus-requires-2 c κs = search needs
@@ -54,8 +60,10 @@ bench-edit-spec =
     filled-requires
     loop-holds
     edit-requires
+    cast-plus
     plus-requires
     undo-requires
+    cast-plus-2
     plus-requires-2
     sub-left
     loop-less

@@ -5,10 +5,10 @@ use Rattle.bench.proofs.writing.bench_load.Statement.{statement}
 use Rattle.bench.proofs.writing.bench_load.Tie as tie
 
 abbrev Inv-loop : tie.InvT-loop
-Inv-loop text times journal₀ sum₀ left₀ journal sum left = left ≤ times
+Inv-loop text times last₀ sum₀ left₀ last sum left = left ≤ times
 
 abbrev μ-loop : tie.MeasureT-loop
-μ-loop text times journal₀ sum₀ left₀ journal sum left = left
+μ-loop text times last₀ sum₀ left₀ last sum left = left
 
 empty-requires : tie.Need-empty-requires Inv-loop μ-loop
 empty-requires c κs = search needs
@@ -18,6 +18,9 @@ loop-holds c = search needs
 
 load-requires : tie.Need-load-requires Inv-loop μ-loop
 load-requires c κs = search needs
+
+cast-plus : tie.Need-cast-plus Inv-loop μ-loop
+cast-plus c = search needs
 
 plus-requires : tie.Need-plus-requires Inv-loop μ-loop
 plus-requires c κs = search needs
@@ -43,6 +46,7 @@ bench-load-spec =
     empty-requires
     loop-holds
     load-requires
+    cast-plus
     plus-requires
     sub-left
     loop-less

@@ -7,10 +7,10 @@ use Rattle.bench.proofs.writing.bench_sheet.Statement.{statement}
 use Rattle.bench.proofs.writing.bench_sheet.Tie as tie
 
 abbrev Inv-loop : tie.InvT-loop
-Inv-loop code standing times out₀ journal sum₀ left₀ out sum left = (length out ≡ length out₀) × (left ≤ times)
+Inv-loop code standing times out₀ last sum₀ left₀ out sum left = (length out ≡ length out₀) × (left ≤ times)
 
 abbrev μ-loop : tie.MeasureT-loop
-μ-loop code standing times out₀ journal sum₀ left₀ out sum left = left
+μ-loop code standing times out₀ last sum₀ left₀ out sum left = left
 
 filled-requires : tie.Need-filled-requires Inv-loop μ-loop
 filled-requires c κs = search needs

@@ -1,16 +1,16 @@
--- `filled`: the edits are counted up to the records asked for.
+-- `filled`: the edits are counted up to the records asked for, and the code keeps its length.
 use mathlib.Core.Path.{_≡_}
-use lib.ListN.{length}
 use Prim.Native.Nat.{_≤_, _-_}
 use borrow.Author.Needs.{needs}
+use lib.ListN.{length}
 use Rattle.bench.proofs.writing.filled.Statement.{statement}
 use Rattle.bench.proofs.writing.filled.Tie as tie
 
 abbrev Inv-loop : tie.InvT-loop
-Inv-loop code₀ records journal₀ n₀ code journal n = (length code ≡ length code₀) × (n ≤ records)
+Inv-loop code₀ records last₀ n₀ code last n = (length code ≡ length code₀) × (n ≤ records)
 
 abbrev μ-loop : tie.MeasureT-loop
-μ-loop code₀ records journal₀ n₀ code journal n = records - n
+μ-loop code₀ records last₀ n₀ code last n = records - n
 
 empty-requires : tie.Need-empty-requires Inv-loop μ-loop
 empty-requires c κs = search needs
