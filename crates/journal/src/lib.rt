@@ -54,8 +54,9 @@ pub fn edit(
     }
     let old = plan.old;
     let new = plan.new;
+    let edited = records::pushed(journal, Record { bundle, old, new });
     rewrite(code, bundle, new);
-    records::pushed(journal, Record { bundle, old, new })
+    edited
 }
 
 // Lends a bundle's sixteen bytes on to be written.
@@ -120,6 +121,7 @@ pub fn undo(code: &mut [u8], journal: Journal) -> Edited
     }
     let bundle = last.bundle;
     let old = last.old;
+    let undone = records::popped(journal);
     rewrite(code, bundle, old);
-    records::popped(journal)
+    undone
 }

@@ -59,18 +59,18 @@ returns-2 c =
     edit-refused-by (now (a .code)) (a .bundle) (a .slot) (a .family) (a .number) (a .value) (a .journal) _
     (edit-planned (now (a .code)) (a .bundle) (a .slot) (a .family) (a .number) (a .value) (a .journal) (is-planned e) ∙ sym (room-is (c .before))) (c .if2 .taken)
 
-rewrite-requires : tie.Need-rewrite-requires
-rewrite-requires c κs =
-    let e = c .before .before .before .before .before .before in
-    let a = e .before .before .before .before .args in
-    let l = plan-lies (now (a .code)) (a .bundle) (a .slot) (a .family) (a .number) (a .value) (is-planned e) in
-    (l .short, l .within)
-
 is-room : (c : tie.Else2) → first (roomRefusals (c .before .before .before .before .before .before .before .args .journal)) ≡ accepted
 is-room c = sym (room-is (c .before)) ∙ c .if2 .left
 
 pushed-requires : tie.Need-pushed-requires
-pushed-requires c κs = has-room _ (is-room (c .before .before .before .before .before .before))
+pushed-requires c κs = has-room _ (is-room (c .before .before))
+
+rewrite-requires : tie.Need-rewrite-requires
+rewrite-requires c κs =
+    let e = c .before .before .before .before .before .before .before in
+    let a = e .before .before .before .before .args in
+    let l = plan-lies (now (a .code)) (a .bundle) (a .slot) (a .family) (a .number) (a .value) (is-planned e) in
+    (l .short, l .within)
 
 same-length-3 : tie.Need-same-length-3
 same-length-3 c = search needs
@@ -84,9 +84,9 @@ returns-3 c =
     let planned = is-planned e1 in
     let plan = e1 .before .planned .ensures ∙ plan-done (now (a .code)) (a .bundle) (a .slot) (a .family) (a .number) (a .value) planned in
     let done = edit-planned (now (a .code)) (a .bundle) (a .slot) (a .family) (a .number) (a .value) (a .journal) planned ∙ is-room e2 in
-    let edited = c .pushed .ensures ∙ ap (λ (p : Plan). record { answer = accepted; journal = pushOf (a .journal) (record { bundle = a .bundle; old = p .old; new = p .new }) }) plan in
+    let edited = c .before .before .before .before .pushed .ensures ∙ ap (λ (p : Plan). record { answer = accepted; journal = pushOf (a .journal) (record { bundle = a .bundle; old = p .old; new = p .new }) }) plan in
     let code =
-    c .before .before .before .rewrite .ensures
+    c .before .before .rewrite .ensures
     ∙ ap (λ (p : Plan). rewritten (now (a .code)) (a .bundle) (whole (p .new))) plan
     ∙ ap (rewritten (now (a .code)) (a .bundle)) (whole-halves _ (edited-lt (now (a .code)) (a .bundle) (a .slot) (a .family) (a .number) (a .value) planned (λ i. known .slice-known .given i .fits))) in
     (λ i. record { answer = edited i .answer; journal = edited i .journal; code = code i })
@@ -103,7 +103,7 @@ edit-spec =
     room-requires
     same-length-2
     returns-2
-    rewrite-requires
     pushed-requires
+    rewrite-requires
     same-length-3
     returns-3)

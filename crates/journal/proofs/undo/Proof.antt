@@ -72,15 +72,15 @@ returns-3 c = let a = c .before .before .before .before .before .before .before 
 can-undo : (c : tie.Else3) → let a = c .before .before .before .before .before .before .before .before .before .args in first (undoRefusals (now (a .code)) (a .t2)) ≡ accepted
 can-undo c = undo-is (c .before) ∙ c .if3 .left
 
+popped-requires : tie.Need-popped-requires
+popped-requires c κs = counts (c .before .before .before .before .before)
+
 rewrite-requires : tie.Need-rewrite-requires
 rewrite-requires c κs =
-    let e = c .before .before in
+    let e = c .before .before .before in
     let a = e .before .before .before .before .before .before .before .before .before .args in
     let l = undo-lies (now (a .code)) (a .t2) (can-undo e) in
     (l .short, l .within)
-
-popped-requires : tie.Need-popped-requires
-popped-requires c κs = counts (c .before .before .before .before .before .before .before .before .before)
 
 same-length-2 : tie.Need-same-length-2
 same-length-2 c = search needs
@@ -89,8 +89,8 @@ returns-4 : tie.Need-returns-4
 returns-4 c =
     let e = c .before .before .before .before .before .before in
     let a = e .before .before .before .before .before .before .before .before .before .args in
-    let undone = c .popped .ensures in
-    let code = c .before .before .before .rewrite .ensures in
+    let undone = c .before .before .before .before .popped .ensures in
+    let code = c .before .before .rewrite .ensures in
     (λ i. record { answer = undone i .answer; journal = undone i .journal; code = code i }) ∙ sym (undo-done (now (a .code)) (a .t2) (can-undo e))
 
 pub undo-spec : {M : Type 1} → statement M
@@ -107,7 +107,7 @@ undo-spec =
     stands-requires
     same-length
     returns-3
-    rewrite-requires
     popped-requires
+    rewrite-requires
     same-length-2
     returns-4)
