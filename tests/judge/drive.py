@@ -400,7 +400,7 @@ def load(talk, data):
 
 
 def damaged(talk):
-    """Texts that are no sheets, or are by chance: after each the journal is shown."""
+    """Texts that are no sheets, or are by chance; after each kind of damage the journal is shown."""
     random = talk.random
     for text in small_sheets():
         talk("journal 65")
@@ -411,7 +411,7 @@ def damaged(talk):
             for byte in b"\t\n0123 +-\r":
                 load(talk, text[:at] + bytes([byte]) + text[at:])
             load(talk, text[:at])
-        talk("records")
+            talk("records")
     head = b"patches\t"
     record = b"1\t2\t3\t4\t5\n"
     for text in (b"", head, head + b"0", head + b"0\n", head + b"00\n", head + b"+0\n", head + b"0\n\n", head + b" 0\n", head + b"0\r\n",

@@ -3,9 +3,7 @@ mod half;
 mod template;
 
 pub use half::Halves;
-pub use half::pack;
 pub use half::read;
-pub use half::slots;
 pub use half::write;
 ghost use mathlib.Core.Path.{_≡_};
 ghost use Rattle.answer.specs.Answer.{accepted, first};
@@ -143,6 +141,6 @@ pub fn join(tag: u64, slots: [u64; 3], out: &mut [u8]) -> u8
     if refusal != ACCEPTED {
         return refusal;
     }
-    write(&mut out[..16], pack(tag, slots));
+    write(&mut out[..16], half::pack(tag, slots));
     ACCEPTED
 }

@@ -21,8 +21,8 @@ use Rattle.immediate.proofs.Laws.{opened, open-sound}
 use Rattle.immediate.proofs.Written.{written-lt}
 use Rattle.immediate.specs.declared.meaning.Raw.{Raw}
 use Rattle.immediate.specs.declared.meaning.Raw.the-variants.{Is, Bad}
-use Rattle.journal.specs.Edit.{isBad, rawIn, rawFor, editedNumber, planRefusals, planOf, noHalves, rewritten, recordOf, editRefusals, editOf, sameHalves, undoRefusals, undoOf}
-use Rattle.journal.specs.Journal.{placesValid, validOf, roomRefusals, pushOf, lastOf, popOf}
+use Rattle.journal.specs.Edit.{isBad, rawIn, rawFor, editedNumber, planRefusals, planOf, noHalves, rewritten, recordOf, editRefusals, editOf, standRefusals, undoRefusals, undoOf}
+use Rattle.journal.specs.Journal.{placesValid, validOf, roomRefusals, lastRefusals, pushOf, lastOf, popOf}
 use Rattle.journal.specs.declared.records.Journal.{Journal}
 use Rattle.journal.specs.declared.records.Record.{Record}
 use Rattle.journal.specs.declared.plan.Plan.{Plan}
@@ -121,17 +121,6 @@ has-room journal e = leb-false 64 (journal .count) (none-applies (roomRefusals j
 pub valid-count : (journal : Journal) → validOf journal ≡ true → journal .count ≤ 64
 unfolding validOf
 valid-count journal e = leb→le _ _ (and-yes (leb (journal .count) 64) (placesValid (journal .count) 0 (journal .records)) (subst T (sym e) tt) .0)
-
--- when a journal has no record to undo
-abbrev pub lastRefusals : Journal → List Refusal
-lastRefusals journal = (badJournal, not (validOf journal)) ∷ (empty, eqb (journal .count) 0) ∷ []
-
--- when a record's bundle does not stand in the code
-abbrev pub standRefusals : List ℕ → Record → List Refusal
-standRefusals code last =
-    (exhaustedInput, ltb (length code) (16 * last .bundle + 16))
-    ∷ (stale, not (sameHalves (halvesOf (numberAt code (last .bundle))) (last .new)))
-    ∷ []
 
 -- a journal with a record to undo
 pub has-last : (journal : Journal) → first (lastRefusals journal) ≡ accepted → (0 < journal .count) × (journal .count ≤ 64)

@@ -1,5 +1,4 @@
 pub mod Laws
-pub mod Places
 pub mod Rewritten
 pub mod Run
 pub mod Standing

@@ -4,7 +4,7 @@ use mathlib.Core.Bool.{Bool, true, false, not, _&&_}
 use mathlib.Core.List.{List, [], _∷_, _++_}
 use lib.Dec.{eqb, ltb}
 use lib.ListN.{length, take, drop}
-use Rattle.answer.specs.Answer.{Refusal, first, outcome, accepted, exhaustedInput, badValue, empty, stale, tooLong, badJournal}
+use Rattle.answer.specs.Answer.{Refusal, first, outcome, accepted, exhaustedInput, badValue, stale, tooLong}
 use Rattle.bundle.specs.Bytes.{bytes}
 use Rattle.bundle.specs.Bundle.{numberAt, halvesOf, whole}
 use Rattle.bundle.specs.declared.half.Halves.{Halves}
@@ -16,7 +16,7 @@ use Rattle.immediate.specs.Immediate.{openRefusals, written}
 use Rattle.immediate.specs.declared.row.Row.{Row}
 use Rattle.immediate.specs.declared.meaning.Raw.{Raw}
 use Rattle.immediate.specs.declared.meaning.Raw.the-variants.{Is, Bad}
-use Rattle.journal.specs.Journal.{noRecord, validOf, roomRefusals, pushOf, lastOf, popOf}
+use Rattle.journal.specs.Journal.{noRecord, roomRefusals, lastRefusals, pushOf, lastOf, popOf}
 use Rattle.journal.specs.declared.records.Record.{Record}
 use Rattle.journal.specs.declared.records.Journal.{Journal}
 use Rattle.journal.specs.declared.plan.Plan.{Plan}
@@ -90,16 +90,16 @@ editOf code journal k slot family number value =
 abbrev pub sameHalves : Halves → Halves → Bool
 sameHalves a b = eqb (a .low) (b .low) && eqb (a .high) (b .high)
 
+-- when a record's bundle doesn't stand in the code as its new one
+abbrev pub standRefusals : List ℕ → Record → List Refusal
+standRefusals code r =
+    (exhaustedInput, ltb (length code) (16 * r .bundle + 16))
+    ∷ (stale, not (sameHalves (halvesOf (numberAt code (r .bundle))) (r .new)))
+    ∷ []
+
 -- when undoing is refused
 abbrev pub undoRefusals : List ℕ → Journal → List Refusal
-undoRefusals code journal =
-    let last = lastOf journal in
-    (tooLong, ltb 65536 (length code))
-    ∷ (badJournal, not (validOf journal))
-    ∷ (empty, eqb (journal .count) 0)
-    ∷ (exhaustedInput, ltb (length code) (16 * last .bundle + 16))
-    ∷ (stale, not (sameHalves (halvesOf (numberAt code (last .bundle))) (last .new)))
-    ∷ []
+undoRefusals code journal = (tooLong, ltb 65536 (length code)) ∷ lastRefusals journal ++ standRefusals code (lastOf journal)
 
 -- what `undo` comes to
 unfoldable pub undoOf : List ℕ → Journal → Outcome

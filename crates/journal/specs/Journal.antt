@@ -4,7 +4,7 @@ use mathlib.Core.Bool.{Bool, true, false, cond, not, _&&_}
 use mathlib.Core.List.{List, [], _∷_}
 use lib.Dec.{eqb, leb, ltb}
 use lib.ListN.{getD, set, replicate}
-use Rattle.answer.specs.Answer.{Refusal, full, badJournal}
+use Rattle.answer.specs.Answer.{Refusal, full, empty, badJournal}
 use Rattle.bundle.specs.declared.half.Halves.{Halves}
 use Rattle.journal.specs.declared.records.Record.{Record}
 use Rattle.journal.specs.declared.records.Journal.{Journal}
@@ -39,6 +39,10 @@ validOf j = leb (j .count) 64 && placesValid (j .count) 0 (j .records)
 -- when there is no room for a record
 abbrev pub roomRefusals : Journal → List Refusal
 roomRefusals j = (badJournal, not (validOf j)) ∷ (full, leb 64 (j .count)) ∷ []
+
+-- when there is no record to undo
+abbrev pub lastRefusals : Journal → List Refusal
+lastRefusals j = (badJournal, not (validOf j)) ∷ (empty, eqb (j .count) 0) ∷ []
 
 -- one record more, at the first free place
 abbrev pub pushOf : Journal → Record → Journal

@@ -11,13 +11,10 @@ pub use records::empty;
 pub use records::valid;
 ghost use mathlib.Core.Path.{_≡_};
 ghost use Prim.Native.Nat.{_+_, _*_, _≤_};
-ghost use mathlib.Core.Bool.{not};
-ghost use mathlib.Core.List.{[], _∷_};
-ghost use lib.Dec.{ltb};
 ghost use lib.ListN.{length};
-ghost use Rattle.answer.specs.Answer.{first, exhaustedInput, stale};
-ghost use Rattle.bundle.specs.Bundle.{numberAt, halvesOf, whole};
-ghost use Rattle.journal.specs.Edit.{Outcome, rewritten, editOf, sameHalves, undoOf};
+ghost use Rattle.answer.specs.Answer.{first};
+ghost use Rattle.bundle.specs.Bundle.{whole};
+ghost use Rattle.journal.specs.Edit.{Outcome, rewritten, editOf, sameHalves, standRefusals, undoOf};
 use answer::ACCEPTED;
 use answer::EXHAUSTED_INPUT;
 use answer::STALE;
@@ -80,7 +77,7 @@ fn same(a: Halves, b: Halves) -> bool
 // Whether a record's bundle stands in the code as the record left it.
 fn stands(code: &[u8], last: Record) -> u8
     requires { ⌜ length (now code) ≤ 65536 ⌝ }
-    ensures { λ r. ⌜ r ≡ first ((exhaustedInput, ltb (length (now (code .entry))) (16 * last .bundle + 16)) ∷ (stale, not (sameHalves (halvesOf (numberAt (now (code .entry)) (last .bundle))) (last .new))) ∷ []) ⌝ }
+    ensures { λ r. ⌜ r ≡ first (standRefusals (now (code .entry)) last) ⌝ }
 {
     let bundle = last.bundle;
     if bundle::found(code, bundle) != ACCEPTED {

@@ -8,7 +8,6 @@ mod number;
 mod put;
 mod whole;
 
-pub use decimal::put_decimal;
 pub use hex::Decoded;
 pub use hex::Ending;
 pub use hex::decode;

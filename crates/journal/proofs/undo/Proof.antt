@@ -9,8 +9,9 @@ use borrow.Author.Tests.{eqb-false}
 use denote.Ref.{now}
 use lib.Dec.{eqb}
 use Rattle.answer.specs.Answer.{accepted, first, empty, tooLong, badJournal}
+use Rattle.journal.specs.Journal.{lastRefusals}
 use Rattle.journal.specs.Edit.{undoRefusals}
-use Rattle.journal.proofs.Laws.{lastRefusals, has-last, undo-refused-by, undo-long, undo-none, undo-some, undo-done, undo-lies}
+use Rattle.journal.proofs.Laws.{has-last, undo-refused-by, undo-long, undo-none, undo-some, undo-done, undo-lies}
 use Rattle.journal.proofs.undo.Statement.{statement}
 use Rattle.journal.proofs.undo.Tie as tie
 
