@@ -1,6 +1,6 @@
 // `read_f_operands`: an arm of 000's `match` a function, in its order.
 ghost use mathlib.Core.Path.{_≡_};
-ghost use Rattle.form.specs.Field.{readingOf};
+ghost use Rattle.reading.specs.Line.{readingOf};
 ghost use Rattle.read_f.specs.Table.{fForms};
 use operand::FloatRegister;
 use operand::Operand;

@@ -1,6 +1,6 @@
 // `read_l_operands`: an arm of 000's `match` a function, in its order.
 ghost use mathlib.Core.Path.{_≡_};
-ghost use Rattle.form.specs.Field.{readingOf};
+ghost use Rattle.reading.specs.Line.{readingOf};
 ghost use Rattle.read_l.specs.Table.{xForms};
 use operand::BranchRegister;
 use operand::GPRegister;

@@ -1,11 +1,8 @@
 // `read_m_operands`: an arm of 000's `match` a function, in its order.
 ghost use mathlib.Core.Path.{_≡_};
 ghost use mathlib.Core.List.{[], _∷_, _++_};
-ghost use Rattle.form.specs.Field.{_‥_, is, mem, i64, s64, written, unwritten, readingOf};
+ghost use Rattle.reading.specs.Line.{_‥_, is, mem, i64, s64, dest, no-dest, readingOf};
 ghost use Rattle.read_m.specs.Table.{mForms, mForms17, mForms31, m35, m36, m42, m43};
-use form::Signed;
-use form::three_op_imm3;
-use form::two_op_imm2;
 use operand::ApplicationRegister;
 use operand::ControlRegister;
 use operand::FloatRegister;
@@ -20,6 +17,9 @@ use operand::no_op;
 use operand::one_op;
 use operand::three_op;
 use operand::two_op;
+use reading::Difference;
+use reading::three_op_imm3;
+use reading::two_op_imm2;
 
 fn read_m1(word: u64) -> Reading
     ensures { λ r. ⌜ r ≡ readingOf mForms 1 word 0 ⌝ }
@@ -56,12 +56,12 @@ fn read_m3(word: u64) -> Reading
 
 // M3, M8
 fn load_imm(word: u64, op1: Operand) -> Reading
-    ensures { λ r. ⌜ r ≡ written 0 (is op1 ∷ mem (20 ‥ 27) ∷ s64 (13 ‥ 20 ∷ 27 ‥ 28 ∷ []) 36 ∷ []) word 0 ⌝ }
+    ensures { λ r. ⌜ r ≡ dest 0 (is op1 ∷ mem (20 ‥ 27) ∷ s64 (13 ‥ 20 ∷ 27 ‥ 28 ∷ []) 36 ∷ []) word 0 ⌝ }
 {
     let imm7 = (word >> 13) % 128;
     let i = (word >> 27) % 2;
     let s = (word >> 36) % 2;
-    let imm = Signed(imm7 + (1 << 7) * i, (1 << 8) * s);
+    let imm = Difference(imm7 + (1 << 7) * i, (1 << 8) * s);
     let r3 = ((word >> 20) % 128) as u8;
     three_op_imm3(Position::First, op1, Operand::Memory(GPRegister(r3)), imm)
 }
@@ -87,12 +87,12 @@ fn read_m5(word: u64) -> Reading
 
 // M5, M10
 fn store_imm(word: u64, op2: Operand) -> Reading
-    ensures { λ r. ⌜ r ≡ written 0 (mem (20 ‥ 27) ∷ is op2 ∷ s64 (6 ‥ 13 ∷ 27 ‥ 28 ∷ []) 36 ∷ []) word 0 ⌝ }
+    ensures { λ r. ⌜ r ≡ dest 0 (mem (20 ‥ 27) ∷ is op2 ∷ s64 (6 ‥ 13 ∷ 27 ‥ 28 ∷ []) 36 ∷ []) word 0 ⌝ }
 {
     let imm7 = (word >> 6) % 128;
     let i = (word >> 27) % 2;
     let s = (word >> 36) % 2;
-    let imm = Signed(imm7 + (1 << 7) * i, (1 << 8) * s);
+    let imm = Difference(imm7 + (1 << 7) * i, (1 << 8) * s);
     let r3 = ((word >> 20) % 128) as u8;
     three_op_imm3(Position::First, Operand::Memory(GPRegister(r3)), op2, imm)
 }
@@ -205,7 +205,7 @@ fn read_m15(word: u64) -> Reading
     let r3 = ((word >> 20) % 128) as u8;
     let i = (word >> 27) % 2;
     let s = (word >> 36) % 2;
-    let imm = Signed(imm7b + (1 << 7) * (i + 2 * s), 0);
+    let imm = Difference(imm7b + (1 << 7) * (i + 2 * s), 0);
     two_op_imm2(Position::None, Operand::Memory(GPRegister(r3)), imm)
 }
 
@@ -215,7 +215,7 @@ fn read_m17(word: u64) -> Reading
     let r1 = ((word >> 6) % 128) as u8;
     let i = (word >> 13) % 4;
     let s = (word >> 15) % 2;
-    let imm = Signed(i, (1 << 2) * s);
+    let imm = Difference(i, (1 << 2) * s);
     let r3 = ((word >> 20) % 128) as u8;
     three_op_imm3(
         Position::First,
@@ -258,12 +258,12 @@ fn read_m20(word: u64) -> Reading
 
 // M20, M21
 fn check_speculation(word: u64, op1: Operand) -> Reading
-    ensures { λ r. ⌜ r ≡ unwritten (is op1 ∷ s64 (6 ‥ 13 ∷ 20 ‥ 33 ∷ []) 36 ∷ []) word 0 ⌝ }
+    ensures { λ r. ⌜ r ≡ no-dest (is op1 ∷ s64 (6 ‥ 13 ∷ 20 ‥ 33 ∷ []) 36 ∷ []) word 0 ⌝ }
 {
     let imm7a = (word >> 6) % 128;
     let imm13c = (word >> 20) % 8192;
     let s = (word >> 36) % 2;
-    let imm = Signed(imm7a + (1 << 7) * imm13c, (1 << 20) * s);
+    let imm = Difference(imm7a + (1 << 7) * imm13c, (1 << 20) * s);
     two_op_imm2(Position::None, op1, imm)
 }
 
@@ -283,11 +283,11 @@ fn read_m22(word: u64) -> Reading
 
 // M22, M23: never negative, unlike M20 and M21
 fn check_load(word: u64, op1: Operand) -> Reading
-    ensures { λ r. ⌜ r ≡ unwritten (is op1 ∷ i64 (13 ‥ 33 ∷ 36 ‥ 37 ∷ []) ∷ []) word 0 ⌝ }
+    ensures { λ r. ⌜ r ≡ no-dest (is op1 ∷ i64 (13 ‥ 33 ∷ 36 ‥ 37 ∷ []) ∷ []) word 0 ⌝ }
 {
     let imm20b = (word >> 13) % (1 << 20);
     let s = (word >> 36) % 2;
-    let imm = Signed(imm20b + (1 << 20) * s, 0);
+    let imm = Difference(imm20b + (1 << 20) * s, 0);
     two_op_imm2(Position::None, op1, imm)
 }
 
@@ -337,7 +337,7 @@ fn read_m30(word: u64) -> Reading
     let imm7b = (word >> 13) % 128;
     let ar3 = ((word >> 20) % 128) as u8;
     let s = (word >> 36) % 2;
-    let imm = Signed(imm7b, (1 << 7) * s);
+    let imm = Difference(imm7b, (1 << 7) * s);
     two_op_imm2(
         Position::First,
         Operand::ApplicationRegister(ApplicationRegister(ar3)),

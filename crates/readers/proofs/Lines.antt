@@ -6,7 +6,7 @@ use Prim.Native.Nat.{ℕ, suc, _+_}
 use lib.Dec.{T, eqb}
 use lib.ListN.{length}
 use Rattle.table.proofs.Check.{below}
-use Rattle.form.specs.Field.{Forms}
+use Rattle.reading.specs.Line.{Forms}
 use Rattle.readers.specs.Call.{families}
 
 -- how many lines have the number

@@ -8,7 +8,7 @@ use Rattle.answer.specs.Answer.{accepted, badForm, badWord, first, outcome}
 use Rattle.operand.specs.Reading.{unread}
 use Rattle.operand.specs.declared.Reading.{Reading}
 use Rattle.readers.specs.declared.outcome.Operands.{Operands}
-use Rattle.form.specs.Field.{Forms, readingOf, _⇒_}
+use Rattle.reading.specs.Line.{Forms, readingOf, _⇒_}
 use Rattle.read_a.specs.Table.{aForms}
 use Rattle.read_b.specs.Table.{bForms}
 use Rattle.read_f.specs.Table.{fForms}

@@ -2,7 +2,7 @@
 use mathlib.Core.Path.{ap}
 use Prim.Native.Nat.{ℕ}
 use mathlib.Core.List.{[], _∷_}
-use Rattle.form.specs.Field.{Forms}
+use Rattle.reading.specs.Line.{Forms}
 use Rattle.readers.specs.Call.{families}
 use Rattle.table.proofs.Match.{ones, otherwise}
 use Rattle.readers.proofs.last_of.Statement.{statement}

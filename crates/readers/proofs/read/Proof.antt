@@ -4,7 +4,7 @@ use mathlib.Core.Path.{ap, _∙_}
 use mathlib.Core.List.{[], _∷_}
 use Prim.Native.Nat.{ℕ}
 use Rattle.table.proofs.Match.{ones, otherwise}
-use Rattle.form.specs.Field.{Forms, readingOf}
+use Rattle.reading.specs.Line.{Forms, readingOf}
 use Rattle.readers.specs.Call.{families, lOf}
 use Rattle.readers.proofs.read.Statement.{statement}
 use Rattle.readers.proofs.read.Tie as tie

@@ -11,7 +11,7 @@ use lib.Signed.{mag}
 use mir.Syntax.{w64}
 use mir.Val.{SFits, toZ, ofZ}
 use mir.Facts.{toZ-pos, toZ-ofZ}
-use Rattle.form.specs.Field.{minus}
+use Rattle.reading.specs.Line.{minus}
 
 mag-cond : (b : Bool) (x y : ℕ) {H : ℕ} → x < H → y < H → mag (cond b (negsuc x) (pos y)) < H
 mag-cond true x y p q = p

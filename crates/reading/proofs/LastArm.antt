@@ -6,7 +6,7 @@ use Prim.Native.Nat.{ℕ}
 use lib.Dec.{T}
 use Rattle.table.specs.Table.{select}
 use Rattle.table.proofs.Match.{Rest, covers, otherwise, onward}
-use Rattle.form.specs.Field.{Of}
+use Rattle.reading.specs.Line.{Of}
 
 module _ {A : Type 0} (arms : List (List ℕ)) (n : ℕ) (es : List (ℕ × Of A)) where
   pub none-named : (other : Of A) (word l : ℕ) {r : A} → T (covers arms es) → Rest n arms → r ≡ other word l → r ≡ select n es other word l

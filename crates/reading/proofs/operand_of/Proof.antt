@@ -2,9 +2,9 @@
 use mathlib.Core.Path.{ap}
 use borrow.Author.Needs.{needs}
 use Rattle.operand.specs.declared.Operand.the-variants.{ImmI64}
-use Rattle.form.proofs.Difference.{difference, difference-fits}
-use Rattle.form.proofs.operand_of.Statement.{statement}
-use Rattle.form.proofs.operand_of.Tie as tie
+use Rattle.reading.proofs.Minus.{difference, difference-fits}
+use Rattle.reading.proofs.operand_of.Statement.{statement}
+use Rattle.reading.proofs.operand_of.Tie as tie
 
 cast-value : tie.Need-cast-value
 cast-value c = search needs

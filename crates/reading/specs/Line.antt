@@ -1,4 +1,5 @@
--- The words of the readers' tables: what an operand of a form is, from which bits, and what a form shows. Assumes nothing.
+-- The words of the readers' tables: a line has a form's number, the last-written position, and for each operand what it is and from
+-- which bits. Assumes nothing.
 use Prim.Native.Nat.{ℕ, zero, suc, _+_, _-_, _*_, _^_, _<_}
 use mathlib.Core.List.{List, [], _∷_}
 use mathlib.Core.Option.{none, some}
@@ -10,7 +11,7 @@ use Rattle.operand.specs.declared.Operand.{Operand}
 use Rattle.operand.specs.declared.Operand.the-variants as op
 use Rattle.operand.specs.declared.IndirectionReg.{IndirectionReg}
 use Rattle.operand.specs.declared.Reading.{Reading}
-use Rattle.form.specs.declared.Signed.{Signed}
+use Rattle.reading.specs.declared.Difference.{Difference}
 
 -- what is worked out of the form's word and the L word
 abbrev pub Of : Type 0 → Type 0
@@ -30,10 +31,10 @@ abbrev pub _‥ᴸ_ : ℕ → ℕ → Bits
 from ‥ᴸ end = (end - from, λ word l. part l from (end - from))
 
 -- the bits of a list as one number, lowest first
-abbrev pub joined : List Bits → Of ℕ
-joined [] word l = 0
-joined (b ∷ []) word l = b .1 word l
-joined (b ∷ c ∷ bs) word l = above (b .0) (b .1 word l) (joined (c ∷ bs) word l)
+abbrev pub together : List Bits → Of ℕ
+together [] word l = 0
+together (b ∷ []) word l = b .1 word l
+together (b ∷ c ∷ bs) word l = above (b .0) (b .1 word l) (together (c ∷ bs) word l)
 
 -- how many they are
 abbrev pub width : List Bits → ℕ
@@ -46,74 +47,71 @@ minus x zero = pos x
 minus x (suc y) = pos x +ℤ negsuc y
 
 -- an immediate with a sign: the number of the bits below the sign, less what the sign counts
-abbrev pub immediate : Signed → Operand
-immediate s = op.ImmI64 (minus (s .0) (s .1))
+abbrev pub difference : Difference → Operand
+difference d = op.ImmI64 (minus (d .0) (d .1))
 
 -- both so small that the difference is an `i64`
-abbrev pub Small : Signed → Type 0
-Small s = (s .0 < 2 ^ 62) × (s .1 < 2 ^ 62)
+abbrev pub Small : Difference → Type 0
+Small d = (d .0 < 2 ^ 62) × (d .1 < 2 ^ 62)
 
-abbrev pub Field : Type 0
-Field = Of Operand
-
-abbrev pub gp : Bits → Field
+abbrev pub gp : Bits → Of Operand
 gp b word l = op.GPRegister (record { 0 = b .1 word l })
 
-abbrev pub fp : Bits → Field
+abbrev pub fp : Bits → Of Operand
 fp b word l = op.FloatRegister (record { 0 = b .1 word l })
 
-abbrev pub pr : Bits → Field
+abbrev pub pr : Bits → Of Operand
 pr b word l = op.PredicateRegister (record { 0 = b .1 word l })
 
-abbrev pub br : Bits → Field
+abbrev pub br : Bits → Of Operand
 br b word l = op.BranchRegister (record { 0 = b .1 word l })
 
-abbrev pub ar : Bits → Field
+abbrev pub ar : Bits → Of Operand
 ar b word l = op.ApplicationRegister (record { 0 = b .1 word l })
 
-abbrev pub cr : Bits → Field
+abbrev pub cr : Bits → Of Operand
 cr b word l = op.ControlRegister (record { 0 = b .1 word l })
 
 -- memory at the address in a general register
-abbrev pub mem : Bits → Field
+abbrev pub mem : Bits → Of Operand
 mem b word l = op.Memory (record { 0 = b .1 word l })
 
 -- a register that is given by a general register's contents
-abbrev pub ind : IndirectionReg → Bits → Field
+abbrev pub ind : IndirectionReg → Bits → Of Operand
 ind i b word l = op.Indirection i (record { 0 = b .1 word l })
 
 -- an `ImmU64`
-abbrev pub u64 : List Bits → Field
-u64 bs word l = op.ImmU64 (joined bs word l)
+abbrev pub u64 : List Bits → Of Operand
+u64 bs word l = op.ImmU64 (together bs word l)
 
 -- an `ImmI64` that is never negative
-abbrev pub i64 : List Bits → Field
-i64 bs word l = immediate (record { 0 = joined bs word l; 1 = 0 })
+abbrev pub i64 : List Bits → Of Operand
+i64 bs word l = difference (record { 0 = together bs word l; 1 = 0 })
 
 -- an `ImmI64` with its sign at a place of the word
-abbrev pub s64 : List Bits → ℕ → Field
-s64 bs sign word l = immediate (record { 0 = joined bs word l; 1 = 2 ^ width bs * bit word sign })
+abbrev pub s64 : List Bits → ℕ → Of Operand
+s64 bs sign word l = difference (record { 0 = together bs word l; 1 = 2 ^ width bs * bit word sign })
 
 -- the same times 16
-abbrev pub s64×16 : List Bits → ℕ → Field
-s64×16 bs sign word l = immediate (record { 0 = 2 ^ 4 * joined bs word l; 1 = 2 ^ (4 + width bs) * bit word sign })
+abbrev pub s64×16 : List Bits → ℕ → Of Operand
+s64×16 bs sign word l = difference (record { 0 = 2 ^ 4 * together bs word l; 1 = 2 ^ (4 + width bs) * bit word sign })
 
 -- an `ImmU64` that is one more than the bits
-abbrev pub count : Bits → Field
+abbrev pub count : Bits → Of Operand
 count b word l = op.ImmU64 (b .1 word l + 1)
 
 -- an `ImmU64` that is 16 where the bit is set and 8 where it is not
-abbrev pub size : ℕ → Field
+abbrev pub size : ℕ → Of Operand
 size place word l = op.ImmU64 (8 + 8 * bit word place)
 
 -- an operand that no bit decides; a general or an application register that none decides
-abbrev pub is : Operand → Field
+abbrev pub is : Operand → Of Operand
 is o word l = o
 
-abbrev pub gp-is : ℕ → Field
+abbrev pub gp-is : ℕ → Of Operand
 gp-is n = is (op.GPRegister (record { 0 = n }))
 
-abbrev pub ar-is : ℕ → Field
+abbrev pub ar-is : ℕ → Of Operand
 ar-is n = is (op.ApplicationRegister (record { 0 = n }))
 
 abbrev pub each : {A B : Type 0} → (A → B) → List (ℕ × A) → List (ℕ × B)
@@ -124,23 +122,20 @@ each f (e ∷ es) = (e .0, f (e .1)) ∷ each f es
 abbrev pub by : {A B : Type 0} → Bits → List (ℕ × A) → (A → Of B) → Of B → Of B
 by b cases f other word l = select (b .1 word l) (each f cases) other word l
 
-abbrev pub Row : Type 0
-Row = Of Reading
-
-abbrev pub all : List Field → Of (List Operand)
+abbrev pub all : List (Of Operand) → Of (List Operand)
 all [] word l = []
 all (f ∷ fs) word l = f word l ∷ all fs word l
 
--- those operands, the last of them that is written at a position, or none written
-abbrev pub written : ℕ → List Field → Row
-written n fs word l = listed (caseOf (some n)) (all fs word l)
+-- those operands, of which the last that is written stands at a position; or none is written
+abbrev pub dest : ℕ → List (Of Operand) → Of Reading
+dest n fs word l = listed (caseOf (some n)) (all fs word l)
 
-abbrev pub unwritten : List Field → Row
-unwritten fs word l = listed (caseOf none) (all fs word l)
+abbrev pub no-dest : List (Of Operand) → Of Reading
+no-dest fs word l = listed (caseOf none) (all fs word l)
 
--- a family's table: each form's number, and what it shows
+-- a family's table: its lines
 abbrev pub Forms : Type 0
-Forms = List (ℕ × Row)
+Forms = List (ℕ × Of Reading)
 
 infix 70 _⇒_
 abbrev pub _⇒_ {ℓ} : {A : Type ℓ} → ℕ → A → ℕ × A
