@@ -2,7 +2,7 @@
 use Prim.Native.Nat.{ℕ}
 use mathlib.Core.Bool.{Bool, _&&_}
 use mathlib.Core.List.{List, [], _∷_}
-use lib.Dec.{leb, ltb}
+use lib.Dec.{eqb, leb, ltb}
 use Rattle.table.specs.Table.{select}
 use Rattle.form.specs.declared.Form.{Form}
 
@@ -36,6 +36,10 @@ m n = record { family = M; number = n }
 
 abbrev pub x : ℕ → Form
 x n = record { family = X; number = n }
+
+-- the same form
+abbrev pub same : Form → Form → Bool
+same f g = eqb (f .family) (g .family) && eqb (f .number) (g .number)
 
 -- the families, each with its last number
 abbrev pub families : List (ℕ × ℕ)

@@ -6,24 +6,24 @@ use mathlib.Core.Logic.{⊎-elim}
 use Prim.Native.Nat.{ℕ, zero, suc, _+_, _-_, _*_, _/_, _%_, _≤_, _<_, _^_}
 use native.Mathlib.Nat.{mul-div-cancel-left, mul-mod-right, mul-le-mul-left}
 use native.Mathlib.Omega.{arith}
-use borrow.Author.Tests.{ltb-true, ltb-false, leb-true, eqb-true, lt-ltb, le-ltb, le-leb, eq-eqb}
+use borrow.Author.Tests.{ltb-true, ltb-false, leb-true, eqb-true, eqb-false, lt-ltb, le-ltb, le-leb, eq-eqb}
 use lib.Dec.{T, ltb, leb, eqb}
 use lib.IntN.{ℤ, pos, negsuc}
 use Rattle.operand.specs.Kind.{ofI64, ofU64}
 use Rattle.operand.specs.declared.Operand.{Operand}
 use Rattle.operand.specs.declared.Operand.the-variants.{ImmI64, ImmU64}
 use Rattle.operand.proofs.Kind.{i64-or-not, u64-or-not}
-use Rattle.immediate.specs.Meaning.{SignedFits, Fitting, signedOf, valueOf, rawUp, rawDown, rawSigned, rawUnsigned, rawOf}
+use Rattle.immediate.specs.Sound.{SignedFits, Fitting}
+use Rattle.immediate.specs.Meaning.{Is, Bad, signedOf, valueOf, rawUp, rawDown, rawSigned, rawUnsigned, rawOf}
 use Rattle.immediate.specs.Immediate.{means}
 use Rattle.immediate.specs.declared.row.Meaning.{Meaning}
 use Rattle.immediate.specs.declared.row.Meaning.the-variants.{None as NoMeaning, Unsigned, Signed}
 use Rattle.immediate.specs.declared.meaning.Raw.{Raw}
-use Rattle.immediate.specs.declared.meaning.Raw.the-variants.{Is, Bad}
 use Rattle.immediate.proofs.Units.{half, whole-units}
 
 -- what has a raw number passed the test
 not-bad : {raw : ℕ} → Bad ≡ Is raw → ⊥
-not-bad e = let z : _≡_ {A = ℕ} 0 1 = cc in omega arith
+not-bad e = eqb-false 6 0 refl (ap (λ (r : Raw). r .answer) e)
 
 only-if : (b : Bool) (r : Raw) {raw : ℕ} → cond b r Bad ≡ Is raw → (b ≡ true) × (r ≡ Is raw)
 only-if true r e = (refl, e)
@@ -34,7 +34,7 @@ only-else true r e = absurd (not-bad e)
 only-else false r e = (refl, e)
 
 same-raw : {m n : ℕ} → Is m ≡ Is n → m ≡ n
-same-raw e = cc
+same-raw e = ap (λ (r : Raw). r .raw) e
 
 -- what has a raw number is of the kind
 of-u64 : (o : Operand) (f : ℕ → Raw) {raw : ℕ} → ofU64 o f Bad ≡ Is raw → (v : ℕ) × (o ≡ ImmU64 v) × (f v ≡ Is raw)

@@ -2,6 +2,7 @@ pub mod Elsewhere
 pub mod Inverse
 pub mod Kind
 pub mod Laws
+pub mod Named
 pub mod Rows
 pub mod Unique
 pub mod Units

@@ -13,7 +13,8 @@ use mir.Syntax.{w64}
 use mir.Val.{SFits}
 use Rattle.bits.proofs.Laws.{above-mod}
 use Rattle.operand.specs.Pattern.{patternOf}
-use Rattle.immediate.specs.Meaning.{SignedFits, signedOf, rawUp, rawDown, rawSigned}
+use Rattle.immediate.specs.Sound.{SignedFits}
+use Rattle.immediate.specs.Meaning.{signedOf, rawUp, rawDown, rawSigned}
 
 -- half of the numbers of w bits
 pub half : (w : ℕ) → 1 ≤ w → 2 ^ w ≡ 2 ^ (w - 1) + 2 ^ (w - 1)

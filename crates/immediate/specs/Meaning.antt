@@ -1,8 +1,9 @@
 -- What a raw number of w bits means, and which raw number a value has. Assumes nothing.
-use Prim.Native.Nat.{ℕ, suc, _+_, _-_, _*_, _/_, _%_, _≤_, _<_, _^_}
+use Prim.Native.Nat.{ℕ, suc, _+_, _-_, _*_, _/_, _%_, _^_}
 use mathlib.Core.Bool.{cond}
 use lib.Dec.{eqb, leb, ltb}
 use lib.IntN.{ℤ, pos, negsuc}
+use Rattle.answer.specs.Answer.{accepted, badValue}
 use Rattle.operand.specs.Kind.{ofI64, ofU64}
 use Rattle.operand.specs.declared.Operand.{Operand}
 use Rattle.operand.specs.declared.Operand.the-variants.{ImmI64, ImmU64}
@@ -10,7 +11,6 @@ use Rattle.operand.specs.declared.Operand.the-variants.{None as NoOperand}
 use Rattle.immediate.specs.declared.row.Meaning.{Meaning}
 use Rattle.immediate.specs.declared.row.Meaning.the-variants.{None, Unsigned, Signed}
 use Rattle.immediate.specs.declared.meaning.Raw.{Raw}
-use Rattle.immediate.specs.declared.meaning.Raw.the-variants.{Is, Bad}
 
 -- a raw number with a sign: the top bit is the sign, and the number counts units
 abbrev pub signedOf : ℕ → ℕ → ℕ → ℤ
@@ -21,6 +21,13 @@ abbrev pub valueOf : Meaning → ℕ → ℕ → Operand
 valueOf None w raw = NoOperand
 valueOf (Unsigned plus) w raw = ImmU64 (plus + raw)
 valueOf (Signed unit) w raw = ImmI64 (signedOf unit w raw)
+
+-- a value's raw number, and the refusal of a value that has none
+abbrev pub Is : ℕ → Raw
+Is raw = record { answer = accepted; raw = raw }
+
+abbrev pub Bad : Raw
+Bad = record { answer = badValue; raw = 0 }
 
 -- the raw number of so many units, and of so many below zero
 abbrev pub rawUp : ℕ → ℕ → ℕ → Raw
@@ -41,15 +48,3 @@ abbrev pub rawOf : Meaning → ℕ → Operand → Raw
 rawOf None w value = Bad
 rawOf (Unsigned plus) w value = ofU64 value (rawUnsigned plus w) Bad
 rawOf (Signed unit) w value = ofI64 value (rawSigned unit w) Bad
-
--- the meaning has room: every value of w bits is one of 64 bits
-abbrev pub UnsignedFits : ℕ → ℕ → Type 0
-UnsignedFits plus w = (1 ≤ w) × (w ≤ 64) × (plus + 2 ^ w ≤ 2 ^ 64)
-
-abbrev pub SignedFits : ℕ → ℕ → Type 0
-SignedFits unit w = (1 ≤ w) × (w < 64) × (1 ≤ unit) × (unit * 2 ^ (w - 1) ≤ 2 ^ 63)
-
-abbrev pub Fitting : Meaning → ℕ → Type 0
-Fitting None w = Unit {0}
-Fitting (Unsigned plus) w = UnsignedFits plus w
-Fitting (Signed unit) w = SignedFits unit w

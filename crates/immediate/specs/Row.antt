@@ -1,27 +1,23 @@
 -- Document 01's table of immediates. Assumes nothing.
 use Prim.Native.Nat.{ℕ, zero, suc}
-use mathlib.Core.Bool.{cond}
+use mathlib.Core.Bool.{Bool, false, cond, _||_}
 use mathlib.Core.List.{List, [], _∷_}
-use lib.Dec.{eqb}
-use Rattle.table.specs.Table.{select}
-use Rattle.bundle.specs.Template.{M, F, B, X}
-use Rattle.field.specs.Field.{L}
-use Rattle.field.specs.declared.Part.{Part}
+use Rattle.form.specs.Form.{a, b, f, m, x, same}
+use Rattle.form.specs.declared.Form.{Form}
+use Rattle.parts.specs.Place.{L}
+use Rattle.parts.specs.declared.Part.{Part}
 use Rattle.immediate.specs.declared.row.Meaning.{Meaning}
 use Rattle.immediate.specs.declared.row.Meaning.the-variants.{None, Unsigned, Signed}
 use Rattle.immediate.specs.declared.row.Row.{Row}
 
-abbrev pub A : ℕ
-A = 65
-
 infix 80 _wide_
 abbrev pub _wide_ : ℕ → ℕ → Part
-place wide width = (place, width)
+place wide width = record { place = place; width = width }
 
 -- six parts, of which the last have no width
 abbrev pub padded : ℕ → List Part → List Part
 padded zero ps = []
-padded (suc n) [] = (0, 0) ∷ padded n []
+padded (suc n) [] = 0 wide 0 ∷ padded n []
 padded (suc n) (p ∷ ps) = p ∷ padded n ps
 
 abbrev pub row : Meaning → List Part → Row
@@ -29,25 +25,6 @@ row meaning parts = record { meaning = meaning; parts = padded 6 parts }
 
 abbrev pub noRow : Row
 noRow = row None []
-
--- a form: the family letter's byte and the number
-abbrev pub Form : Type 0
-Form = ℕ × ℕ
-
-abbrev pub a : ℕ → Form
-a n = (A, n)
-
-abbrev pub b : ℕ → Form
-b n = (B, n)
-
-abbrev pub f : ℕ → Form
-f n = (F, n)
-
-abbrev pub m : ℕ → Form
-m n = (M, n)
-
-abbrev pub x : ℕ → Form
-x n = (X, n)
 
 -- some forms and their row
 abbrev pub Line : Type 0
@@ -87,25 +64,17 @@ lines =
     ∷ (x 3 ∷ x 4 ∷ []) are row times16 (13 wide 20 ∷ L 2 wide 39 ∷ 36 wide 1 ∷ [])
     ∷ []
 
--- a family's numbers in a line, each with the row
-abbrev pub numbered : ℕ → List Form → Row → List (ℕ × Row) → List (ℕ × Row)
-numbered family [] r rest = rest
-numbered family (form ∷ forms) r rest =
-    let after = numbered family forms r rest in
-    cond (eqb family (form .0)) ((form .1, r) ∷ after) after
+-- whether a form is one of some
+abbrev pub among : Form → List Form → Bool
+among form [] = false
+among form (g ∷ gs) = same form g || among form gs
 
-abbrev pub ofFamily : ℕ → List Line → List (ℕ × Row)
-ofFamily family [] = []
-ofFamily family (l ∷ ls) = numbered family (l .0) (l .1) (ofFamily family ls)
+-- the row of the line that has a form, and none where no line has it
+abbrev pub rowIn : Form → List Line → Row
+rowIn form [] = noRow
+rowIn form (l ∷ ls) = cond (among form (l .0)) (l .1) (rowIn form ls)
 
--- the rows of a family, by number
-unfoldable pub rowsOf : ℕ → List (ℕ × Row)
+-- the row of a form
+unfoldable pub rowOf : Form → Row
 unfolding lines
-rowsOf family = ofFamily family lines
-
-abbrev pub families : List (ℕ × List (ℕ × Row))
-families = (A, rowsOf A) ∷ (B, rowsOf B) ∷ (F, rowsOf F) ∷ (M, rowsOf M) ∷ (X, rowsOf X) ∷ []
-
--- the row of a form, and none where it has none
-unfoldable pub rowOf : ℕ → ℕ → Row
-rowOf family number = select number (select family families []) noRow
+rowOf form = rowIn form lines

@@ -2,8 +2,11 @@
 ghost use mathlib.Core.Path.{_≡_};
 ghost use Prim.Native.Nat.{_<_, _^_};
 ghost use Rattle.operand.specs.Pattern.{patternOf};
-ghost use Rattle.immediate.specs.Meaning.{UnsignedFits, SignedFits, Fitting, signedOf, valueOf, rawUp, rawDown, rawOf};
+ghost use Rattle.immediate.specs.Meaning.{Is, signedOf, valueOf, rawUp, rawDown, rawOf};
+ghost use Rattle.immediate.specs.Sound.{UnsignedFits, SignedFits, Fitting};
 use crate::row::Meaning;
+use answer::ACCEPTED;
+use answer::BAD_VALUE;
 use operand::Operand;
 
 const HALF: u64 = 0x8000_0000_0000_0000;
@@ -33,10 +36,25 @@ pub fn displacement(unit: u64, width: u32, raw: u64) -> u64
     std::num::wrapping_sub_u64(unit * low, unit * (raw - low))
 }
 
-pub enum Raw {
-    Is(u64),
-    Bad,
+// The raw number of a value, or the refusal of a value that has none.
+pub struct Raw {
+    pub answer: u8,
+    pub raw: u64,
 }
+
+fn is(raw: u64) -> Raw
+    ensures { λ r. ⌜ r ≡ Is raw ⌝ }
+{
+    Raw {
+        answer: ACCEPTED,
+        raw,
+    }
+}
+
+const BAD: Raw = Raw {
+    answer: BAD_VALUE,
+    raw: 0,
+};
 
 // The raw number of a value, where its kind, range and multiple are the meaning's.
 pub fn raw_of(meaning: Meaning, width: u32, value: Operand) -> Raw
@@ -44,7 +62,7 @@ pub fn raw_of(meaning: Meaning, width: u32, value: Operand) -> Raw
     ensures { λ r. ⌜ r ≡ rawOf meaning width value ⌝ }
 {
     match meaning {
-        Meaning::None => Raw::Bad,
+        Meaning::None => BAD,
         Meaning::Unsigned(plus) => raw_unsigned(plus, width, value),
         Meaning::Signed(unit) => raw_signed(unit, width, value),
     }
@@ -55,16 +73,16 @@ fn raw_unsigned(plus: u64, width: u32, value: Operand) -> Raw
     ensures { λ r. ⌜ r ≡ rawOf (Meaning.Unsigned plus) width value ⌝ }
 {
     let Operand::ImmU64(v) = value else {
-        return Raw::Bad;
+        return BAD;
     };
     if v < plus {
-        return Raw::Bad;
+        return BAD;
     }
     let rest = v - plus;
     if (rest >> (width - 1)) < 2 {
-        Raw::Is(rest)
+        is(rest)
     } else {
-        Raw::Bad
+        BAD
     }
 }
 
@@ -73,7 +91,7 @@ fn raw_signed(unit: u64, width: u32, value: Operand) -> Raw
     ensures { λ r. ⌜ r ≡ rawOf (Meaning.Signed unit) width value ⌝ }
 {
     let Operand::ImmI64(v) = value else {
-        return Raw::Bad;
+        return BAD;
     };
     let pattern = operand::pattern(v);
     if pattern < HALF {
@@ -89,13 +107,13 @@ fn raw_up(unit: u64, width: u32, value: u64) -> Raw
     ensures { λ r. ⌜ r ≡ rawUp unit width value ⌝ }
 {
     if value % unit != 0 {
-        return Raw::Bad;
+        return BAD;
     }
     let times = value / unit;
     if times < 1 << (width - 1) {
-        Raw::Is(times)
+        is(times)
     } else {
-        Raw::Bad
+        BAD
     }
 }
 
@@ -105,12 +123,12 @@ fn raw_down(unit: u64, width: u32, below: u64) -> Raw
     ensures { λ r. ⌜ r ≡ rawDown unit width below ⌝ }
 {
     if below % unit != 0 {
-        return Raw::Bad;
+        return BAD;
     }
     let times = below / unit;
     if times <= 1 << (width - 1) {
-        Raw::Is((1 << width) - times)
+        is((1 << width) - times)
     } else {
-        Raw::Bad
+        BAD
     }
 }

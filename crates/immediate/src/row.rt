@@ -1,11 +1,17 @@
 // The rows of document 01's table: where a form's immediate stands, and what its number means.
 ghost use mathlib.Core.Path.{_≡_};
 ghost use Prim.Native.Nat.{_≤_};
-ghost use Rattle.field.specs.Field.{bitsOf};
-ghost use Rattle.table.specs.Table.{select};
-ghost use Rattle.immediate.specs.Row.{rowsOf, rowOf, noRow};
-use field::L;
-use field::Part;
+ghost use Rattle.form.specs.Form.{a, b, f, m, x};
+ghost use Rattle.parts.specs.Place.{widthOf};
+ghost use Rattle.immediate.specs.Row.{rowOf};
+use form::A;
+use form::B;
+use form::F;
+use form::Form;
+use form::M;
+use form::X;
+use parts::L;
+use parts::Part;
 
 // What the raw number of a row means: itself and so much more, or, with a sign, so many times itself.
 pub enum Meaning {
@@ -14,12 +20,48 @@ pub enum Meaning {
     Signed(u64),
 }
 
+// Its parts stand lowest first, and the last have no width.
 pub struct Row {
     pub meaning: Meaning,
     pub parts: [Part; 6],
 }
 
-const NO: Part = Part(0, 0);
+const NO: Part = Part { place: 0, width: 0 };
+
+// The manual's names of the parts: S is its s, or i where the number has no sign.
+const CT2D: Part = Part { place: 27, width: 2 };
+
+const IMM7A: Part = Part { place: 6, width: 7 };
+
+const IMM7B: Part = Part { place: 13, width: 7 };
+
+const IMM6D: Part = Part { place: 27, width: 6 };
+
+const IMM9D: Part = Part { place: 27, width: 9 };
+
+const IMM5C: Part = Part { place: 22, width: 5 };
+
+const IMM13C: Part = Part { place: 20, width: 13 };
+
+const IMM20A: Part = Part { place: 6, width: 20 };
+
+const IMM20B: Part = Part { place: 13, width: 20 };
+
+const IMM21A: Part = Part { place: 6, width: 21 };
+
+const I2D: Part = Part { place: 31, width: 2 };
+
+const INC3: Part = Part { place: 13, width: 3 };
+
+const I: Part = Part { place: 27, width: 1 };
+
+const IC: Part = Part { place: 21, width: 1 };
+
+const S: Part = Part { place: 36, width: 1 };
+
+const IMM41: Part = Part { place: L, width: 41 };
+
+const IMM39: Part = Part { place: L + 2, width: 39 };
 
 pub const NO_ROW: Row = Row {
     meaning: Meaning::None,
@@ -29,126 +71,119 @@ pub const NO_ROW: Row = Row {
 // A2, A10
 const COUNT2: Row = Row {
     meaning: Meaning::Unsigned(1),
-    parts: [Part(27, 2), NO, NO, NO, NO, NO],
+    parts: [CT2D, NO, NO, NO, NO, NO],
 };
 
 // A3, A8, M30
 const IMM8: Row = Row {
     meaning: Meaning::Signed(1),
-    parts: [Part(13, 7), Part(36, 1), NO, NO, NO, NO],
+    parts: [IMM7B, S, NO, NO, NO, NO],
 };
 
 // A4
 const IMM14: Row = Row {
     meaning: Meaning::Signed(1),
-    parts: [Part(13, 7), Part(27, 6), Part(36, 1), NO, NO, NO],
+    parts: [IMM7B, IMM6D, S, NO, NO, NO],
 };
 
 // A5
 const IMM22: Row = Row {
     meaning: Meaning::Signed(1),
-    parts: [Part(13, 7), Part(27, 9), Part(22, 5), Part(36, 1), NO, NO],
+    parts: [IMM7B, IMM9D, IMM5C, S, NO, NO],
 };
 
 // M3, M8, M15
 const IMM9B: Row = Row {
     meaning: Meaning::Signed(1),
-    parts: [Part(13, 7), Part(27, 1), Part(36, 1), NO, NO, NO],
+    parts: [IMM7B, I, S, NO, NO, NO],
 };
 
 // M5, M10
 const IMM9A: Row = Row {
     meaning: Meaning::Signed(1),
-    parts: [Part(6, 7), Part(27, 1), Part(36, 1), NO, NO, NO],
+    parts: [IMM7A, I, S, NO, NO, NO],
 };
 
 // M17
-const INC3: Row = Row {
+const INCREMENT: Row = Row {
     meaning: Meaning::Signed(1),
-    parts: [Part(13, 3), NO, NO, NO, NO, NO],
+    parts: [INC3, NO, NO, NO, NO, NO],
 };
 
 // M20, M21
 const TARGET25B: Row = Row {
     meaning: Meaning::Signed(16),
-    parts: [Part(6, 7), Part(20, 13), Part(36, 1), NO, NO, NO],
+    parts: [IMM7A, IMM13C, S, NO, NO, NO],
 };
 
 // M22, M23, B1, B2, B3
 const TARGET25C: Row = Row {
     meaning: Meaning::Signed(16),
-    parts: [Part(13, 20), Part(36, 1), NO, NO, NO, NO],
+    parts: [IMM20B, S, NO, NO, NO, NO],
 };
 
 // F14
 const TARGET25: Row = Row {
     meaning: Meaning::Signed(16),
-    parts: [Part(6, 20), Part(36, 1), NO, NO, NO, NO],
+    parts: [IMM20A, S, NO, NO, NO, NO],
 };
 
 // M37, M48, F15, F16, B9
 const IMM21: Row = Row {
     meaning: Meaning::Unsigned(0),
-    parts: [Part(6, 20), Part(36, 1), NO, NO, NO, NO],
+    parts: [IMM20A, S, NO, NO, NO, NO],
 };
 
 // M44
 const IMM24: Row = Row {
     meaning: Meaning::Unsigned(0),
-    parts: [Part(6, 21), Part(31, 2), Part(36, 1), NO, NO, NO],
+    parts: [IMM21A, I2D, S, NO, NO, NO],
 };
 
 // X1, X5
 const IMM62: Row = Row {
     meaning: Meaning::Unsigned(0),
-    parts: [Part(6, 20), Part(36, 1), Part(L, 41), NO, NO, NO],
+    parts: [IMM20A, S, IMM41, NO, NO, NO],
 };
 
 // X2
 const IMM64: Row = Row {
     meaning: Meaning::Unsigned(0),
-    parts: [
-        Part(13, 7),
-        Part(27, 9),
-        Part(22, 5),
-        Part(21, 1),
-        Part(L, 41),
-        Part(36, 1),
-    ],
+    parts: [IMM7B, IMM9D, IMM5C, IC, IMM41, S],
 };
 
 // X3, X4
 const TARGET64: Row = Row {
     meaning: Meaning::Signed(16),
-    parts: [Part(13, 20), Part(L + 2, 39), Part(36, 1), NO, NO, NO],
+    parts: [IMM20B, IMM39, S, NO, NO, NO],
 };
 
 // The row of a form; no row where it has none.
-pub fn row_of(family: u64, number: u64) -> Row
-    ensures { λ r. ⌜ r ≡ rowOf family number ⌝ }
+pub fn row_of(form: Form) -> Row
+    ensures { λ r. ⌜ r ≡ rowOf form ⌝ }
 {
-    match family {
-        65 => row_a(number),
-        66 => row_b(number),
-        70 => row_f(number),
-        77 => row_m(number),
-        88 => row_x(number),
+    let number = form.number;
+    match form.family {
+        A => row_a(number),
+        B => row_b(number),
+        F => row_f(number),
+        M => row_m(number),
+        X => row_x(number),
         _ => NO_ROW,
     }
 }
 
 // How many bits the parts have.
 pub fn width(parts: [Part; 6]) -> u32
-    requires { ⌜ bitsOf parts ≤ 64 ⌝ }
-    ensures { λ r. ⌜ r ≡ bitsOf parts ⌝ }
+    requires { ⌜ widthOf parts ≤ 64 ⌝ }
+    ensures { λ r. ⌜ r ≡ widthOf parts ⌝ }
 {
-    let bits = parts[0].1 + parts[1].1 + parts[2].1 + parts[3].1 + parts[4].1 + parts[5].1;
+    let bits = parts[0].width + parts[1].width + parts[2].width + parts[3].width + parts[4].width + parts[5].width;
     bits as u32
 }
 
-// A forms
 fn row_a(number: u64) -> Row
-    ensures { λ r. ⌜ r ≡ select number (rowsOf 65) noRow ⌝ }
+    ensures { λ r. ⌜ r ≡ rowOf (a number) ⌝ }
 {
     match number {
         2 => COUNT2,
@@ -161,9 +196,8 @@ fn row_a(number: u64) -> Row
     }
 }
 
-// B forms
 fn row_b(number: u64) -> Row
-    ensures { λ r. ⌜ r ≡ select number (rowsOf 66) noRow ⌝ }
+    ensures { λ r. ⌜ r ≡ rowOf (b number) ⌝ }
 {
     match number {
         1 => TARGET25C,
@@ -174,9 +208,8 @@ fn row_b(number: u64) -> Row
     }
 }
 
-// F forms
 fn row_f(number: u64) -> Row
-    ensures { λ r. ⌜ r ≡ select number (rowsOf 70) noRow ⌝ }
+    ensures { λ r. ⌜ r ≡ rowOf (f number) ⌝ }
 {
     match number {
         14 => TARGET25,
@@ -186,9 +219,8 @@ fn row_f(number: u64) -> Row
     }
 }
 
-// M forms
 fn row_m(number: u64) -> Row
-    ensures { λ r. ⌜ r ≡ select number (rowsOf 77) noRow ⌝ }
+    ensures { λ r. ⌜ r ≡ rowOf (m number) ⌝ }
 {
     match number {
         3 => IMM9B,
@@ -196,7 +228,7 @@ fn row_m(number: u64) -> Row
         8 => IMM9B,
         10 => IMM9A,
         15 => IMM9B,
-        17 => INC3,
+        17 => INCREMENT,
         20 => TARGET25B,
         21 => TARGET25B,
         22 => TARGET25C,
@@ -209,9 +241,8 @@ fn row_m(number: u64) -> Row
     }
 }
 
-// X forms
 fn row_x(number: u64) -> Row
-    ensures { λ r. ⌜ r ≡ select number (rowsOf 88) noRow ⌝ }
+    ensures { λ r. ⌜ r ≡ rowOf (x number) ⌝ }
 {
     match number {
         1 => IMM62,

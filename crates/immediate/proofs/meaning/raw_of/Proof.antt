@@ -1,6 +1,7 @@
 -- `raw_of` meets its contract: each arm is the definition's case. Assumes nothing.
 use mathlib.Core.Path.{_∙_, sym, ap, subst}
-use Rattle.immediate.specs.Meaning.{Fitting, rawOf}
+use Rattle.immediate.specs.Meaning.{rawOf}
+use Rattle.immediate.specs.Sound.{Fitting}
 use Rattle.immediate.specs.declared.row.Meaning.{Meaning}
 use borrow.Author.Needs.{needs}
 use Rattle.immediate.proofs.meaning.raw_of.Statement.{statement}

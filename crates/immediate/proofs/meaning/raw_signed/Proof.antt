@@ -9,8 +9,7 @@ use Rattle.operand.specs.Kind.{ofI64}
 use Rattle.operand.specs.Pattern.{patternOf}
 use Rattle.operand.specs.declared.Operand.{Operand}
 use Rattle.operand.proofs.Kind.{kinds, but, not-i64}
-use Rattle.immediate.specs.Meaning.{rawUp, rawDown, rawSigned}
-use Rattle.immediate.specs.declared.meaning.Raw.the-variants.{Bad}
+use Rattle.immediate.specs.Meaning.{Bad, rawUp, rawDown, rawSigned}
 use Rattle.immediate.proofs.Units.{raw-by-pattern-up, raw-by-pattern-down}
 use borrow.Author.Needs.{needs}
 use Rattle.immediate.proofs.meaning.raw_signed.Statement.{statement}

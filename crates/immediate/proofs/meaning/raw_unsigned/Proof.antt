@@ -5,8 +5,7 @@ use borrow.Author.Tests.{lt-ltb, le-ltb}
 use Rattle.operand.specs.Kind.{ofU64}
 use Rattle.operand.specs.declared.Operand.{Operand}
 use Rattle.operand.proofs.Kind.{kinds, but, not-u64}
-use Rattle.immediate.specs.Meaning.{rawUnsigned}
-use Rattle.immediate.specs.declared.meaning.Raw.the-variants.{Bad}
+use Rattle.immediate.specs.Meaning.{Bad, rawUnsigned}
 use Rattle.immediate.proofs.Units.{below-top, not-below-top}
 use borrow.Author.Needs.{needs}
 use Rattle.immediate.proofs.meaning.raw_unsigned.Statement.{statement}

@@ -5,7 +5,8 @@ use mir.Facts.{toZ-ofZ}
 use Rattle.operand.specs.Pattern.{integerOf}
 use Rattle.operand.specs.declared.Operand.the-variants.{ImmI64}
 use Rattle.operand.proofs.Moved.{integer-pattern}
-use Rattle.immediate.specs.Meaning.{Fitting, UnsignedFits, SignedFits, valueOf, signedOf}
+use Rattle.immediate.specs.Meaning.{valueOf, signedOf}
+use Rattle.immediate.specs.Sound.{Fitting, UnsignedFits, SignedFits}
 use Rattle.immediate.specs.declared.row.Meaning.{Meaning}
 use Rattle.immediate.proofs.Units.{signed-fits}
 use borrow.Author.Needs.{needs}

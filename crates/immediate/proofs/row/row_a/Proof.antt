@@ -1,13 +1,15 @@
 -- `row_a` meets its contract: each arm's row is the table's for its number, and a number that no arm names has none.
 -- Assumes nothing.
 use mathlib.Core.List.{[], _∷_}
-use Rattle.table.proofs.Match.{ones, otherwise}
-use Rattle.immediate.specs.Row.{rowsOf, noRow}
+use Rattle.table.proofs.Match.{ones}
+use Rattle.form.specs.Form.{a}
+use Rattle.immediate.specs.Row.{rowOf}
+use Rattle.immediate.proofs.Named.{not-named}
 use Rattle.immediate.proofs.row.row_a.Statement.{statement}
 use Rattle.immediate.proofs.row.row_a.Tie as tie
 
 pub row-a-spec : {M : Type 1} → statement M
-unfolding rowsOf
+unfolding rowOf
 row-a-spec =
     tie.close
     (tie.spec
@@ -17,4 +19,4 @@ row-a-spec =
     (λ c. rw (c .match .keys4))
     (λ c. rw (c .match .keys5))
     (λ c. rw (c .match .keys6))
-    (λ c. otherwise (ones (10 ∷ 8 ∷ 5 ∷ 4 ∷ 3 ∷ 2 ∷ [])) _ (rowsOf 65) noRow tt (c .match .rest)))
+    (λ c. not-named (ones (10 ∷ 8 ∷ 5 ∷ 4 ∷ 3 ∷ 2 ∷ [])) (a _) tt (c .match .rest)))

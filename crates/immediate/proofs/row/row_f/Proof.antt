@@ -1,17 +1,19 @@
 -- `row_f` meets its contract: each arm's row is the table's for its number, and a number that no arm names has none.
 -- Assumes nothing.
 use mathlib.Core.List.{[], _∷_}
-use Rattle.table.proofs.Match.{ones, otherwise}
-use Rattle.immediate.specs.Row.{rowsOf, noRow}
+use Rattle.table.proofs.Match.{ones}
+use Rattle.form.specs.Form.{f}
+use Rattle.immediate.specs.Row.{rowOf}
+use Rattle.immediate.proofs.Named.{not-named}
 use Rattle.immediate.proofs.row.row_f.Statement.{statement}
 use Rattle.immediate.proofs.row.row_f.Tie as tie
 
 pub row-f-spec : {M : Type 1} → statement M
-unfolding rowsOf
+unfolding rowOf
 row-f-spec =
     tie.close
     (tie.spec
     (λ c. rw (c .match .keys1))
     (λ c. rw (c .match .keys2))
     (λ c. rw (c .match .keys3))
-    (λ c. otherwise (ones (16 ∷ 15 ∷ 14 ∷ [])) _ (rowsOf 70) noRow tt (c .match .rest)))
+    (λ c. not-named (ones (16 ∷ 15 ∷ 14 ∷ [])) (f _) tt (c .match .rest)))

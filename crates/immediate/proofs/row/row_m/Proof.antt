@@ -1,13 +1,15 @@
 -- `row_m` meets its contract: each arm's row is the table's for its number, and a number that no arm names has none.
 -- Assumes nothing.
 use mathlib.Core.List.{[], _∷_}
-use Rattle.table.proofs.Match.{ones, otherwise}
-use Rattle.immediate.specs.Row.{rowsOf, noRow}
+use Rattle.table.proofs.Match.{ones}
+use Rattle.form.specs.Form.{m}
+use Rattle.immediate.specs.Row.{rowOf}
+use Rattle.immediate.proofs.Named.{not-named}
 use Rattle.immediate.proofs.row.row_m.Statement.{statement}
 use Rattle.immediate.proofs.row.row_m.Tie as tie
 
 pub row-m-spec : {M : Type 1} → statement M
-unfolding rowsOf
+unfolding rowOf
 row-m-spec =
     tie.close
     (tie.spec
@@ -25,4 +27,4 @@ row-m-spec =
     (λ c. rw (c .match .keys12))
     (λ c. rw (c .match .keys13))
     (λ c. rw (c .match .keys14))
-    (λ c. otherwise (ones (48 ∷ 44 ∷ 37 ∷ 30 ∷ 23 ∷ 22 ∷ 21 ∷ 20 ∷ 17 ∷ 15 ∷ 10 ∷ 8 ∷ 5 ∷ 3 ∷ [])) _ (rowsOf 77) noRow tt (c .match .rest)))
+    (λ c. not-named (ones (48 ∷ 44 ∷ 37 ∷ 30 ∷ 23 ∷ 22 ∷ 21 ∷ 20 ∷ 17 ∷ 15 ∷ 10 ∷ 8 ∷ 5 ∷ 3 ∷ [])) (m _) tt (c .match .rest)))

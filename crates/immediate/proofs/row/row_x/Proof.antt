@@ -1,13 +1,15 @@
 -- `row_x` meets its contract: each arm's row is the table's for its number, and a number that no arm names has none.
 -- Assumes nothing.
 use mathlib.Core.List.{[], _∷_}
-use Rattle.table.proofs.Match.{ones, otherwise}
-use Rattle.immediate.specs.Row.{rowsOf, noRow}
+use Rattle.table.proofs.Match.{ones}
+use Rattle.form.specs.Form.{x}
+use Rattle.immediate.specs.Row.{rowOf}
+use Rattle.immediate.proofs.Named.{not-named}
 use Rattle.immediate.proofs.row.row_x.Statement.{statement}
 use Rattle.immediate.proofs.row.row_x.Tie as tie
 
 pub row-x-spec : {M : Type 1} → statement M
-unfolding rowsOf
+unfolding rowOf
 row-x-spec =
     tie.close
     (tie.spec
@@ -16,4 +18,4 @@ row-x-spec =
     (λ c. rw (c .match .keys3))
     (λ c. rw (c .match .keys4))
     (λ c. rw (c .match .keys5))
-    (λ c. otherwise (ones (5 ∷ 4 ∷ 3 ∷ 2 ∷ 1 ∷ [])) _ (rowsOf 88) noRow tt (c .match .rest)))
+    (λ c. not-named (ones (5 ∷ 4 ∷ 3 ∷ 2 ∷ 1 ∷ [])) (x _) tt (c .match .rest)))

@@ -3,17 +3,11 @@ use mathlib.Core.Path.{sym, ap}
 use mathlib.Core.Bool.{not}
 use Rattle.immediate.proofs.Kind.{some-meaning}
 use borrow.Author.Needs.{needs}
-use Rattle.immediate.proofs.opening.is_none.Statement.{statement}
-use Rattle.immediate.proofs.opening.is_none.Tie as tie
-
-enum-told : tie.Need-enum-told
-enum-told c = search needs
-
-returns : tie.Need-returns
-returns c = search needs
+use Rattle.immediate.proofs.fit.is_none.Statement.{statement}
+use Rattle.immediate.proofs.fit.is_none.Tie as tie
 
 returns-2 : tie.Need-returns-2
 returns-2 c = sym (ap not (some-meaning (c .before .args .row .meaning) (c .match .keys2)))
 
 pub is-none-spec : {M : Type 1} → statement M
-is-none-spec = tie.close (tie.spec enum-told returns returns-2)
+is-none-spec = tie.close (tie.spec (λ c. search needs) (λ c. search needs) returns-2)
