@@ -69,8 +69,11 @@ pub whole-joined : (tag a b c : ℕ) → above 64 (tag + a * 2 ^ 5 + b % 2 ^ 18 
 whole-joined tag a b c = omega arith
 
 -- a half has the tag, both have the slots
-pub tag-of-halves : (n : ℕ) → part n 0 64 % 2 ^ 5 ≡ tagOf n
-tag-of-halves n = ap (λ (x : ℕ). x % 2 ^ 5) (sym (div-one (part n 0 64))) ∙ part-part n 0 64 0 5 (lit≤ tt)
+pub tag-of-halves : (low high : ℕ) → low % 2 ^ 5 ≡ tagOf (above 64 low high)
+tag-of-halves low high = omega arith
+
+pub tag-of-whole : (n : ℕ) → tagOf (whole (halvesOf n)) ≡ tagOf n
+tag-of-whole n = ap tagOf (part-join n 0 64 64) ∙ part-part n 0 128 0 5 (lit≤ tt)
 
 pub slots-of-whole : (n : ℕ) → slotsOf (whole (halvesOf n)) ≡ slotsOf n
 slots-of-whole n =

@@ -4,4 +4,5 @@ pub mod Halves
 pub mod Inverse
 pub mod Laws
 pub mod Lies
+pub mod Seam
 pub mod Unique

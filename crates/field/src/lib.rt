@@ -14,42 +14,6 @@ pub struct Part(pub u8, pub u8);
 
 pub const L: u8 = 64;
 
-// The 64 bits of a bundle from a place on, across the halves' seam where they lie there.
-fn word_from(halves: Halves, place: u32) -> u64
-    requires { ⌜ (0 < place) × (place < 128) ⌝ }
-    ensures { λ r. ⌜ r ≡ part (whole halves) place 64 ⌝ }
-{
-    if 64 <= place {
-        halves.high >> (place - 64)
-    } else {
-        (halves.low >> place) + (halves.high << (64 - place))
-    }
-}
-
-// The bundle with a value in a part of it.
-fn put(halves: Halves, place: u32, width: u32, value: u64) -> Halves
-    requires { ⌜ (place < 128) × (width < 64) × (place + width ≤ 128) ⌝ }
-    ensures { λ r. ⌜ whole r ≡ Part·put (whole halves) place width value ⌝ }
-{
-    let low = halves.low;
-    let high = halves.high;
-    if 64 <= place {
-        let put = bits::put(high, place - 64, width, value);
-        return Halves { low, high: put };
-    }
-    if place + width <= 64 {
-        let put = bits::put(low, place, width, value);
-        return Halves { low: put, high };
-    }
-    let below = 64 - place;
-    let first = bits::put(low, place, below, value);
-    let second = bits::put(high, 0, width - below, value >> below);
-    Halves {
-        low: first,
-        high: second,
-    }
-}
-
 // Where a part of a slot stands in the bundle.
 fn stands_at(slot: u32, place: u8) -> u32
     requires { ⌜ (slot < 3) × (place < 128) ⌝ }

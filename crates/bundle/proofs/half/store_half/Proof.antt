@@ -1,4 +1,4 @@
--- `half::store` meets its contract: eight stores from the front leave just what was stored, and shifts by 8 add up.
+-- `half::store_half` meets its contract: eight stores from the front leave just what was stored, and shifts by 8 add up.
 -- Assumes nothing.
 use native.Mathlib.Nat.{div-div-eq-div-mul}
 use native.Mathlib.Omega.{arith}
@@ -7,8 +7,8 @@ use denote.Ref.{now}
 use Rattle.bundle.specs.Bytes.{bytes}
 use Rattle.bundle.proofs.Elements.{overwritten}
 use borrow.Author.Needs.{needs}
-use Rattle.bundle.proofs.half.store.Statement.{statement}
-use Rattle.bundle.proofs.half.store.Tie as tie
+use Rattle.bundle.proofs.half.store_half.Statement.{statement}
+use Rattle.bundle.proofs.half.store_half.Tie as tie
 
 cast-half : tie.Need-cast-half
 cast-half c = search needs
@@ -65,8 +65,8 @@ returns : tie.Need-returns
 unfolding bytes
 returns c = simp div-div-eq-div-mul (overwritten (now (c .args .half)) _ (c .pre))
 
-pub store-spec : {M : Type 1} → statement M
-store-spec =
+pub store-half-spec : {M : Type 1} → statement M
+store-half-spec =
     tie.close
     (tie.spec
     cast-half

@@ -1,4 +1,4 @@
--- `half::load` meets its contract: the bytes are below 256, so no shift loses a bit, and eight bytes are their list.
+-- `half::load_half` meets its contract: the bytes are below 256, so no shift loses a bit, and eight bytes are their list.
 -- Assumes nothing.
 use mathlib.Core.Path.{ap}
 use native.Mathlib.Omega.{arith}
@@ -6,8 +6,8 @@ use denote.Ref.{now}
 use Rattle.bundle.specs.Bytes.{number}
 use Rattle.bundle.proofs.Elements.{listed}
 use borrow.Author.Needs.{needs}
-use Rattle.bundle.proofs.half.load.Statement.{statement}
-use Rattle.bundle.proofs.half.load.Tie as tie
+use Rattle.bundle.proofs.half.load_half.Statement.{statement}
+use Rattle.bundle.proofs.half.load_half.Tie as tie
 
 shared-slice-read-wide : tie.Need-shared-slice-read-wide
 shared-slice-read-wide c = search needs
@@ -84,8 +84,8 @@ returns c =
     let start = c .before .before .before .before .before .before .before .before .before .before .before .before .before .before .before .before .before in
     omega (arith, ap number (listed (now (start .args .half)) 0 8 (start .pre)))
 
-pub load-spec : {M : Type 1} → statement M
-load-spec =
+pub load-half-spec : {M : Type 1} → statement M
+load-half-spec =
     tie.close
     (tie.spec
     shared-slice-read-wide

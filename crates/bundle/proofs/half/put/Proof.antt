@@ -1,13 +1,13 @@
--- `put` meets its contract: a part lies in one half, or is written in two steps. Assumes nothing.
+-- `half::put` meets its contract: a part lies in one half, or is written in two steps. Assumes nothing.
 use mathlib.Core.Path.{_≡_, _∙_, ap, ap₂}
 use Prim.Native.Nat.{ℕ, _+_, _-_, _≤_, _<_, _^_}
 use native.Mathlib.Omega.{arith}
 use Rattle.bits.specs.Part.{above}
 use Rattle.bits.proofs.Laws.{put-lt}
-use Rattle.field.proofs.Laws.{set-high, set-low, set-seam}
+use Rattle.bundle.proofs.Seam.{put-in-high, put-in-low, put-across}
 use borrow.Author.Needs.{needs}
-use Rattle.field.proofs.put.Statement.{statement}
-use Rattle.field.proofs.put.Tie as tie
+use Rattle.bundle.proofs.half.put.Statement.{statement}
+use Rattle.bundle.proofs.half.put.Tie as tie
 
 put-requires : tie.Need-put-requires
 put-requires c κs = search needs
@@ -17,7 +17,7 @@ returns c =
     let start = c .before .before in
     let a = start .args in
     let l : a .halves .low < 2 ^ 64 = omega (arith, start) in
-    ap (above 64 (a .halves .low)) (c .put .ensures) ∙ set-high (a .halves .low) (a .halves .high) (a .place) (a .width) l (a .value) (c .before .if1 .taken)
+    ap (above 64 (a .halves .low)) (c .put .ensures) ∙ put-in-high (a .halves .low) (a .halves .high) (a .place) (a .width) l (a .value) (c .before .if1 .taken)
 
 add-if2 : tie.Need-add-if2
 add-if2 c = search needs
@@ -30,7 +30,7 @@ returns-2 c =
     let start = c .before .before .before in
     let a = start .args in
     let l : a .halves .low < 2 ^ 64 = omega (arith, start) in
-    ap (λ (x : ℕ). above 64 x (a .halves .high)) (c .put2 .ensures) ∙ set-low (a .halves .low) (a .halves .high) (a .place) (a .width) l (a .value) (c .before .if2 .taken)
+    ap (λ (x : ℕ). above 64 x (a .halves .high)) (c .put2 .ensures) ∙ put-in-low (a .halves .low) (a .halves .high) (a .place) (a .width) l (a .value) (c .before .if2 .taken)
 
 sub-below : tie.Need-sub-below
 sub-below c = search needs
@@ -60,7 +60,7 @@ returns-3 c =
     let less : below ≤ a .width = omega arith in
     let fits : a .place + below ≤ 64 = omega arith in
     ap₂ (above 64) (c .before .put3 .ensures) (c .put4 .ensures)
-    ∙ set-seam (a .halves .low) (a .halves .high) (a .place) (a .width) l (a .value) below seam less (put-lt (a .halves .low) (a .place) below (a .value) 64 fits l)
+    ∙ put-across (a .halves .low) (a .halves .high) (a .place) (a .width) l (a .value) below seam less (put-lt (a .halves .low) (a .place) below (a .value) 64 fits l)
 
 pub put-spec : {M : Type 1} → statement M
 put-spec =

@@ -11,16 +11,16 @@ use Rattle.bits.proofs.Seam.{put-low, put-high, put-split}
 use Rattle.bits.proofs.Shift.{shl-low}
 
 module _ (low high place : ℕ) (l : low < 2 ^ 64) where
-  pub word-high : high < 2 ^ 64 → 64 ≤ place → high / 2 ^ (place - 64) ≡ part (above 64 low high) place 64
-  word-high h g =
+  pub bits-high : high < 2 ^ 64 → 64 ≤ place → high / 2 ^ (place - 64) ≡ part (above 64 low high) place 64
+  bits-high h g =
       let e : 64 + (place - 64) ≡ place = omega arith in
       let wide : 64 ≤ 64 + (place - 64) = omega arith in
       sym (part-top high (place - 64) 64 (lt-of-lt-of-le h (pow-mono wide)))
       ∙ sym (above-high 64 low high l (place - 64) 64)
       ∙ ap (λ (p : ℕ). part (above 64 low high) p 64) e
 
-  pub word-seam : place ≤ 64 → low / 2 ^ place + (high * 2 ^ (64 - place)) % 2 ^ 64 ≡ part (above 64 low high) place 64
-  word-seam h =
+  pub bits-seam : place ≤ 64 → low / 2 ^ place + (high * 2 ^ (64 - place)) % 2 ^ 64 ≡ part (above 64 low high) place 64
+  bits-seam h =
       let n = above 64 low high in
       let below = 64 - place in
       let s : place + below ≡ 64 = omega arith in
@@ -35,17 +35,17 @@ module _ (low high place : ℕ) (l : low < 2 ^ 64) where
       ∙ ap (part n place) t
 
 module _ (low high place width : ℕ) (l : low < 2 ^ 64) where
-  pub set-high : (v : ℕ) → 64 ≤ place → above 64 low (put high (place - 64) width v) ≡ put (above 64 low high) place width v
-  set-high v h =
+  pub put-in-high : (v : ℕ) → 64 ≤ place → above 64 low (put high (place - 64) width v) ≡ put (above 64 low high) place width v
+  put-in-high v h =
       let e : 64 + (place - 64) ≡ place = omega arith in
       put-high 64 low high (place - 64) width v l ∙ ap (λ (p : ℕ). put (above 64 low high) p width v) e
 
-  pub set-low : (v : ℕ) → place + width ≤ 64 → above 64 (put low place width v) high ≡ put (above 64 low high) place width v
-  set-low v h = put-low 64 low high place width v l h
+  pub put-in-low : (v : ℕ) → place + width ≤ 64 → above 64 (put low place width v) high ≡ put (above 64 low high) place width v
+  put-in-low v h = put-low 64 low high place width v l h
 
-  pub set-seam : (v below : ℕ) → place + below ≡ 64 → below ≤ width → put low place below v < 2 ^ 64
+  pub put-across : (v below : ℕ) → place + below ≡ 64 → below ≤ width → put low place below v < 2 ^ 64
       → above 64 (put low place below v) (put high 0 (width - below) (v / 2 ^ below)) ≡ put (above 64 low high) place width v
-  set-seam v below s h f =
+  put-across v below s h f =
       let n = above 64 low high in
       let e : below + (width - below) ≡ width = omega arith in
       let fits : place + below ≤ 64 = omega arith in

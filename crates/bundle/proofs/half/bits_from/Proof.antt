@@ -1,4 +1,4 @@
--- `word_from` meets its contract: what lies past the seam is shifted down, and before it the low half's rest has the high half's bits
+-- `half::bits_from` meets its contract: what lies past the seam is shifted down, and before it the low half's rest has the high half's bits
 -- above it. Assumes nothing.
 use mathlib.Core.Path.{_≡_, sym, subst}
 use Prim.Native.Nat.{ℕ, _+_, _-_, _*_, _/_, _%_, _≤_, _<_, _^_}
@@ -6,11 +6,11 @@ use native.Mathlib.Omega.{arith}
 use mir.Facts.{fits-of-lt}
 use Rattle.bits.specs.Part.{part}
 use Rattle.bits.proofs.Laws.{part-lt}
 use Rattle.bundle.specs.Bundle.{whole}
-use Rattle.field.proofs.Laws.{word-high, word-seam}
+use Rattle.bundle.proofs.Seam.{bits-high, bits-seam}
 use borrow.Author.Needs.{needs}
-use Rattle.field.proofs.word_from.Statement.{statement}
-use Rattle.field.proofs.word_from.Tie as tie
+use Rattle.bundle.proofs.half.bits_from.Statement.{statement}
+use Rattle.bundle.proofs.half.bits_from.Tie as tie
 
 cast-result : tie.Need-cast-result
 cast-result c = search needs
@@ -39,7 +39,7 @@ across c =
     let a = start .args in
     let l : a .halves .low < 2 ^ 64 = omega (arith, start) in
     let low : a .place ≤ 64 = omega arith in
-    word-seam (a .halves .low) (a .halves .high) (a .place) l low
+    bits-seam (a .halves .low) (a .halves .high) (a .place) l low
 
 returns-2 : tie.Need-returns-2
 returns-2 c = across c
@@ -55,10 +55,10 @@ returns c =
     let a = start .args in
     let l : a .halves .low < 2 ^ 64 = omega (arith, start) in
     let h : a .halves .high < 2 ^ 64 = omega (arith, start) in
-    word-high (a .halves .low) (a .halves .high) (a .place) l h (c .before .if1 .taken)
+    bits-high (a .halves .low) (a .halves .high) (a .place) l h (c .before .if1 .taken)
 
-pub word-from-spec : {M : Type 1} → statement M
-word-from-spec =
+pub bits-from-spec : {M : Type 1} → statement M
+bits-from-spec =
     tie.close
     (tie.spec
     cast-result
