@@ -12,13 +12,14 @@ use Rattle.bundle.specs.Template.{L, X}
 use Rattle.bundle.specs.Bundle.{tagOf, slotOf}
 use Rattle.form.specs.Form.{A}
 use Rattle.form.specs.declared.Form.{Form}
-use Rattle.parts.specs.Place.{placed}
+use Rattle.parts.specs.Placed.{placed}
 use Rattle.parts.proofs.Placed.{word, words-apart, elsewhere, other-words}
-use Rattle.immediate.specs.Row.{rowOf}
-use Rattle.immediate.specs.Immediate.{isNone, fits, unitAt, withRaw}
-use Rattle.immediate.specs.declared.row.Row.{Row}
+use Rattle.row.specs.Row.{isNone, rowOf}
+use Rattle.immediate.specs.Immediate.{fits, unitAt, withRaw}
+use Rattle.row.specs.declared.Row.{Row}
 use Rattle.immediate.proofs.Laws.{Stands}
-use Rattle.immediate.proofs.Rows.{good, row-good, in-words, x-in-2, x-unit, x-beside-l}
+use Rattle.row.proofs.Rows.{good, row-good}
+use Rattle.immediate.proofs.Sound.{in-words, x-in-2, x-unit, x-beside-l}
 use Rattle.immediate.proofs.Written.{written-comm}
 
 -- another slot stays, and the L slot where the form isn't an X form

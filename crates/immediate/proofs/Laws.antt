@@ -10,11 +10,12 @@ use Rattle.bundle.specs.Bundle.{tagOf, bundleRefusals}
 use Rattle.bundle.proofs.Laws.{or-false}
 use Rattle.form.specs.declared.Form.{Form}
 use Rattle.form.specs.declared.Edit.{Edit}
-use Rattle.immediate.specs.Row.{rowOf}
+use Rattle.row.specs.Row.{isNone, rowOf}
 use Rattle.immediate.specs.Sound.{Sound}
-use Rattle.immediate.specs.Immediate.{isNone, fits, unitAt, readRefusals, rawFor, changeRefusals}
-use Rattle.immediate.specs.declared.row.Row.{Row}
-use Rattle.immediate.proofs.Rows.{good, row-good, sound}
+use Rattle.immediate.specs.Immediate.{fits, unitAt, readRefusals, rawFor, changeRefusals}
+use Rattle.row.specs.declared.Row.{Row}
+use Rattle.row.proofs.Rows.{good, row-good}
+use Rattle.immediate.proofs.Sound.{sound}
 
 -- the row is one, and the form fits the slot
 pub record Stands (n slot : ℕ) (form : Form) (row : Row) : Type 0 where

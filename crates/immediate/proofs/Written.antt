@@ -5,25 +5,27 @@ use Prim.Native.Nat.{ℕ, _%_, _<_, _^_}
 use native.Mathlib.Nat.{mod-eq-of-lt}
 use borrow.Author.Tests.{not-false}
 use lib.Dec.{T, lit≤}
+use mir.Facts.{and-yes}
 use Rattle.bits.specs.Part.{bit}
 use Rattle.bits.specs.Parts.{gather, apart, apartFrom, meetNot}
 use Rattle.bits.proofs.Parts.{gather-scatter, scatter-gather, scatter-scatter, scatter-comm, scatter-lt, part-scatter, scatter-bit}
 use Rattle.bundle.specs.Bundle.{tagOf}
-use Rattle.parts.specs.Place.{placed, widthOf}
+use Rattle.parts.specs.Placed.{placed, widthOf}
 use Rattle.parts.proofs.Placed.{past-tag, within-bundle}
-use Rattle.parts.proofs.Steps.{width-placed, gathered-lt}
+use Rattle.parts.proofs.Steps.{widths-placed, gathered-lt}
 use Rattle.operand.specs.declared.Operand.{Operand}
-use Rattle.immediate.specs.Meaning.{Is, valueOf, rawOf}
+use Rattle.row.specs.Meaning.{Is, valueOf, rawOf}
 use Rattle.immediate.specs.Sound.{Sound}
-use Rattle.immediate.specs.Immediate.{isNone, means, valueIn, withRaw}
-use Rattle.immediate.specs.declared.row.Row.{Row}
-use Rattle.immediate.specs.declared.meaning.Raw.{Raw}
-use Rattle.immediate.proofs.Inverse.{raw-of-value, value-of-raw}
+use Rattle.row.specs.Row.{isNone, means}
+use Rattle.immediate.specs.Immediate.{valueIn, withRaw}
+use Rattle.row.specs.declared.Row.{Row}
+use Rattle.row.specs.declared.value.Raw.{Raw}
+use Rattle.row.proofs.Inverse.{raw-of-value, value-of-raw}
 
 module _ (slot : ℕ) (row : Row) (s : Sound slot row) (n : ℕ) where
   -- the raw number that was written is read
   pub gather-written : (raw : ℕ) → raw < 2 ^ widthOf (row .parts) → gather (withRaw row slot n raw) (placed slot (row .parts)) ≡ raw
-  gather-written raw h = gather-scatter n (placed slot (row .parts)) raw (s .apart) ∙ ap (λ (k : ℕ). raw % 2 ^ k) (width-placed slot (row .parts)) ∙ mod-eq-of-lt h
+  gather-written raw h = gather-scatter n (placed slot (row .parts)) raw (s .apart) ∙ ap (λ (k : ℕ). raw % 2 ^ k) (widths-placed slot (row .parts)) ∙ mod-eq-of-lt h
 
   -- reading after writing gives the value
   pub read-written : (raw : ℕ) (v : Operand) → rawOf (row .meaning) (widthOf (row .parts)) v ≡ Is raw → valueIn row slot (withRaw row slot n raw) ≡ v
@@ -49,7 +51,7 @@ module _ (slot : ℕ) (row : Row) (s : Sound slot row) (n : ℕ) where
 
   -- a bundle's number stays one
   pub written-lt : (raw : ℕ) → n < 2 ^ 128 → withRaw row slot n raw < 2 ^ 128
-  written-lt raw h = scatter-lt 128 n (placed slot (row .parts)) raw (within-bundle slot (row .parts) (s .reads)) h
+  written-lt raw h = scatter-lt 128 n (placed slot (row .parts)) raw (within-bundle slot (row .parts) (s .in-bundle) (and-yes _ _ (s .reads) .0)) h
 
 module _ (slot : ℕ) (row : Row) (n raw : ℕ) where
   -- no bit outside the row's parts changes

@@ -9,32 +9,21 @@ use lib.ListN.{getD}
 use Rattle.answer.specs.Answer.{Refusal, first, outcome, accepted, badForm, badSlot, badValue}
 use Rattle.bits.specs.Parts.{gather, scatter}
 use Rattle.bundle.specs.Template.{M, I, unitsOf}
-use Rattle.bundle.specs.Bundle.{numberAt, tagOf, foundOf, bundleRefusals, halvesOf}
+use Rattle.bundle.specs.Bundle.{numberAt, tagOf, findAnswer, bundleRefusals, halvesOf}
 use Rattle.form.specs.Form.{A}
 use Rattle.form.specs.declared.Form.{Form}
 use Rattle.form.specs.declared.Edit.{Edit}
-use Rattle.parts.specs.Place.{placed, widthOf}
+use Rattle.parts.specs.Placed.{placed, widthOf}
 use Rattle.operand.specs.Pattern.{patternOf}
 use Rattle.operand.specs.declared.Operand.{Operand}
 use Rattle.operand.specs.declared.Operand.the-variants.{None as NoOperand}
-use Rattle.immediate.specs.Row.{rowOf, noRow}
-use Rattle.immediate.specs.Meaning.{valueOf, signedOf, rawOf}
-use Rattle.immediate.specs.declared.row.Meaning.{Meaning}
-use Rattle.immediate.specs.declared.row.Meaning.the-variants.{None, Unsigned, Signed}
-use Rattle.immediate.specs.declared.row.Row.{Row}
-use Rattle.immediate.specs.declared.meaning.Raw.{Raw}
+use Rattle.row.specs.Row.{isNone, rowOf, targetRowOf}
+use Rattle.row.specs.Meaning.{valueOf, signedOf, rawOf}
+use Rattle.row.specs.declared.Row.{Row}
+use Rattle.row.specs.declared.value.Raw.{Raw}
 use Rattle.immediate.specs.declared.outcome.Immediate.{Immediate}
 use Rattle.immediate.specs.declared.outcome.Target.{Target}
 use Rattle.immediate.specs.declared.outcome.Changed.{Changed}
-
--- no row
-abbrev pub means : Meaning → Bool
-means None = false
-means (Unsigned plus) = true
-means (Signed unit) = true
-
-abbrev pub isNone : Row → Bool
-isNone row = not (means (row .meaning))
 
 -- a form fits a slot of its family's unit; an A form one of I or M
 abbrev pub fits : Form → ℕ → Bool
@@ -72,7 +61,7 @@ immediateIn n slot form =
 
 -- what `immediate` hands back: refused as `find` is, and then as the bundle's reading
 unfoldable pub immediateOf : List ℕ → ℕ → ℕ → Form → Immediate
-immediateOf code k slot form = outcome (foundOf code k) (immediateIn (numberAt code k) slot form) (noImmediate (foundOf code k))
+immediateOf code k slot form = outcome (findAnswer code k) (immediateIn (numberAt code k) slot form) (noImmediate (findAnswer code k))
 
 -- the raw number that a row has for a value, or refusal 6
 abbrev pub rawFor : Row → Operand → Raw
@@ -105,17 +94,7 @@ changedOf n e =
     let answer = first (changeRefusals n e) in
     outcome answer (record { answer = accepted; bundle = halvesOf (changedNumber n e) }) (noChange answer)
 
--- the row, where its values are times 16 with a sign
-abbrev pub onlyTimes16 : Meaning → Row → Row
-onlyTimes16 None row = noRow
-onlyTimes16 (Unsigned plus) row = noRow
-onlyTimes16 (Signed unit) row = cond (eqb unit 16) row noRow
-
--- the row of a form that has a target
-abbrev pub targetRowOf : Form → Row
-targetRowOf form = onlyTimes16 (rowOf form .meaning) (rowOf form)
-
--- the displacement that such a row reads
+-- the displacement that a row of a target reads
 abbrev pub displacementIn : Row → ℕ → ℕ → ℤ
 displacementIn row slot n = signedOf 16 (widthOf (row .parts)) (gather n (placed slot (row .parts)))
 
@@ -137,4 +116,4 @@ targetIn n slot form address =
 
 -- what `target` hands back: refused as `find` is, and then as the bundle's target
 unfoldable pub targetOf : List ℕ → ℕ → ℕ → Form → ℕ → Target
-targetOf code k slot form address = outcome (foundOf code k) (targetIn (numberAt code k) slot form address) (noTarget (foundOf code k))
+targetOf code k slot form address = outcome (findAnswer code k) (targetIn (numberAt code k) slot form address) (noTarget (findAnswer code k))

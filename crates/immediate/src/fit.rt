@@ -2,10 +2,8 @@
 ghost use mathlib.Core.Path.{_≡_};
 ghost use Rattle.answer.specs.Answer.{first};
 ghost use Rattle.bundle.specs.Bundle.{whole};
-ghost use Rattle.immediate.specs.Immediate.{isNone, readRefusals};
+ghost use Rattle.immediate.specs.Immediate.{readRefusals};
 ghost use Rattle.immediate.specs.Immediate.{fits as Immediate·fits};
-use crate::row::Meaning;
-use crate::row::Row;
 use answer::ACCEPTED;
 use answer::BAD_BUNDLE;
 use answer::BAD_FORM;
@@ -13,17 +11,18 @@ use answer::BAD_SLOT;
 use bundle::Halves;
 use form::A;
 use form::Form;
+use row::Row;
 
 // What reading a form's row in a slot answers.
 pub fn read_answer(bundle: Halves, slot: u64, form: Form, row: Row) -> u8
     ensures { λ r. ⌜ r ≡ first (readRefusals (whole bundle) slot form row) ⌝ }
 {
-    let template = bundle::template(bundle);
+    let template = bundle::template_of(bundle);
     let units = template.units;
-    if units[0] == 0 {
+    if bundle::unitless(units) {
         return BAD_BUNDLE;
     }
-    if is_none(row) {
+    if row::is_none(row) {
         return BAD_FORM;
     }
     if 2 < slot {
@@ -33,16 +32,6 @@ pub fn read_answer(bundle: Halves, slot: u64, form: Form, row: Row) -> u8
         return BAD_SLOT;
     }
     ACCEPTED
-}
-
-fn is_none(row: Row) -> bool
-    ensures { λ r. ⌜ r ≡ isNone row ⌝ }
-{
-    let meaning = row.meaning;
-    match meaning {
-        Meaning::None => true,
-        _ => false,
-    }
 }
 
 // A form fits a slot of its family's unit; an A form one of I or M.

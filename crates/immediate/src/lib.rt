@@ -1,8 +1,6 @@
 // The immediates of a bundle's forms, read and changed by the manual, and the targets that they make.
 mod fit;
-mod meaning;
 mod outcome;
-mod row;
 
 pub use outcome::Changed;
 pub use outcome::Immediate;
@@ -10,7 +8,7 @@ pub use outcome::Target;
 ghost use mathlib.Core.Path.{_≡_};
 ghost use Rattle.bundle.specs.Bundle.{whole};
 ghost use Rattle.operand.specs.Pattern.{patternOf};
-ghost use Rattle.immediate.specs.Immediate.{valueIn, noImmediate, immediateIn, immediateOf, noChange, changedOf, onlyTimes16, displacementIn, noTarget, targetIn, targetOf};
+ghost use Rattle.immediate.specs.Immediate.{valueIn, noImmediate, immediateIn, immediateOf, noChange, changedOf, displacementIn, noTarget, targetIn, targetOf};
 ghost use Rattle.immediate.specs.Sound.{Sound};
 use answer::ACCEPTED;
 use answer::BAD_VALUE;
@@ -62,7 +60,7 @@ fn value_in(row: Row, slot: u32, bundle: Halves) -> Operand
 {
     let meaning = row.meaning;
     let parts = row.parts;
-    meaning::value_of(
+    row::value_of(
         meaning,
         row::width(parts),
         parts::gather(bundle, slot, parts),
@@ -82,7 +80,7 @@ pub fn change(bundle: Halves, edit: Edit) -> Changed
     }
     let meaning = row.meaning;
     let parts = row.parts;
-    let raw = meaning::raw_of(meaning, row::width(parts), value);
+    let raw = row::raw_of(meaning, row::width(parts), value);
     let refusal = raw.answer;
     if refusal != ACCEPTED {
         return unchanged(refusal);
@@ -123,7 +121,7 @@ fn no_target(answer: u8) -> Target
 fn target_in(bundle: Halves, slot: u64, form: Form, address: u64) -> Target
     ensures { λ r. ⌜ r ≡ targetIn (whole bundle) slot form address ⌝ }
 {
-    let row = only_times16(row::row_of(form));
+    let row = row::only_times16(row::row_of(form));
     let answer = fit::read_answer(bundle, slot, form, row);
     if answer != ACCEPTED {
         return no_target(answer);
@@ -144,16 +142,5 @@ fn displacement_in(row: Row, slot: u32, bundle: Halves) -> u64
     ensures { λ r. ⌜ r ≡ patternOf (displacementIn row slot (whole bundle)) ⌝ }
 {
     let parts = row.parts;
-    meaning::displacement(16, row::width(parts), parts::gather(bundle, slot, parts))
-}
-
-// A row whose values are times 16, with a sign; no row where they are not.
-fn only_times16(row: Row) -> Row
-    ensures { λ r. ⌜ r ≡ onlyTimes16 (row .meaning) row ⌝ }
-{
-    let meaning = row.meaning;
-    match meaning {
-        Meaning::Signed(unit) => if unit == 16 { row } else { row::NO_ROW },
-        _ => row::NO_ROW,
-    }
+    row::displacement(16, row::width(parts), parts::gather(bundle, slot, parts))
 }

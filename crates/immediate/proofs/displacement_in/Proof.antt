@@ -2,12 +2,12 @@
 use mathlib.Core.Path.{_∙_, ap₂, subst}
 use Prim.Native.Nat.{ℕ}
 use Rattle.bundle.specs.Bundle.{whole}
-use Rattle.parts.specs.Place.{widthOf}
+use Rattle.parts.specs.Placed.{widthOf}
 use Rattle.parts.proofs.Steps.{gathered-lt}
 use Rattle.operand.specs.Pattern.{patternOf}
-use Rattle.immediate.specs.Meaning.{signedOf}
-use Rattle.immediate.specs.Sound.{Fitting}
-use Rattle.immediate.specs.declared.row.Meaning.{Meaning}
+use Rattle.row.specs.Meaning.{signedOf}
+use Rattle.row.specs.Fits.{Fitting}
+use Rattle.row.specs.declared.Meaning.{Meaning}
 use borrow.Author.Needs.{needs}
 use Rattle.immediate.proofs.displacement_in.Statement.{statement}
 use Rattle.immediate.proofs.displacement_in.Tie as tie
