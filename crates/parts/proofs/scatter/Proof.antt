@@ -10,10 +10,11 @@ use lib.ListN.{length, getD, drop, drop-of-length-le}
 use Rattle.bits.specs.Part.{put}
 use Rattle.bits.specs.Parts.{scatter}
 use Rattle.bundle.specs.Bundle.{whole}
-use Rattle.field.specs.Field.{placed}
-use Rattle.field.proofs.Steps.{Reads, reads, scatter-step, scatter-skip}
-use Rattle.field.proofs.scatter.Statement.{statement}
-use Rattle.field.proofs.scatter.Tie as tie
+use Rattle.parts.specs.Placed.{noPart, placed}
+use Rattle.parts.proofs.Placed.{ends}
+use Rattle.parts.proofs.Steps.{Reads, reads, scatter-step, scatter-skip}
+use Rattle.parts.proofs.scatter.Statement.{statement}
+use Rattle.parts.proofs.scatter.Tie as tie
 
 abbrev Inv-loop : tie.InvT-loop
 Inv-loop slot raw parts bundle₀ rest₀ i₀ bundle rest i = (i ≤ 6) × (scatter (whole bundle₀) (placed slot parts) rest₀ ≡ scatter (whole bundle) (placed slot (drop i parts)) rest)
@@ -29,8 +30,8 @@ module _ (c : tie.In-loop Inv-loop μ-loop) where
   before : c .before .loop .i < length (c .before .before .args .t3)
   before = let six = six (c .before .before) in omega arith
 
-  can-read : Reads (c .before .before .args .slot) (getD (c .before .before .args .t3) (c .before .loop .i) (0, 0)) (drop (suc (c .before .loop .i)) (c .before .before .args .t3))
-  can-read = reads (c .before .before .args .slot) (c .before .before .args .t3) (c .before .loop .i) before (c .before .before .pre .1)
+  can-read : Reads (getD (c .before .before .args .t3) (c .before .loop .i) noPart) (drop (suc (c .before .loop .i)) (c .before .before .args .t3))
+  can-read = reads (c .before .before .args .t3) (c .before .loop .i) before (c .before .before .pre .1)
 
 loop-holds : tie.Need-loop-holds Inv-loop μ-loop
 loop-holds c = search needs
@@ -50,11 +51,13 @@ mul-stands-at c = search needs
 element-copy-out-stands-at : tie.Need-element-copy-out-stands-at Inv-loop μ-loop
 element-copy-out-stands-at c = search needs
 
-stands-at-requires : tie.Need-stands-at-requires Inv-loop μ-loop
-stands-at-requires c κs = (c .before .before .before .pre .0, can-read (c .before) .place-fits)
-
 put-requires : tie.Need-put-requires Inv-loop μ-loop
-put-requires c κs = let r = can-read (c .before .before) in rw (c .stands-at .ensures) (r .stands, r .width-fits, r .ends)
+put-requires c κs =
+    let l = c .before .before .before in
+    let p = getD (l .before .args .t3) (l .loop .i) noPart in
+    let r = can-read (c .before .before) in
+    let end = ends (l .before .args .slot) p (l .before .pre .0) (r .in-word) in
+    rw (c .stands-at .ensures) (omega (arith, c .before .if1 .taken), r .width-fits, end)
 
 cast-rest : tie.Need-cast-rest Inv-loop μ-loop
 cast-rest c = let r = can-read (c .before .before .before) in omega arith
@@ -78,16 +81,16 @@ turned c =
     let t = c .before in
     let l = t .before in
     let a = l .before .args in
-    let p = getD (a .t3) (l .loop .i) (0, 0) in
+    let p = getD (a .t3) (l .loop .i) noPart in
     let n = whole (l .loop .bundle) in
     let after = placed (a .slot) (drop (suc (l .loop .i)) (a .t3)) in
     ⊎-elim
     (λ w.
-    let put-is = w .2 .ensures ∙ ap (λ (x : ℕ). put n x (p .1) (l .loop .rest)) (w .1 .ensures) in
+    let put-is = w .2 .ensures ∙ ap (λ (x : ℕ). put n x (p .width) (l .loop .rest)) (w .1 .ensures) in
     scatter-step n (a .slot) (a .t3) (l .loop .i) (before t) (l .loop .rest)
     ∙ ap₂ (λ (m v : ℕ). scatter m after v) (sym put-is ∙ ap whole (sym (w .3))) (sym (w .4)))
     (λ w.
-    let none : p .1 ≡ 0 = omega (arith, w .0 .left) in
+    let none : p .width ≡ 0 = omega (arith, w .0 .left) in
     scatter-skip n (a .slot) (a .t3) (l .loop .i) (before t) none (l .loop .rest)
     ∙ ap₂ (λ (m v : ℕ). scatter m after v) (ap whole (sym (w .1))) (sym (w .2)))
     (c .if1 .came)
@@ -122,7 +125,7 @@ scatter-spec =
     cast-width
     mul-stands-at
     element-copy-out-stands-at
-    stands-at-requires
+    (λ c κs. search needs)
     put-requires
     cast-rest
     shr-rest

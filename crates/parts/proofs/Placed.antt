@@ -4,21 +4,21 @@ use mathlib.Core.Path.{_≡_, refl}
 use mathlib.Core.Bool.{Bool, true, false, cond, _&&_}
 use mathlib.Core.List.{List, [], _∷_}
 use mathlib.Core.Logic.{inl, inr}
-use Prim.Native.Nat.{ℕ, _+_, _-_, _*_, _≤_}
+use Prim.Native.Nat.{ℕ, _+_, _-_, _*_, _≤_, _<_}
 use native.Mathlib.Nat.{le-trans, le-refl}
 use native.Mathlib.Decide.{decLt}
 use native.Mathlib.Omega.{arith}
 use borrow.Author.Tests.{ltb-false}
-use lib.Dec.{T, ltb, leb, leb→le}
+use lib.Dec.{T, ltb, leb, leb→le, le→leb}
 use mir.Facts.{and-yes, yes-and}
 use Rattle.bits.specs.Parts.{apart, apartFrom, meetNot, within}
 use Rattle.bits.proofs.Parts.{sides-apart, apart-within}
-use Rattle.field.specs.Field.{standsAt, placed, bitsOf, inBundle, readable}
-use Rattle.field.specs.declared.Part.{Part}
+use Rattle.parts.specs.Placed.{standsAt, placed, inWord, inWords}
+use Rattle.parts.specs.declared.Part.{Part}
 
 -- where a part stands
 abbrev at : ℕ → Part → ℕ × ℕ
-at slot p = (standsAt slot (p .0), p .1)
+at slot p = (standsAt slot (p .place), p .width)
 
 -- no part meets the tag
 pub stands-past : (slot place : ℕ) → 5 ≤ standsAt slot place
@@ -31,24 +31,7 @@ stands-past slot place = by-word (ltb place 64)
 pub past-tag : (slot : ℕ) (ps : List Part) (q : ℕ × ℕ) → q .0 + q .1 ≤ 5 → T (apartFrom q (placed slot ps))
 past-tag slot [] q h = tt
 past-tag slot (p ∷ ps) q h =
-    yes-and (apart q (at slot p)) (apartFrom q (placed slot ps)) (sides-apart q (at slot p) (inl (le-trans h (stands-past slot (p .0))))) (past-tag slot ps q h)
-
--- parts that can be read lie in the bundle
-pub within-bundle : (slot : ℕ) (ps : List Part) → T (readable slot ps) → T (within 128 (placed slot ps))
-within-bundle slot [] t = tt
-within-bundle slot (p ∷ ps) t =
-    let a = and-yes (inBundle slot p && leb (p .1 + bitsOf ps) 64) (readable slot ps) t in
-    let b = and-yes (inBundle slot p) (leb (p .1 + bitsOf ps) 64) (a .0) in
-    let c = and-yes (ltb (p .0) 128 && ltb (p .1) 64 && ltb (standsAt slot (p .0)) 128) (leb (standsAt slot (p .0) + p .1) 128) (b .0) in
-    yes-and (leb (standsAt slot (p .0) + p .1) 128) (within 128 (placed slot ps)) (c .1) (within-bundle slot ps (a .1))
-
--- a part lies in the 41 bits of its slot, or, of a long form, in those of the L slot
-abbrev pub inWord : Bool → Part → Bool
-inWord long p = cond (ltb (p .0) 64) (leb (p .0 + p .1) 41) (long && leb (p .0 + p .1) (64 + 41))
-
-abbrev pub inWords : Bool → List Part → Bool
-inWords long [] = true
-inWords long (p ∷ ps) = inWord long p && inWords long ps
+    yes-and (apart q (at slot p)) (apartFrom q (placed slot ps)) (sides-apart q (at slot p) (inl (le-trans h (stands-past slot (p .place))))) (past-tag slot ps q h)
 
 -- the bits of slot j
 abbrev pub word : ℕ → ℕ × ℕ
@@ -65,16 +48,37 @@ data Lies (long : Bool) (slot : ℕ) (q : ℕ × ℕ) : Type 0 where
   far : T long → 46 ≤ q .0 → q .0 + q .1 ≤ 46 + 41 → Lies long slot q
 
 lies : (long : Bool) (slot : ℕ) (p : Part) → T (inWord long p) → Lies long slot (at slot p)
-lies long slot p t = by-word (ltb (p .0) 64) refl t
+lies long slot p t = by-word (ltb (p .place) 64) refl t
   where
-    by-word : (b : Bool) → ltb (p .0) 64 ≡ b → T (cond b (leb (p .0 + p .1) 41) (long && leb (p .0 + p .1) (64 + 41)))
-        → Lies long slot (cond b (5 + 41 * slot + p .0) (46 + (p .0 - 64)), p .1)
-    by-word true e t = let h = leb→le (p .0 + p .1) 41 t in own (omega arith) (omega arith)
+    by-word : (b : Bool) → ltb (p .place) 64 ≡ b → T (cond b (leb (p .place + p .width) 41) (long && leb (p .place + p .width) (64 + 41)))
+        → Lies long slot (cond b (5 + 41 * slot + p .place) (46 + (p .place - 64)), p .width)
+    by-word true e t = let h = leb→le (p .place + p .width) 41 t in own (omega arith) (omega arith)
     by-word false e t =
-        let s = and-yes long (leb (p .0 + p .1) (64 + 41)) t in
-        let h = leb→le (p .0 + p .1) (64 + 41) (s .1) in
-        let l = ltb-false (p .0) 64 e in
+        let s = and-yes long (leb (p .place + p .width) (64 + 41)) t in
+        let h = leb→le (p .place + p .width) (64 + 41) (s .1) in
+        let l = ltb-false (p .place) 64 e in
         far (s .0) (omega arith) (omega arith)
+
+-- a part is narrow, and ends in the bundle
+pub narrow : (p : Part) → T (inWord true p) → p .width < 64
+narrow p t = by-word (lies true 0 p t)
+  where
+    by-word : Lies true 0 (at 0 p) → p .width < 64
+    by-word (own l h) = omega arith
+    by-word (far g l h) = omega arith
+
+pub ends : (slot : ℕ) (p : Part) → slot < 3 → T (inWord true p) → standsAt slot (p .place) + p .width ≤ 128
+ends slot p b t = by-word (lies true slot p t)
+  where
+    by-word : Lies true slot (at slot p) → standsAt slot (p .place) + p .width ≤ 128
+    by-word (own l h) = omega arith
+    by-word (far g l h) = omega arith
+
+pub within-bundle : (slot : ℕ) (ps : List Part) → slot < 3 → T (inWords true ps) → T (within 128 (placed slot ps))
+within-bundle slot [] b t = tt
+within-bundle slot (p ∷ ps) b t =
+    let s = and-yes (inWord true p) (inWords true ps) t in
+    yes-and (leb (standsAt slot (p .place) + p .width) 128) (within 128 (placed slot ps)) (le→leb _ _ (ends slot p b (s .0))) (within-bundle slot ps b (s .1))
 
 -- what lies in other words meets none of the parts
 pub elsewhere : (long : Bool) (slot : ℕ) (ps : List Part) (q : ℕ × ℕ) → T (inWords long ps) → T (apart q (word slot)) → (T long → T (apart q (word 1)))

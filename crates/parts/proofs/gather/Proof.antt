@@ -13,11 +13,11 @@ use Rattle.bits.specs.Part.{part}
 use Rattle.bits.specs.Parts.{gather}
 use Rattle.bits.proofs.Laws.{part-part}
 use Rattle.bundle.specs.Bundle.{whole}
-use Rattle.field.specs.Field.{placed}
-use Rattle.field.proofs.Placed.{stands-past}
-use Rattle.field.proofs.Steps.{Reads, reads, gather-step, gather-skip, gather-fits}
-use Rattle.field.proofs.gather.Statement.{statement}
-use Rattle.field.proofs.gather.Tie as tie
+use Rattle.parts.specs.Placed.{noPart, placed}
+use Rattle.parts.proofs.Placed.{stands-past, ends}
+use Rattle.parts.proofs.Steps.{Reads, reads, gather-step, gather-skip, gather-fits}
+use Rattle.parts.proofs.gather.Statement.{statement}
+use Rattle.parts.proofs.gather.Tie as tie
 
 abbrev Inv-loop : tie.InvT-loop
 Inv-loop halves slot parts raw₀ i₀ raw i = (i ≤ 6) × (raw ≡ gather (whole halves) (placed slot (drop i parts)))
@@ -41,8 +41,8 @@ module _ (c : tie.In-loop Inv-loop μ-loop) where
   is-next : suc (c .before .loop .i - 1) ≡ c .before .loop .i
   is-next = omega arith
 
-  can-read : Reads (c .before .before .args .slot) (getD (c .before .before .args .t3) (c .before .loop .i - 1) (0, 0)) (drop (suc (c .before .loop .i - 1)) (c .before .before .args .t3))
-  can-read = reads (c .before .before .args .slot) (c .before .before .args .t3) (c .before .loop .i - 1) before (c .before .before .pre .1)
+  can-read : Reads (getD (c .before .before .args .t3) (c .before .loop .i - 1) noPart) (drop (suc (c .before .loop .i - 1)) (c .before .before .args .t3))
+  can-read = reads (c .before .before .args .t3) (c .before .loop .i - 1) before (c .before .before .pre .1)
 
 loop-holds : tie.Need-loop-holds Inv-loop μ-loop
 unfolding gather
@@ -66,15 +66,13 @@ mul-stands-at c = search needs
 element-copy-out-stands-at : tie.Need-element-copy-out-stands-at Inv-loop μ-loop
 element-copy-out-stands-at c = search needs
 
-stands-at-requires : tie.Need-stands-at-requires Inv-loop μ-loop
-stands-at-requires c κs = (c .before .before .before .pre .0, can-read (c .before) .place-fits)
-
-word-from-requires : tie.Need-word-from-requires Inv-loop μ-loop
-word-from-requires c κs =
-    let r = can-read (c .before .before) in
+bits-from-requires : tie.Need-bits-from-requires Inv-loop μ-loop
+bits-from-requires c κs =
     let l = c .before .before .before in
-    let p = getD (l .before .args .t3) (l .loop .i - 1) (0, 0) in
-    rw (c .stands-at .ensures) (lt-of-lt-of-le (lit< tt) (stands-past (l .before .args .slot) (p .0)), r .stands)
+    let p = getD (l .before .args .t3) (l .loop .i - 1) noPart in
+    let past = stands-past (l .before .args .slot) (p .place) in
+    let end = ends (l .before .args .slot) p (l .before .pre .0) (can-read (c .before .before) .in-word) in
+    rw (c .stands-at .ensures) (omega arith, omega (arith, c .before .if1 .taken))
 
 cast-raw : tie.Need-cast-raw Inv-loop μ-loop
 cast-raw c = let r = can-read (c .before .before .before) in omega arith
@@ -87,20 +85,20 @@ get-requires c κs = (lit< tt, can-read (c .before .before .before) .width-fits)
 
 turned : (c : tie.After-get Inv-loop μ-loop) →
     let l = c .before .before .before .before .before in
-    let w = getD (l .before .args .t3) (l .loop .i - 1) (0, 0) .1 in
+    let w = getD (l .before .args .t3) (l .loop .i - 1) noPart .width in
     (l .loop .raw * 2 ^ w) % 2 ^ 64 + c .get .result ≡ gather (whole (l .before .args .halves)) (placed (l .before .args .slot) (drop (l .loop .i - 1) (l .before .args .t3)))
 turned c =
     let t = c .before .before .before .before in
     let l = t .before in
     let a = l .before .args in
     let n = whole (a .halves) in
-    let w = getD (a .t3) (l .loop .i - 1) (0, 0) .1 in
+    let w = getD (a .t3) (l .loop .i - 1) noPart .width in
     let fits : 0 + w ≤ 64 = let r = can-read t in omega arith in
     let at = c .before .before .stands-at in
     let raw = l .loop .inv .1 ∙ ap (λ (k : ℕ). gather n (placed (a .slot) (drop k (a .t3)))) (sym (is-next t)) in
     let got =
     c .get .ensures
-    ∙ ap (λ (x : ℕ). part x 0 w) (c .before .word-from .ensures)
+    ∙ ap (λ (x : ℕ). part x 0 w) (c .before .bits-from .ensures)
     ∙ part-part n (at .result) 64 0 w fits
     ∙ ap (λ (p : ℕ). part n p w) (add-zero (at .result) ∙ at .ensures) in
     gather-step n (a .slot) (a .t3) (l .loop .i - 1) (before t) (l .loop .raw) (c .get .result) (l .before .pre .1) raw got
@@ -127,7 +125,7 @@ loop-again-2 c =
     let l = t .before in
     let a = l .before .args in
     let n = whole (a .halves) in
-    let none : getD (a .t3) (l .loop .i - 1) (0, 0) .1 ≡ 0 = omega (arith, c .if1 .left) in (
+    let none : getD (a .t3) (l .loop .i - 1) noPart .width ≡ 0 = omega (arith, c .if1 .left) in (
       search needs,
       l .loop .inv .1
           ∙ ap (λ (k : ℕ). gather n (placed (a .slot) (drop k (a .t3)))) (sym (is-next t))
@@ -153,8 +151,8 @@ gather-spec =
     cast-width
     mul-stands-at
     element-copy-out-stands-at
-    stands-at-requires
-    word-from-requires
+    (λ c κs. search needs)
+    bits-from-requires
     cast-raw
     shl-raw
     get-requires

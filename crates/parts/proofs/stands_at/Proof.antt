@@ -1,8 +1,8 @@
 -- `stands_at` meets its contract: the test is the definition's. Assumes nothing.
 use borrow.Author.Tests.{lt-ltb, le-ltb}
 use borrow.Author.Needs.{needs}
-use Rattle.field.proofs.stands_at.Statement.{statement}
-use Rattle.field.proofs.stands_at.Tie as tie
+use Rattle.parts.proofs.stands_at.Statement.{statement}
+use Rattle.parts.proofs.stands_at.Tie as tie
 
 mul-result : tie.Need-mul-result
 mul-result c = search needs
