@@ -1,18 +1,19 @@
 -- When a form's row is read or changed in a slot of a bundle: none of the refusals applies, so the row is sound there. Assumes nothing.
-use mathlib.Core.Path.{_≡_}
+use mathlib.Core.Path.{_≡_, sym, ap, _∙_}
 use mathlib.Core.Bool.{true, false, not, _||_}
+use mathlib.Core.List.{List}
 use Prim.Native.Nat.{ℕ, _<_, suc-le-suc}
-use borrow.Author.Tests.{ltb-false, not-false, eqb-true}
+use borrow.Author.Tests.{ltb-false, not-false, eqb-true, eq-eqb, ne-eqb}
 use lib.Dec.{T, ltb, eqb}
-use Rattle.answer.specs.Answer.{accepted, first}
-use Rattle.answer.proofs.Laws.{none-applies}
-use Rattle.bundle.specs.Bundle.{tagOf, bundleRefusals}
+use Rattle.answer.specs.Answer.{Refusal, accepted, badValue, first}
+use Rattle.answer.proofs.Laws.{none-applies, first-on, first-stop, accepts, refuses}
+use Rattle.bundle.specs.Bundle.{bundleRefusals, halvesOf}
 use Rattle.bundle.proofs.Laws.{or-false}
 use Rattle.form.specs.declared.Form.{Form}
 use Rattle.form.specs.declared.Edit.{Edit}
 use Rattle.row.specs.Row.{isNone, rowOf}
 use Rattle.immediate.specs.Sound.{Sound}
-use Rattle.immediate.specs.Immediate.{fits, unitAt, readRefusals, rawFor, changeRefusals}
+use Rattle.immediate.specs.Immediate.{fits, unitAt, readRefusals, rawFor, valueRefusals, changeRefusals, changedNumber, noChange, changedOf}
 use Rattle.row.specs.declared.Row.{Row}
 use Rattle.row.proofs.Rows.{good, row-good}
 use Rattle.immediate.proofs.Sound.{sound}
@@ -32,6 +33,29 @@ stands n slot form row e =
 
 pub read-sound : (n slot : ℕ) (form : Form) (row : Row) → T (good (form .family) row) → first (readRefusals n slot form row) ≡ accepted → Sound slot row
 read-sound n slot form row g e = let s = stands n slot form row e in sound form row g (s .some) n slot (s .in-bundle) (s .fit)
+
+-- what changing a bundle comes to, case by case
+module _ (n : ℕ) (e : Edit) where
+  abbrev row : Row
+  row = rowOf (e .form)
+
+  abbrev reading : List Refusal
+  reading = readRefusals n (e .slot) (e .form) row
+
+  pub unchanged-by : (a : ℕ) → first (changeRefusals n e) ≡ a → (a ≡ accepted → ⊥) → noChange a ≡ changedOf n e
+  unfolding changedOf
+  unchanged-by a q d = ap noChange (sym q) ∙ sym (refuses (first (changeRefusals n e)) _ _ (λ p. d (sym q ∙ p)))
+
+  pub not-read : (first reading ≡ accepted → ⊥) → first (changeRefusals n e) ≡ first reading
+  not-read d = first-stop reading (valueRefusals row (e .value)) d
+
+  module _ (read : first reading ≡ accepted) where
+    pub no-raw : (rawFor row (e .value) .answer ≡ accepted → ⊥) → first (changeRefusals n e) ≡ badValue
+    no-raw d = first-on reading (valueRefusals row (e .value)) tt read ∙ rw (ne-eqb _ accepted d)
+
+    pub changed-done : rawFor row (e .value) .answer ≡ accepted → changedOf n e ≡ record { answer = accepted; bundle = halvesOf (changedNumber n e) }
+    unfolding changedOf
+    changed-done q = accepts _ _ _ (first-on reading (valueRefusals row (e .value)) tt read ∙ rw (eq-eqb _ accepted q))
 
 -- an edit that a bundle takes: its row stands in its slot, and its value has a raw number
 module _ (n : ℕ) (e : Edit) (taken : first (changeRefusals n e) ≡ accepted) where

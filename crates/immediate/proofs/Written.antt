@@ -1,16 +1,16 @@
 -- What writing a row comes to: the laws of parts, said of a row that is sound in a slot. Assumes nothing.
 use mathlib.Core.Path.{_≡_, sym, ap, _∙_}
-use mathlib.Core.Bool.{false}
+use mathlib.Core.Bool.{true, false}
 use Prim.Native.Nat.{ℕ, _%_, _<_, _^_}
 use native.Mathlib.Nat.{mod-eq-of-lt}
 use borrow.Author.Tests.{not-false}
-use lib.Dec.{T, lit≤}
+use lib.Dec.{T, leb, lit≤}
 use mir.Facts.{and-yes}
 use Rattle.bits.specs.Part.{bit}
 use Rattle.bits.specs.Parts.{gather, apart, apartFrom, meetNot}
 use Rattle.bits.proofs.Parts.{gather-scatter, scatter-gather, scatter-scatter, scatter-comm, scatter-lt, part-scatter, scatter-bit}
 use Rattle.bundle.specs.Bundle.{tagOf}
-use Rattle.parts.specs.Placed.{placed, widthOf}
+use Rattle.parts.specs.Placed.{placed, widthOf, inWords}
 use Rattle.parts.proofs.Placed.{past-tag, within-bundle}
 use Rattle.parts.proofs.Steps.{widths-placed, gathered-lt}
 use Rattle.operand.specs.declared.Operand.{Operand}
@@ -51,7 +51,7 @@ module _ (slot : ℕ) (row : Row) (s : Sound slot row) (n : ℕ) where
 
   -- a bundle's number stays one
   pub written-lt : (raw : ℕ) → n < 2 ^ 128 → withRaw row slot n raw < 2 ^ 128
-  written-lt raw h = scatter-lt 128 n (placed slot (row .parts)) raw (within-bundle slot (row .parts) (s .in-bundle) (and-yes _ _ (s .reads) .0)) h
+  written-lt raw h = scatter-lt 128 n (placed slot (row .parts)) raw (within-bundle slot (row .parts) (s .in-bundle) (and-yes (inWords true (row .parts)) (leb (widthOf (row .parts)) 64) (s .reads) .0)) h
 
 module _ (slot : ℕ) (row : Row) (n raw : ℕ) where
   -- no bit outside the row's parts changes

@@ -9,6 +9,7 @@ use native.Mathlib.Omega.{arith}
 use borrow.Author.Tests.{ltb-true, ltb-false, leb-true, eqb-true, eqb-false, lt-ltb, le-ltb, le-leb, eq-eqb}
 use lib.Dec.{T, ltb, leb, eqb}
 use lib.IntN.{ℤ, pos, negsuc}
+use Rattle.answer.specs.Answer.{accepted}
 use Rattle.operand.specs.Kind.{ofI64, ofU64}
 use Rattle.operand.specs.declared.Operand.{Operand}
 use Rattle.operand.specs.declared.Operand.the-variants.{ImmI64, ImmU64}
@@ -44,6 +45,38 @@ of-u64 o f e =
 of-i64 : (o : Operand) (f : ℤ → Raw) {raw : ℕ} → ofI64 o f Bad ≡ Is raw → (v : ℤ) × (o ≡ ImmI64 v) × (f v ≡ Is raw)
 of-i64 o f e =
     ⊎-elim (λ k. (k .0, k .1, sym (ap (λ (x : Operand). ofI64 x f Bad) (k .1)) ∙ e)) (λ k. absurd (not-bad (sym k ∙ e))) (i64-or-not o f Bad)
+
+-- a value has a raw number, or it is refused
+abbrev Told : Raw → Type 0
+Told r = (r .answer ≡ accepted → ⊥) → r ≡ Bad
+
+told-is : (n : ℕ) → Told (Is n)
+told-is n d = absurd (d refl)
+
+told-if : (b : Bool) (r : Raw) → Told r → Told (cond b r Bad)
+told-if true r t = t
+told-if false r t = λ d. refl
+
+told-else : (b : Bool) (r : Raw) → Told r → Told (cond b Bad r)
+told-else true r t = λ d. refl
+told-else false r t = t
+
+told-signed : (unit w : ℕ) (z : ℤ) → Told (rawSigned unit w z)
+told-signed unit w (pos v) = told-if (eqb (v % unit) 0) _ (told-if (ltb (v / unit) (2 ^ (w - 1))) _ (told-is (v / unit)))
+told-signed unit w (negsuc v) = told-if (eqb (suc v % unit) 0) _ (told-if (leb (suc v / unit) (2 ^ (w - 1))) _ (told-is (2 ^ w - suc v / unit)))
+
+pub raw-told : (m : Meaning) (w : ℕ) (v : Operand) → (rawOf m w v .answer ≡ accepted → ⊥) → rawOf m w v ≡ Bad
+raw-told NoMeaning w v d = refl
+raw-told (Unsigned plus) w v d =
+    ⊎-elim
+    (λ k. let is = ap (λ (o : Operand). ofU64 o (rawUnsigned plus w) Bad) (k .1) in
+    is ∙ told-else (ltb (k .0) plus) _ (told-if (ltb (k .0 - plus) (2 ^ w)) _ (told-is (k .0 - plus))) (λ e. d (ap (λ (r : Raw). r .answer) is ∙ e)))
+    (λ k. k) (u64-or-not v (rawUnsigned plus w) Bad)
+raw-told (Signed unit) w v d =
+    ⊎-elim
+    (λ k. let is = ap (λ (o : Operand). ofI64 o (rawSigned unit w) Bad) (k .1) in
+    is ∙ told-signed unit w (k .0) (λ e. d (ap (λ (r : Raw). r .answer) is ∙ e)))
+    (λ k. k) (i64-or-not v (rawSigned unit w) Bad)
 
 -- a number that is counted from `plus` on
 module _ (plus w : ℕ) where

@@ -35,39 +35,87 @@ pub struct Row {
 const NO: Part = Part { place: 0, width: 0 };
 
 // The manual's names of the parts: S is its s, or i where the number has no sign.
-const CT2D: Part = Part { place: 27, width: 2 };
+const CT2D: Part = Part {
+    place: 27,
+    width: 2,
+};
 
 const IMM7A: Part = Part { place: 6, width: 7 };
 
-const IMM7B: Part = Part { place: 13, width: 7 };
+const IMM7B: Part = Part {
+    place: 13,
+    width: 7,
+};
 
-const IMM6D: Part = Part { place: 27, width: 6 };
+const IMM6D: Part = Part {
+    place: 27,
+    width: 6,
+};
 
-const IMM9D: Part = Part { place: 27, width: 9 };
+const IMM9D: Part = Part {
+    place: 27,
+    width: 9,
+};
 
-const IMM5C: Part = Part { place: 22, width: 5 };
+const IMM5C: Part = Part {
+    place: 22,
+    width: 5,
+};
 
-const IMM13C: Part = Part { place: 20, width: 13 };
+const IMM13C: Part = Part {
+    place: 20,
+    width: 13,
+};
 
-const IMM20A: Part = Part { place: 6, width: 20 };
+const IMM20A: Part = Part {
+    place: 6,
+    width: 20,
+};
 
-const IMM20B: Part = Part { place: 13, width: 20 };
+const IMM20B: Part = Part {
+    place: 13,
+    width: 20,
+};
 
-const IMM21A: Part = Part { place: 6, width: 21 };
+const IMM21A: Part = Part {
+    place: 6,
+    width: 21,
+};
 
-const I2D: Part = Part { place: 31, width: 2 };
+const I2D: Part = Part {
+    place: 31,
+    width: 2,
+};
 
-const INC3: Part = Part { place: 13, width: 3 };
+const INC3: Part = Part {
+    place: 13,
+    width: 3,
+};
 
-const I: Part = Part { place: 27, width: 1 };
+const I: Part = Part {
+    place: 27,
+    width: 1,
+};
 
-const IC: Part = Part { place: 21, width: 1 };
+const IC: Part = Part {
+    place: 21,
+    width: 1,
+};
 
-const S: Part = Part { place: 36, width: 1 };
+const S: Part = Part {
+    place: 36,
+    width: 1,
+};
 
-const IMM41: Part = Part { place: L, width: 41 };
+const IMM41: Part = Part {
+    place: L,
+    width: 41,
+};
 
-const IMM39: Part = Part { place: L + 2, width: 39 };
+const IMM39: Part = Part {
+    place: L + 2,
+    width: 39,
+};
 
 const NO_ROW: Row = Row {
     meaning: Meaning::None,
@@ -206,7 +254,12 @@ pub fn width(parts: [Part; 6]) -> u32
     requires { ⌜ T (readable parts) ⌝ }
     ensures { λ r. ⌜ r ≡ widthOf parts ⌝ }
 {
-    let bits = parts[0].width + parts[1].width + parts[2].width + parts[3].width + parts[4].width + parts[5].width;
+    let bits = parts[0].width
+        + parts[1].width
+        + parts[2].width
+        + parts[3].width
+        + parts[4].width
+        + parts[5].width;
     bits as u32
 }
 
