@@ -10,14 +10,14 @@ use Rattle.reading.specs.Line.{Forms}
 use Rattle.form.specs.Form.{families}
 use Rattle.readers.specs.Call.{tableOf}
 
--- how many lines have the number
-abbrev pub lines : ℕ → Forms → ℕ
-lines n [] = 0
-lines n (e ∷ es) = cond (eqb n (e .0)) 1 0 + lines n es
+-- how many lines a number has
+abbrev pub linesOf : ℕ → Forms → ℕ
+linesOf n [] = 0
+linesOf n (e ∷ es) = cond (eqb n (e .0)) 1 0 + linesOf n es
 
 -- each number from 1 to the last has one line, and there are as many lines
 abbrev pub exact : ℕ → Forms → Bool
-exact last es = below (λ k. eqb (lines (suc k) es) 1) last && eqb (length es) last
+exact last es = below (λ k. eqb (linesOf (suc k) es) 1) last && eqb (length es) last
 
 abbrev pub all-exact : List (ℕ × ℕ) → Bool
 all-exact [] = true

@@ -9,8 +9,8 @@ use Rattle.readers.specs.Call.{tables, lOf}
 use Rattle.readers.proofs.read.Statement.{statement}
 use Rattle.readers.proofs.read.Tie as tie
 
-none-of-them : tie.Need-returns-6
-none-of-them c =
+no-family : tie.Need-returns-6
+no-family c =
     let form = c .before .before .args .form in
     c .no-op .ensures
     ∙ ap (λ (es : Forms). readingOf es (form .number) (c .before .before .args .word) (lOf form (c .before .before .args .l)))
@@ -26,4 +26,4 @@ read-spec =
     (λ c. rw (c .before .match .keys3) (c .read-f-operands .ensures))
     (λ c. rw (c .before .match .keys4) (c .read-m-operands .ensures))
     (λ c. rw (c .before .match .keys5) (c .read-l-operands .ensures))
-    none-of-them)
+    no-family)
