@@ -1,6 +1,7 @@
 // Calls that read: `cut`, `operands`, `immediate`, and the listing.
 use crate::sum;
 use crate::sum::plus;
+use form::Form;
 
 // Every bundle of a code, cut.
 #[no_mangle]
@@ -21,7 +22,11 @@ pub extern "C" fn bench_operands(family: u64, numbers: &[u64], words: &[u64], ls
     let mut sum = 0;
     let mut i = 0;
     while i < words.len() {
-        let read = readers::operands(family, sum::at(numbers, i), words[i], sum::at(ls, i));
+        let form = Form {
+            family,
+            number: sum::at(numbers, i),
+        };
+        let read = readers::operands(form, words[i], sum::at(ls, i));
         let reading = read.reading;
         sum = plus(sum, sum::of_reading(reading));
         i += 1;

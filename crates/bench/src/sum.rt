@@ -40,8 +40,7 @@ pub fn of_reading(reading: Reading) -> u64 {
 fn of_position(position: Position) -> u64 {
     match position {
         Position::None => 0,
-        Position::First => 1,
-        Position::Second => 2,
+        Position::At(n) => 1 + n as u64,
     }
 }
 

@@ -11,11 +11,12 @@ use Rattle.bits.specs.Parts.{gather}
 use Rattle.bundle.specs.Bytes.{number, bytes}
 use Rattle.bundle.specs.Template.{unitsOf}
 use Rattle.bundle.specs.Bundle.{joined}
-use Rattle.operand.specs.Reading.{listed, caseOf}
+use Rattle.operand.specs.Reading.{listed, positionOf}
 use Rattle.operand.specs.declared.Operand.{Operand}
 use Rattle.operand.specs.declared.Operand.the-variants.{None, GPRegister, FloatRegister, ImmI64, ImmU64, Memory}
 use Rattle.operand.specs.declared.Reading.{Reading}
-use Rattle.readers.specs.Call.{operandsOf, isForm, isBad}
+use Rattle.form.specs.Form.{isForm}
+use Rattle.readers.specs.Call.{operandsOf, isBad}
 use Rattle.immediate.specs.Row.{Form, a, b, m, x, lines, rowsOf, rowOf}
 use Rattle.immediate.specs.Immediate.{immediateOf, targetOf}
 use Rattle.immediate.specs.declared.Value.{Value}
@@ -36,7 +37,7 @@ bundle tag word l = bytes 16 (joined tag (word ∷ l ∷ word ∷ []))
 
 abbrev at : ℕ → ℕ → Form → ℕ → ℕ → Case
 at tag slot form word l =
-    record { shown = operandsOf (form .0) (form .1) word l .reading; read = immediateOf (bundle tag word l) 0 slot (form .0) (form .1) }
+    record { shown = operandsOf (record { family = form .0; number = form .1 }) word l .reading; read = immediateOf (bundle tag word l) 0 slot (form .0) (form .1) }
 
 -- in slot 2 of an MII, an MIB and an MLX, and in slot 0 of an MMI
 abbrev inI : Form → ℕ → Case
@@ -53,10 +54,10 @@ inM form word = at 8 0 form word 0
 
 -- operands and values
 abbrev writes : List Operand → Reading
-writes = listed (caseOf (some 0))
+writes = listed (positionOf (some 0))
 
 abbrev shows : List Operand → Reading
-shows = listed (caseOf none)
+shows = listed (positionOf none)
 
 abbrev r0 : Operand
 r0 = GPRegister (record { 0 = 0 })

@@ -21,7 +21,7 @@ fn read_a1_a9(word: u64) -> Reading
     let r2 = ((word >> 13) % 128) as u8;
     let r3 = ((word >> 20) % 128) as u8;
     three_op(
-        Position::First,
+        Position::At(0),
         Operand::GPRegister(GPRegister(r1)),
         Operand::GPRegister(GPRegister(r2)),
         Operand::GPRegister(GPRegister(r3)),
@@ -36,7 +36,7 @@ fn read_a2(word: u64) -> Reading
     let r3 = ((word >> 20) % 128) as u8;
     let ct = (word >> 27) % 4 + 1;
     four_op(
-        Position::First,
+        Position::At(0),
         Operand::GPRegister(GPRegister(r1)),
         Operand::GPRegister(GPRegister(r2)),
         Operand::ImmU64(ct),
@@ -53,7 +53,7 @@ fn read_a3(word: u64) -> Reading
     let s = (word >> 36) % 2;
     let imm = Difference(immb, (1 << 7) * s);
     three_op_imm2(
-        Position::First,
+        Position::At(0),
         Operand::GPRegister(GPRegister(r1)),
         imm,
         Operand::GPRegister(GPRegister(r3)),
@@ -70,7 +70,7 @@ fn read_a4(word: u64) -> Reading
     let s = (word >> 36) % 2;
     let imm = Difference(immb + (1 << 7) * immd, (1 << 13) * s);
     three_op_imm2(
-        Position::First,
+        Position::At(0),
         Operand::GPRegister(GPRegister(r1)),
         imm,
         Operand::GPRegister(GPRegister(r3)),
@@ -88,7 +88,7 @@ fn read_a5(word: u64) -> Reading
     let s = (word >> 36) % 2;
     let imm = Difference(immb + (1 << 7) * (immd + (1 << 9) * immc), (1 << 21) * s);
     three_op_imm2(
-        Position::First,
+        Position::At(0),
         Operand::GPRegister(GPRegister(r1)),
         imm,
         Operand::GPRegister(GPRegister(r3)),
@@ -103,7 +103,7 @@ fn read_a6(word: u64) -> Reading
     let r3 = ((word >> 20) % 128) as u8;
     let p2 = ((word >> 27) % 64) as u8;
     four_op(
-        Position::Second,
+        Position::At(1),
         Operand::PredicateRegister(PredicateRegister(p1)),
         Operand::PredicateRegister(PredicateRegister(p2)),
         Operand::GPRegister(GPRegister(r2)),
@@ -118,7 +118,7 @@ fn read_a7(word: u64) -> Reading
     let r3 = ((word >> 20) % 128) as u8;
     let p2 = ((word >> 27) % 64) as u8;
     four_op(
-        Position::Second,
+        Position::At(1),
         Operand::PredicateRegister(PredicateRegister(p1)),
         Operand::PredicateRegister(PredicateRegister(p2)),
         Operand::GPRegister(GPRegister(0)),
@@ -136,7 +136,7 @@ fn read_a8(word: u64) -> Reading
     let r3 = ((word >> 20) % 128) as u8;
     let p2 = ((word >> 27) % 64) as u8;
     four_op_imm3(
-        Position::Second,
+        Position::At(1),
         Operand::PredicateRegister(PredicateRegister(p1)),
         Operand::PredicateRegister(PredicateRegister(p2)),
         imm,
@@ -152,7 +152,7 @@ fn read_a10(word: u64) -> Reading
     let r3 = ((word >> 20) % 128) as u8;
     let ct = (word >> 27) % 4 + 1;
     four_op(
-        Position::First,
+        Position::At(0),
         Operand::GPRegister(GPRegister(r1)),
         Operand::GPRegister(GPRegister(r2)),
         Operand::GPRegister(GPRegister(r3)),

@@ -6,7 +6,7 @@ use mathlib.Core.Option.{none, some}
 use lib.IntN.{ℤ, pos, negsuc, _+ℤ_}
 use Rattle.table.specs.Table.{select}
 use Rattle.bits.specs.Part.{part, above, bit}
-use Rattle.operand.specs.Reading.{listed, caseOf, unread}
+use Rattle.operand.specs.Reading.{listed, positionOf, unread}
 use Rattle.operand.specs.declared.Operand.{Operand}
 use Rattle.operand.specs.declared.Operand.the-variants as op
 use Rattle.operand.specs.declared.IndirectionReg.{IndirectionReg}
@@ -128,10 +128,10 @@ all (f ∷ fs) word l = f word l ∷ all fs word l
 
 -- those operands, of which the last that is written stands at a position; or none is written
 abbrev pub dest : ℕ → List (Of Operand) → Of Reading
-dest n fs word l = listed (caseOf (some n)) (all fs word l)
+dest n fs word l = listed (positionOf (some n)) (all fs word l)
 
 abbrev pub no-dest : List (Of Operand) → Of Reading
-no-dest fs word l = listed (caseOf none) (all fs word l)
+no-dest fs word l = listed (positionOf none) (all fs word l)
 
 -- a family's table: its lines
 abbrev pub Forms : Type 0
