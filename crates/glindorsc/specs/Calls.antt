@@ -19,7 +19,7 @@ pub record Filled : Type 0 where
 
 -- a cut bundle's seven numbers: the tag, the units, the slots
 abbrev pub numbersOf : Bundle → List ℕ
-numbersOf b = b .tag ∷ (b .units ++ b .slots)
+numbersOf b = b .template .tag ∷ (b .template .units ++ b .slots)
 
 -- a cut, refused or not, fills the first seven places of the output; an output of fewer places is refused and kept
 unfoldable pub cutCall : List ℕ → ℕ → List ℕ → Filled

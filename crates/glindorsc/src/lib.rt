@@ -14,9 +14,9 @@ pub extern "C" fn glindorsc_cut(code: &[u8], bundle: u64, out: &mut [u64]) -> u8
         return NO_ROOM;
     }
     let cut = bundle::cut(code, bundle);
-    let units = cut.units;
+    let units = cut.template.units;
     let slots = cut.slots;
-    out[0] = cut.tag as u64;
+    out[0] = cut.template.tag as u64;
     out[1] = wide(units[0]);
     out[2] = wide(units[1]);
     out[3] = wide(units[2]);

@@ -5,7 +5,7 @@ use mathlib.Core.List.{List, [], _∷_, _++_}
 use lib.Dec.{eqb, ltb}
 use lib.ListN.{length, getD}
 use Rattle.answer.specs.Answer.{Refusal, badBundle, tooLong}
-use Rattle.bundle.specs.Bundle.{cutOf}
+use Rattle.bundle.specs.Bundle.{longestCode, cutOf}
 use Rattle.bundle.specs.declared.Bundle.{Bundle}
 use Rattle.text.specs.Ascii.{ascii, row}
 use Rattle.text.specs.Decimal.{decimal}
@@ -21,11 +21,11 @@ header = row (ascii "bundle" ∷ ascii "tag" ∷ ascii "units" ∷ ascii "slot0"
 unfoldable pub endOf : Bundle → List ℕ
 endOf b =
     cond (eqb (b .answer) badBundle) (row (ascii "reserved" ∷ []))
-    (row (b .units ∷ decimal (getD (b .slots) 0 0) ∷ decimal (getD (b .slots) 1 0) ∷ decimal (getD (b .slots) 2 0) ∷ []))
+    (row (b .template .units ∷ decimal (getD (b .slots) 0 0) ∷ decimal (getD (b .slots) 1 0) ∷ decimal (getD (b .slots) 2 0) ∷ []))
 
 -- the line of bundle n
 unfoldable pub lineOf : ℕ → Bundle → List ℕ
-lineOf n b = decimal n ++ (9 ∷ (decimal (b .tag) ++ (9 ∷ endOf b)))
+lineOf n b = decimal n ++ (9 ∷ (decimal (b .template .tag) ++ (9 ∷ endOf b)))
 
 -- the lines of the first n bundles of a code
 unfoldable pub linesOf : List ℕ → ℕ → List ℕ
@@ -43,7 +43,7 @@ listOf code = header ++ (linesOf code (length code / 16) ++ restOf (length code 
 
 -- which code isn't listed
 abbrev pub listRefusals : List ℕ → List Refusal
-listRefusals code = (tooLong, ltb 65536 (length code)) ∷ []
+listRefusals code = (tooLong, ltb longestCode (length code)) ∷ []
 
 -- the listing of the bytes that a text gives, or the one line of its fault
 abbrev pub listed : List ℕ → Ending → List ℕ
@@ -53,4 +53,4 @@ listed code TooLong = row (ascii "toolong" ∷ [])
 
 -- the listing of a text
 unfoldable pub listingOf : List ℕ → List ℕ
-listingOf text = listed (hexBytes 65536 text .0) (hexBytes 65536 text .1)
+listingOf text = listed (hexBytes longestCode text .0) (hexBytes longestCode text .1)

@@ -19,7 +19,7 @@ pub fn put_line(out: &mut [u8], at: usize, n: u64, bundle: Bundle) -> usize
     ensures { λ r. ⌜ Put (now (out .entry)) at (lineOf n bundle) (now (out .exit)) r ⌝ }
 {
     let mut next = put_field(out, at, n, TAB);
-    next = put_field(out, next, bundle.tag as u64, TAB);
+    next = put_field(out, next, bundle.template.tag as u64, TAB);
     put_end(out, next, bundle)
 }
 
@@ -31,7 +31,7 @@ fn put_end(out: &mut [u8], at: usize, bundle: Bundle) -> usize
     if bundle.answer == BAD_BUNDLE {
         return put_text(out, at, b"reserved\n");
     }
-    let units = bundle.units;
+    let units = bundle.template.units;
     let slots = bundle.slots;
     let mut next = put_text(out, at, &units);
     next = put_byte(out, next, TAB);

@@ -8,14 +8,8 @@ use Rattle.bundle.specs.Bundle.{findOf, findAnswer, bundleAt}
 use Rattle.bundle.proofs.find.Statement.{statement}
 use Rattle.bundle.proofs.find.Tie as tie
 
-find-answer-requires : tie.Need-find-answer-requires
-find-answer-requires c κs = search needs
-
 sixteen-requires : tie.Need-sixteen-requires
 sixteen-requires c κs = sym (c .before .find-answer .ensures) ∙ c .if1 .taken
-
-slice-aggregate-result : tie.Need-slice-aggregate-result
-slice-aggregate-result c = search needs
 
 returns : tie.Need-returns
 unfolding findOf
@@ -32,4 +26,4 @@ returns-2 c =
 
 pub find-spec : {M : Type 1} → statement M
 find-spec =
-    tie.close (tie.spec find-answer-requires sixteen-requires slice-aggregate-result returns returns-2)
+    tie.close (tie.spec (λ c κs. search needs) sixteen-requires (λ c. search needs) returns returns-2)

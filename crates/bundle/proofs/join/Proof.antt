@@ -16,9 +16,6 @@ use borrow.Author.Needs.{needs}
 use Rattle.bundle.proofs.join.Statement.{statement}
 use Rattle.bundle.proofs.join.Tie as tie
 
-joinable-requires : tie.Need-joinable-requires
-joinable-requires c κs = search needs
-
 returns : tie.Need-returns
 returns c =
     let a = c .before .before .before .args in
@@ -46,9 +43,6 @@ pack-requires c κs = let f = can-join (c .before) .fitting in (f .tag-fits, f .
 write-requires : tie.Need-write-requires
 write-requires c κs = sixteen (c .before)
 
-same-length : tie.Need-same-length
-same-length c = search needs
-
 returns-2 : tie.Need-returns-2
 returns-2 c =
     let w = c .before .before in
@@ -63,11 +57,11 @@ pub join-spec : {M : Type 1} → statement M
 join-spec =
     tie.close
     (tie.spec
-    joinable-requires
+    (λ c κs. search needs)
     returns
     slice-relend-prefix-write
     slice-aggregate-write
     pack-requires
     write-requires
-    same-length
+    (λ c. search needs)
     returns-2)

@@ -10,15 +10,6 @@ use borrow.Author.Needs.{needs}
 use Rattle.bundle.proofs.joinable.Statement.{statement}
 use Rattle.bundle.proofs.joinable.Tie as tie
 
-array-read-if2 : tie.Need-array-read-if2
-array-read-if2 c = search needs
-
-array-read-if3 : tie.Need-array-read-if3
-array-read-if3 c = search needs
-
-array-read-if4 : tie.Need-array-read-if4
-array-read-if4 c = search needs
-
 small : (c : tie.Else4) → tooLarge (c .before .before .before .before .args .tag) (c .before .before .before .before .args .t2) ≡ false
 small c = rw (le-ltb 31 _ (c .before .before .before .if1 .left), c .before .before .if2 .left, c .before .if3 .left, c .if4 .left)
 
@@ -36,12 +27,6 @@ returns c =
     (λ w. rw (le-ltb 31 (a .tag) (w .0 .left), w .1 .left, w .2 .left, w .3 .taken)))) (c .if1 .came) in
     rw large
 
-units-requires : tie.Need-units-requires
-units-requires c κs = search needs
-
-unitless-requires : tie.Need-unitless-requires
-unitless-requires c κs = search needs
-
 returns-2 : tie.Need-returns-2
 returns-2 c = rw (small (c .before .before .before), sym (tested (c .before)) ∙ c .if5 .taken)
 
@@ -55,12 +40,12 @@ pub joinable-spec : {M : Type 1} → statement M
 joinable-spec =
     tie.close
     (tie.spec
-    array-read-if2
-    array-read-if3
-    array-read-if4
+    (λ c. search needs)
+    (λ c. search needs)
+    (λ c. search needs)
     returns
-    units-requires
-    unitless-requires
+    (λ c κs. search needs)
+    (λ c κs. search needs)
     returns-2
     returns-3
     returns-4)

@@ -6,12 +6,6 @@ use borrow.Author.Needs.{needs}
 use Rattle.glindorsc.proofs.glindorsc_immediate.Statement.{statement}
 use Rattle.glindorsc.proofs.glindorsc_immediate.Tie as tie
 
-immediate-requires : tie.Need-immediate-requires
-immediate-requires c κs = search needs
-
-pattern-in-requires : tie.Need-pattern-in-requires
-pattern-in-requires c κs = search needs
-
 returns : tie.Need-returns
 unfolding immediateCall
 returns c =
@@ -21,4 +15,4 @@ returns c =
     λ i. record { answer = answer i; number = number i }
 
 pub glindorsc-immediate-spec : {M : Type 1} → statement M
-glindorsc-immediate-spec = tie.close (tie.spec immediate-requires pattern-in-requires returns)
+glindorsc-immediate-spec = tie.close (tie.spec (λ c κs. search needs) (λ c κs. search needs) returns)

@@ -6,12 +6,9 @@ use borrow.Author.Needs.{needs}
 use Rattle.glindorsc.proofs.glindorsc_target.Statement.{statement}
 use Rattle.glindorsc.proofs.glindorsc_target.Tie as tie
 
-target-requires : tie.Need-target-requires
-target-requires c κs = search needs
-
 returns : tie.Need-returns
 unfolding targetCall
 returns c = ap (λ (p : Place). record { answer = p .answer; number = p .address }) (c .target .ensures)
 
 pub glindorsc-target-spec : {M : Type 1} → statement M
-glindorsc-target-spec = tie.close (tie.spec target-requires returns)
+glindorsc-target-spec = tie.close (tie.spec (λ c κs. search needs) returns)

@@ -15,14 +15,8 @@ returns c =
     let a = c .before .before .args in
     sym (le-leb _ (a .room) (le-trans (list-most (a .code .now) (c .before .before .pre)) (c .if1 .taken)))
 
-slice-aggregate-write : tie.Need-slice-aggregate-write
-slice-aggregate-write c = search needs
-
-write-requires : tie.Need-write-requires
-write-requires c κs = search needs
-
 returns-2 : tie.Need-returns-2
 returns-2 c = ap (λ (n : ℕ). leb n (c .before .before .before .before .before .args .room)) (c .before .write .ensures .place ∙ zero-add _)
 
 pub fits-spec : {M : Type 1} → statement M
-fits-spec = tie.close (tie.spec returns slice-aggregate-write write-requires returns-2)
+fits-spec = tie.close (tie.spec returns (λ c. search needs) (λ c κs. search needs) returns-2)

@@ -14,15 +14,6 @@ returns c =
     let a = c .before .before .before .args in
     whole-refused (listRefusals (a .code .now)) _ _ tooLong (long-refused (a .code .now) (c .if1 .taken)) (eqb-false tooLong accepted refl)
 
-fits-requires : tie.Need-fits-requires
-fits-requires c κs = search needs
-
-write-requires : tie.Need-write-requires
-write-requires c κs = search needs
-
-same-length : tie.Need-same-length
-same-length c = search needs
-
 returns-2 : tie.Need-returns-2
 returns-2 c =
     let a = c .before .before .before .before .before .before .before .before .before .args in
@@ -35,4 +26,4 @@ returns-3 c =
 
 pub list-spec : {M : Type 1} → statement M
 list-spec =
-    tie.close (tie.spec returns fits-requires write-requires same-length returns-2 returns-3)
+    tie.close (tie.spec returns (λ c κs. search needs) (λ c κs. search needs) (λ c. search needs) returns-2 returns-3)

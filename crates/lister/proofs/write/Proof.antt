@@ -20,9 +20,6 @@ Inv-loop code out₀ at₀ count n₀ out at n = (n ≤ count) × Put out₀ at�
 abbrev μ-loop : tie.MeasureT-loop
 μ-loop code out₀ at₀ count n₀ out at n = count - n
 
-slice-aggregate-put-text : tie.Need-slice-aggregate-put-text Inv-loop μ-loop
-slice-aggregate-put-text c = search needs
-
 put-text-requires : tie.Need-put-text-requires Inv-loop μ-loop
 put-text-requires c κs = omega arith
 
@@ -75,7 +72,7 @@ write-spec =
     (tie.spec
     Inv-loop
     μ-loop
-    slice-aggregate-put-text
+    (λ c. search needs)
     put-text-requires
     loop-holds
     cut-requires

@@ -48,23 +48,8 @@ loop-holds : tie.Need-loop-holds Inv-loop μ-loop
 unfolding gather
 loop-holds c = (search needs, sym (ap (gather (whole (c .args .halves))) (none-left c)))
 
-sub-i : tie.Need-sub-i Inv-loop μ-loop
-sub-i c = search needs
-
-mul-width : tie.Need-mul-width Inv-loop μ-loop
-mul-width c = search needs
-
-element-copy-out-width : tie.Need-element-copy-out-width Inv-loop μ-loop
-element-copy-out-width c = search needs
-
 cast-width : tie.Need-cast-width Inv-loop μ-loop
 cast-width c = let r = can-read c in omega arith
-
-mul-stands-at : tie.Need-mul-stands-at Inv-loop μ-loop
-mul-stands-at c = search needs
-
-element-copy-out-stands-at : tie.Need-element-copy-out-stands-at Inv-loop μ-loop
-element-copy-out-stands-at c = search needs
 
 bits-from-requires : tie.Need-bits-from-requires Inv-loop μ-loop
 bits-from-requires c κs =
@@ -110,14 +95,8 @@ add-raw c =
     let a = l .before .args in
     fits-of-lt (subst (λ (x : ℕ). x < 2 ^ 64) (sym (turned c)) (gather-fits (whole (a .halves)) (a .slot) (a .t3) (l .loop .i - 1) (before t) (l .before .pre .1)))
 
-loop-less : tie.Need-loop-less Inv-loop μ-loop
-loop-less c = search needs
-
 loop-again : tie.Need-loop-again Inv-loop μ-loop
 loop-again c = (search needs, turned c)
-
-loop-less-2 : tie.Need-loop-less-2 Inv-loop μ-loop
-loop-less-2 c = search needs
 
 loop-again-2 : tie.Need-loop-again-2 Inv-loop μ-loop
 loop-again-2 c =
@@ -145,20 +124,20 @@ gather-spec =
     Inv-loop
     μ-loop
     loop-holds
-    sub-i
-    mul-width
-    element-copy-out-width
+    (λ c. search needs)
+    (λ c. search needs)
+    (λ c. search needs)
     cast-width
-    mul-stands-at
-    element-copy-out-stands-at
+    (λ c. search needs)
+    (λ c. search needs)
     (λ c κs. search needs)
     bits-from-requires
     cast-raw
     shl-raw
     get-requires
     add-raw
-    loop-less
+    (λ c. search needs)
     loop-again
-    loop-less-2
+    (λ c. search needs)
     loop-again-2
     returns)

@@ -33,23 +33,8 @@ module _ (c : tie.In-loop Inv-loop μ-loop) where
   can-read : Reads (getD (c .before .before .args .t3) (c .before .loop .i) noPart) (drop (suc (c .before .loop .i)) (c .before .before .args .t3))
   can-read = reads (c .before .before .args .t3) (c .before .loop .i) before (c .before .before .pre .1)
 
-loop-holds : tie.Need-loop-holds Inv-loop μ-loop
-loop-holds c = search needs
-
-mul-width : tie.Need-mul-width Inv-loop μ-loop
-mul-width c = search needs
-
-element-copy-out-width : tie.Need-element-copy-out-width Inv-loop μ-loop
-element-copy-out-width c = search needs
-
 cast-width : tie.Need-cast-width Inv-loop μ-loop
 cast-width c = let r = can-read c in omega arith
-
-mul-stands-at : tie.Need-mul-stands-at Inv-loop μ-loop
-mul-stands-at c = search needs
-
-element-copy-out-stands-at : tie.Need-element-copy-out-stands-at Inv-loop μ-loop
-element-copy-out-stands-at c = search needs
 
 put-requires : tie.Need-put-requires Inv-loop μ-loop
 put-requires c κs =
@@ -64,12 +49,6 @@ cast-rest c = let r = can-read (c .before .before .before) in omega arith
 
 shr-rest : tie.Need-shr-rest Inv-loop μ-loop
 shr-rest c = can-read (c .before .before .before) .width-fits
-
-add-i : tie.Need-add-i Inv-loop μ-loop
-add-i c = search needs
-
-loop-less : tie.Need-loop-less Inv-loop μ-loop
-loop-less c = search needs
 
 -- a turn, by which of the two ways it went
 turned : (c : tie.Joined1 Inv-loop μ-loop) →
@@ -119,17 +98,17 @@ scatter-spec =
     (tie.spec
     Inv-loop
     μ-loop
-    loop-holds
-    mul-width
-    element-copy-out-width
+    (λ c. search needs)
+    (λ c. search needs)
+    (λ c. search needs)
     cast-width
-    mul-stands-at
-    element-copy-out-stands-at
+    (λ c. search needs)
+    (λ c. search needs)
     (λ c κs. search needs)
     put-requires
     cast-rest
     shr-rest
-    add-i
-    loop-less
+    (λ c. search needs)
+    (λ c. search needs)
     loop-again
     returns)

@@ -4,8 +4,8 @@ use lines::out;
 pub fn answer(number: u64, code: &[u8], out: &mut [u8], at: usize) -> usize {
     let cut = bundle::cut(code, number);
     let said = cut.answer as u64;
-    let tag = cut.tag as u64;
-    let kinds = cut.units;
+    let tag = cut.template.tag as u64;
+    let kinds = cut.template.units;
     let words = cut.slots;
     let to = out::number(out, at, said);
     let middle = out::number(out, to, tag);

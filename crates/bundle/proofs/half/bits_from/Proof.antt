@@ -12,24 +12,6 @@ use borrow.Author.Needs.{needs}
 use Rattle.bundle.proofs.half.bits_from.Statement.{statement}
 use Rattle.bundle.proofs.half.bits_from.Tie as tie
 
-cast-result : tie.Need-cast-result
-cast-result c = search needs
-
-shr-result : tie.Need-shr-result
-shr-result c = search needs
-
-shr-result-2 : tie.Need-shr-result-2
-shr-result-2 c = search needs
-
-sub-result : tie.Need-sub-result
-sub-result c = search needs
-
-cast-result-2 : tie.Need-cast-result-2
-cast-result-2 c = search needs
-
-shl-result : tie.Need-shl-result
-shl-result c = search needs
-
 -- across the seam
 across : (c : tie.After-struct-known3) →
     let a = c .before .before .before .args in
@@ -61,12 +43,12 @@ pub bits-from-spec : {M : Type 1} → statement M
 bits-from-spec =
     tie.close
     (tie.spec
-    cast-result
-    shr-result
-    shr-result-2
-    sub-result
-    cast-result-2
-    shl-result
+    (λ c. search needs)
+    (λ c. search needs)
+    (λ c. search needs)
+    (λ c. search needs)
+    (λ c. search needs)
+    (λ c. search needs)
     add-result
     returns
     returns-2)

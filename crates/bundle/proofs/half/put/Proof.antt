@@ -9,9 +9,6 @@ use borrow.Author.Needs.{needs}
 use Rattle.bundle.proofs.half.put.Statement.{statement}
 use Rattle.bundle.proofs.half.put.Tie as tie
 
-put-requires : tie.Need-put-requires
-put-requires c κs = search needs
-
 returns : tie.Need-returns
 returns c =
     let start = c .before .before in
@@ -19,36 +16,12 @@ returns c =
     let l : a .halves .low < 2 ^ 64 = omega (arith, start) in
     ap (above 64 (a .halves .low)) (c .put .ensures) ∙ put-in-high (a .halves .low) (a .halves .high) (a .place) (a .width) l (a .value) (c .before .if1 .taken)
 
-add-if2 : tie.Need-add-if2
-add-if2 c = search needs
-
-put-requires-2 : tie.Need-put-requires-2
-put-requires-2 c κs = search needs
-
 returns-2 : tie.Need-returns-2
 returns-2 c =
     let start = c .before .before .before in
     let a = start .args in
     let l : a .halves .low < 2 ^ 64 = omega (arith, start) in
     ap (λ (x : ℕ). above 64 x (a .halves .high)) (c .put2 .ensures) ∙ put-in-low (a .halves .low) (a .halves .high) (a .place) (a .width) l (a .value) (c .before .if2 .taken)
-
-sub-below : tie.Need-sub-below
-sub-below c = search needs
-
-put-requires-3 : tie.Need-put-requires-3
-put-requires-3 c κs = search needs
-
-sub-put : tie.Need-sub-put
-sub-put c = search needs
-
-cast-put : tie.Need-cast-put
-cast-put c = search needs
-
-shr-put : tie.Need-shr-put
-shr-put c = search needs
-
-put-requires-4 : tie.Need-put-requires-4
-put-requires-4 c κs = search needs
 
 returns-3 : tie.Need-returns-3
 returns-3 c =
@@ -66,15 +39,15 @@ pub put-spec : {M : Type 1} → statement M
 put-spec =
     tie.close
     (tie.spec
-    put-requires
+    (λ c κs. search needs)
     returns
-    add-if2
-    put-requires-2
+    (λ c. search needs)
+    (λ c κs. search needs)
     returns-2
-    sub-below
-    put-requires-3
-    sub-put
-    cast-put
-    shr-put
-    put-requires-4
+    (λ c. search needs)
+    (λ c κs. search needs)
+    (λ c. search needs)
+    (λ c. search needs)
+    (λ c. search needs)
+    (λ c κs. search needs)
     returns-3)

@@ -27,18 +27,6 @@ slice-aggregate-load-half c = sym (first-half c)
 load-half-requires : tie.Need-load-half-requires
 load-half-requires c κs = first-half c
 
-sub-load-half : tie.Need-sub-load-half
-sub-load-half c = search needs
-
-part-load-half-start : tie.Need-part-load-half-start
-part-load-half-start c = search needs
-
-part-load-half-end : tie.Need-part-load-half-end
-part-load-half-end c = search needs
-
-load-half-requires-2 : tie.Need-load-half-requires-2
-load-half-requires-2 c κs = search needs
-
 returns : tie.Need-returns
 returns c =
     let start = c .before .before .before .before .before in
@@ -56,8 +44,8 @@ read-spec =
     (tie.spec
     slice-aggregate-load-half
     load-half-requires
-    sub-load-half
-    part-load-half-start
-    part-load-half-end
-    load-half-requires-2
+    (λ c. search needs)
+    (λ c. search needs)
+    (λ c. search needs)
+    (λ c κs. search needs)
     returns)

@@ -10,15 +10,6 @@ use borrow.Author.Needs.{needs}
 use Rattle.bundle.proofs.half.slots.Statement.{statement}
 use Rattle.bundle.proofs.half.slots.Tie as tie
 
-rem-t6 : tie.Need-rem-t6
-rem-t6 c = search needs
-
-rem-t9 : tie.Need-rem-t9
-rem-t9 c = search needs
-
-add-t11 : tie.Need-add-t11
-add-t11 c = search needs
-
 returns : tie.Need-returns
 returns c =
     let h = c .args .halves in
@@ -29,4 +20,4 @@ returns c =
     ∙ sym (slots-of-halves (h .low) (h .high) l g)
 
 pub slots-spec : {M : Type 1} → statement M
-slots-spec = tie.close (tie.spec rem-t6 rem-t9 add-t11 returns)
+slots-spec = tie.close (tie.spec (λ c. search needs) (λ c. search needs) (λ c. search needs) returns)

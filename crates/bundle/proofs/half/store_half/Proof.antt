@@ -10,56 +10,17 @@ use borrow.Author.Needs.{needs}
 use Rattle.bundle.proofs.half.store_half.Statement.{statement}
 use Rattle.bundle.proofs.half.store_half.Tie as tie
 
-cast-half : tie.Need-cast-half
-cast-half c = search needs
-
-slice-write-half : tie.Need-slice-write-half
-slice-write-half c = search needs
-
-cast-half-2 : tie.Need-cast-half-2
-cast-half-2 c = search needs
-
-slice-write-half-2 : tie.Need-slice-write-half-2
-slice-write-half-2 c = search needs
-
-cast-half-3 : tie.Need-cast-half-3
-cast-half-3 c = search needs
-
-slice-write-half-3 : tie.Need-slice-write-half-3
-slice-write-half-3 c = search needs
-
-cast-half-4 : tie.Need-cast-half-4
-cast-half-4 c = search needs
-
-slice-write-half-4 : tie.Need-slice-write-half-4
-slice-write-half-4 c = search needs
-
-cast-half-5 : tie.Need-cast-half-5
-cast-half-5 c = search needs
-
 slice-write-half-5 : tie.Need-slice-write-half-5
 slice-write-half-5 c = simp length-set (omega arith)
-
-cast-half-6 : tie.Need-cast-half-6
-cast-half-6 c = search needs
 
 slice-write-half-6 : tie.Need-slice-write-half-6
 slice-write-half-6 c = simp length-set (omega arith)
 
-cast-half-7 : tie.Need-cast-half-7
-cast-half-7 c = search needs
-
 slice-write-half-7 : tie.Need-slice-write-half-7
 slice-write-half-7 c = simp length-set (omega arith)
 
-cast-half-8 : tie.Need-cast-half-8
-cast-half-8 c = search needs
-
 slice-write-half-8 : tie.Need-slice-write-half-8
 slice-write-half-8 c = simp length-set (omega arith)
-
-same-length : tie.Need-same-length
-same-length c = search needs
 
 returns : tie.Need-returns
 unfolding bytes
@@ -69,21 +30,21 @@ pub store-half-spec : {M : Type 1} → statement M
 store-half-spec =
     tie.close
     (tie.spec
-    cast-half
-    slice-write-half
-    cast-half-2
-    slice-write-half-2
-    cast-half-3
-    slice-write-half-3
-    cast-half-4
-    slice-write-half-4
-    cast-half-5
+    (λ c. search needs)
+    (λ c. search needs)
+    (λ c. search needs)
+    (λ c. search needs)
+    (λ c. search needs)
+    (λ c. search needs)
+    (λ c. search needs)
+    (λ c. search needs)
+    (λ c. search needs)
     slice-write-half-5
-    cast-half-6
+    (λ c. search needs)
     slice-write-half-6
-    cast-half-7
+    (λ c. search needs)
     slice-write-half-7
-    cast-half-8
+    (λ c. search needs)
     slice-write-half-8
-    same-length
+    (λ c. search needs)
     returns)

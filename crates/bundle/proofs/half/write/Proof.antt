@@ -13,9 +13,6 @@ use Rattle.bundle.proofs.Elements.{overwritten-twice}
 use Rattle.bundle.proofs.half.write.Statement.{statement}
 use Rattle.bundle.proofs.half.write.Tie as tie
 
-slice-relend-prefix-store-half : tie.Need-slice-relend-prefix-store-half
-slice-relend-prefix-store-half c = search needs
-
 first-half : (c : tie.After-store-half-arg) → length (take 8 (now (c .before .before .args .bundle))) ≡ 8
 first-half c =
     let l = now (c .before .before .args .bundle) in
@@ -27,21 +24,6 @@ slice-aggregate-store-half c = sym (first-half c)
 
 store-half-requires : tie.Need-store-half-requires
 store-half-requires c κs = first-half c
-
-sub-store-half : tie.Need-sub-store-half
-sub-store-half c = search needs
-
-part-store-half-start : tie.Need-part-store-half-start
-part-store-half-start c = search needs
-
-part-store-half-end : tie.Need-part-store-half-end
-part-store-half-end c = search needs
-
-store-half-requires-2 : tie.Need-store-half-requires-2
-store-half-requires-2 c κs = search needs
-
-same-length : tie.Need-same-length
-same-length c = search needs
 
 returns : tie.Need-returns
 returns c =
@@ -57,12 +39,12 @@ pub write-spec : {M : Type 1} → statement M
 write-spec =
     tie.close
     (tie.spec
-    slice-relend-prefix-store-half
+    (λ c. search needs)
     slice-aggregate-store-half
     store-half-requires
-    sub-store-half
-    part-store-half-start
-    part-store-half-end
-    store-half-requires-2
-    same-length
+    (λ c. search needs)
+    (λ c. search needs)
+    (λ c. search needs)
+    (λ c κs. search needs)
+    (λ c. search needs)
     returns)

@@ -9,22 +9,13 @@ use Rattle.lister.proofs.Lines.{end-reserved, end-shown, shown-length}
 use Rattle.lister.proofs.line.put_end.Statement.{statement}
 use Rattle.lister.proofs.line.put_end.Tie as tie
 
-slice-aggregate-put-text : tie.Need-slice-aggregate-put-text
-slice-aggregate-put-text c = search needs
-
 put-text-requires : tie.Need-put-text-requires
 put-text-requires c κs =
     let a = c .before .before .before .before .before .args in
     omega (arith, ap length (end-reserved (a .bundle) (c .before .before .if1 .taken)))
 
-same-length : tie.Need-same-length
-same-length c = search needs
-
 returns : tie.Need-returns
 returns c = rw (end-reserved (c .before .before .before .before .before .before .before .before .args .bundle) (c .before .before .before .before .before .if1 .taken)) (c .before .before .put-text .ensures)
-
-slice-aggregate-put-text-2 : tie.Need-slice-aggregate-put-text-2
-slice-aggregate-put-text-2 c = search needs
 
 put-text-requires-2 : tie.Need-put-text-requires-2
 put-text-requires-2 c κs =
@@ -36,32 +27,20 @@ put-byte-requires c κs =
     let a = c .before .before .before .before .before .before .before .before .before .before .before .args in
     omega (arith, ap length (end-shown (a .bundle) (c .before .before .before .before .before .before .before .before .if1 .left)), shown-length (a .bundle))
 
-array-read-put-field : tie.Need-array-read-put-field
-array-read-put-field c = search needs
-
 put-field-requires : tie.Need-put-field-requires
 put-field-requires c κs =
     let a = c .before .before .before .before .before .before .before .before .before .before .before .before .before .before .before .args in
     omega (arith, ap length (end-shown (a .bundle) (c .before .before .before .before .before .before .before .before .before .before .before .before .if1 .left)), shown-length (a .bundle))
-
-array-read-put-field-2 : tie.Need-array-read-put-field-2
-array-read-put-field-2 c = search needs
 
 put-field-requires-2 : tie.Need-put-field-requires-2
 put-field-requires-2 c κs =
     let a = c .before .before .before .before .before .before .before .before .before .before .before .before .before .before .before .before .before .before .before .args in
     omega (arith, ap length (end-shown (a .bundle) (c .before .before .before .before .before .before .before .before .before .before .before .before .before .before .before .before .if1 .left)), shown-length (a .bundle), field-length (decimal (getD (a .bundle .slots) 0 0)) 9)
 
-array-read-put-field-3 : tie.Need-array-read-put-field-3
-array-read-put-field-3 c = search needs
-
 put-field-requires-3 : tie.Need-put-field-requires-3
 put-field-requires-3 c κs =
     let a = c .before .before .before .before .before .before .before .before .before .before .before .before .before .before .before .before .before .before .before .before .before .before .before .args in
     omega (arith, ap length (end-shown (a .bundle) (c .before .before .before .before .before .before .before .before .before .before .before .before .before .before .before .before .before .before .before .before .if1 .left)), shown-length (a .bundle), field-length (decimal (getD (a .bundle .slots) 0 0)) 9, field-length (decimal (getD (a .bundle .slots) 1 0)) 9)
-
-same-length-2 : tie.Need-same-length-2
-same-length-2 c = search needs
 
 returns-2 : tie.Need-returns-2
 returns-2 c =
@@ -73,18 +52,18 @@ pub put-end-spec : {M : Type 1} → statement M
 put-end-spec =
     tie.close
     (tie.spec
-    slice-aggregate-put-text
+    (λ c. search needs)
     put-text-requires
-    same-length
+    (λ c. search needs)
     returns
-    slice-aggregate-put-text-2
+    (λ c. search needs)
     put-text-requires-2
     put-byte-requires
-    array-read-put-field
+    (λ c. search needs)
     put-field-requires
-    array-read-put-field-2
+    (λ c. search needs)
     put-field-requires-2
-    array-read-put-field-3
+    (λ c. search needs)
     put-field-requires-3
-    same-length-2
+    (λ c. search needs)
     returns-2)

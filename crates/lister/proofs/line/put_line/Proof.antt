@@ -13,9 +13,6 @@ put-field-requires c κs =
     let a = c .before .before .args in
     omega (arith, line-length (a .n) (a .bundle))
 
-cast-put-field : tie.Need-cast-put-field
-cast-put-field c = search needs
-
 put-field-requires-2 : tie.Need-put-field-requires-2
 put-field-requires-2 c κs =
     let a = c .before .before .before .before .before .before .before .args in
@@ -24,24 +21,21 @@ put-field-requires-2 c κs =
 put-end-requires : tie.Need-put-end-requires
 put-end-requires c κs =
     let a = c .before .before .before .before .before .before .before .before .before .before .before .args in
-    omega (arith, line-length (a .n) (a .bundle), field-length (decimal (a .n)) 9, field-length (decimal (a .bundle .tag)) 9)
-
-same-length : tie.Need-same-length
-same-length c = search needs
+    omega (arith, line-length (a .n) (a .bundle), field-length (decimal (a .n)) 9, field-length (decimal (a .bundle .template .tag)) 9)
 
 returns : tie.Need-returns
 unfolding lineOf
 returns c =
     let a = c .before .before .before .before .before .before .before .before .before .before .before .before .before .before .args in
-    put-field-then (decimal (a .n)) 9 (c .before .before .before .before .before .before .before .before .before .before .before .put-field .ensures) (put-field-then (decimal (a .bundle .tag)) 9 (c .before .before .before .before .before .before .put-field2 .ensures) (c .before .before .put-end .ensures))
+    put-field-then (decimal (a .n)) 9 (c .before .before .before .before .before .before .before .before .before .before .before .put-field .ensures) (put-field-then (decimal (a .bundle .template .tag)) 9 (c .before .before .before .before .before .before .put-field2 .ensures) (c .before .before .put-end .ensures))
 
 pub put-line-spec : {M : Type 1} → statement M
 put-line-spec =
     tie.close
     (tie.spec
     put-field-requires
-    cast-put-field
+    (λ c. search needs)
     put-field-requires-2
     put-end-requires
-    same-length
+    (λ c. search needs)
     returns)

@@ -13,9 +13,6 @@ returns : tie.Need-returns
 unfolding restOf
 returns c = rw (c .if1 .taken) (record { bytes = refl; place = sym (add-zero _) })
 
-slice-aggregate-put-text : tie.Need-slice-aggregate-put-text
-slice-aggregate-put-text c = search needs
-
 put-text-requires : tie.Need-put-text-requires
 put-text-requires c κs =
     let a = c .before .before .before .before .args in
@@ -26,9 +23,6 @@ put-field-requires c κs =
     let a = c .before .before .before .before .before .before .before .before .args in
     omega (arith, rest-length (a .bytes) (omega (arith, c .before .before .before .before .before .before .if1 .left)))
 
-same-length : tie.Need-same-length
-same-length c = search needs
-
 returns-2 : tie.Need-returns-2
 returns-2 c =
     rw (rest-some (c .before .before .before .before .before .before .before .before .before .before .before .args .bytes) (omega (arith, c .before .before .before .before .before .before .before .before .before .if1 .left))) (put-then (c .before .before .before .before .before .before .put-text .ensures) (c .before .before .put-field .ensures))
@@ -38,8 +32,8 @@ put-rest-spec =
     tie.close
     (tie.spec
     returns
-    slice-aggregate-put-text
+    (λ c. search needs)
     put-text-requires
     put-field-requires
-    same-length
+    (λ c. search needs)
     returns-2)
