@@ -1,14 +1,11 @@
-"""The listing as document 01 describes it, for the tests: text of hex bytes in, lines out."""
+"""The listing as document 01 describes it: text of hex bytes in, lines out. Bundles are those of the judge's model."""
+import pathlib
+import sys
 
-LIMIT = 65536
+sys.path.append(str(pathlib.Path(__file__).resolve().parents[1] / "judge"))
+from model import MOST, Bundle
+
 DIGITS = b"0123456789abcdef"
-UNITS = {}
-for tags, units in (
-    ((0, 1, 2, 3), "MII"), ((4, 5), "MLX"), ((8, 9, 10, 11), "MMI"), ((12, 13), "MFI"), ((14, 15), "MMF"),
-    ((16, 17), "MIB"), ((18, 19), "MBB"), ((22, 23), "BBB"), ((24, 25), "MMB"), ((28, 29), "MFB"),
-):
-    for tag in tags:
-        UNITS[tag] = units
 
 
 class Fault(Exception):
@@ -23,7 +20,7 @@ def parse(text):
         pair = text[at:at + 2].lower()
         if len(pair) < 2 or pair[0] not in DIGITS or pair[1] not in DIGITS:
             raise Fault("badhex")
-        if len(code) == LIMIT:
+        if len(code) == MOST:
             raise Fault("toolong")
         if at + 2 < len(text) and text[at + 2] not in b" \n":
             raise Fault("badhex")
@@ -32,12 +29,9 @@ def parse(text):
     return bytes(code)
 
 
-def line(number, bundle):
-    bits = int.from_bytes(bundle, "little")
-    tag = bits % 32
-    if tag not in UNITS:
-        return [number, tag, "reserved"]
-    return [number, tag, UNITS[tag]] + [bits >> (5 + 41 * slot) & (1 << 41) - 1 for slot in range(3)]
+def line(number, data):
+    bundle = Bundle(data)
+    return [number, bundle.tag] + ([bundle.units, *bundle.words] if bundle.units else ["reserved"])
 
 
 def listing(text):
