@@ -37,11 +37,12 @@ pub extern "C" fn bench_operands(family: u64, numbers: &[u64], words: &[u64], ls
 // The immediate of a form in a slot of every bundle.
 #[no_mangle]
 pub extern "C" fn bench_immediate(code: &[u8], slot: u64, family: u64, number: u64) -> u64 {
+    let form = Form { family, number };
     let count = code.len() / 16;
     let mut sum = 0;
     let mut n = 0;
     while n < count {
-        let read = immediate::immediate(code, n as u64, slot, family, number);
+        let read = immediate::immediate(code, n as u64, slot, form);
         let value = read.value;
         sum = plus(sum, sum::of_operand(value));
         n += 1;

@@ -2,6 +2,7 @@
 ghost use mathlib.Core.Path.{_≡_};
 ghost use Rattle.glindorsc.specs.Calls.{Answered, Filled, patternIn, cutCall, immediateCall, targetCall};
 use answer::NO_ROOM;
+use form::Form;
 use operand::Operand;
 
 // Cuts a bundle. The output's first seven numbers become the tag, the three units and the three slots; an output
@@ -42,9 +43,9 @@ pub extern "C" fn glindorsc_immediate(
     number: u64,
     value: &mut u64,
 ) -> u8
-    ensures { λ r. ⌜ _≡_ {A = Answered} (record { answer = r; number = now (value .exit) }) (immediateCall (now (code .entry)) bundle slot family number) ⌝ }
+    ensures { λ r. ⌜ _≡_ {A = Answered} (record { answer = r; number = now (value .exit) }) (immediateCall (now (code .entry)) bundle slot (record { family = family; number = number })) ⌝ }
 {
-    let read = immediate::immediate(code, bundle, slot, family, number);
+    let read = immediate::immediate(code, bundle, slot, Form { family, number });
     let operand = read.value;
     *value = pattern_in(operand);
     read.answer
@@ -72,9 +73,9 @@ pub extern "C" fn glindorsc_target(
     address: u64,
     target: &mut u64,
 ) -> u8
-    ensures { λ r. ⌜ _≡_ {A = Answered} (record { answer = r; number = now (target .exit) }) (targetCall (now (code .entry)) bundle slot family number address) ⌝ }
+    ensures { λ r. ⌜ _≡_ {A = Answered} (record { answer = r; number = now (target .exit) }) (targetCall (now (code .entry)) bundle slot (record { family = family; number = number }) address) ⌝ }
 {
-    let place = immediate::target(code, bundle, slot, family, number, address);
-    *target = place.address;
-    place.answer
+    let reached = immediate::target(code, bundle, slot, Form { family, number }, address);
+    *target = reached.address;
+    reached.answer
 }
