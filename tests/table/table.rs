@@ -19,7 +19,6 @@ pub struct Row {
 }
 
 /// Bits `place..place + width` of the slot, or of the L slot, stand for the value bits from `to` on.
-#[derive(Clone)]
 pub struct Part {
     pub in_l: bool,
     pub place: u32,
