@@ -1,18 +1,20 @@
--- What a plan, an edit and an undo come to, case by case: the list of refusals goes on after those of opening the bundle. Assumes nothing.
-use mathlib.Core.Path.{_≡_, refl, sym, ap, _∙_, subst}
+-- What a change of a bundle, a plan, an edit and an undo come to, case by case. A list of refusals goes on after those of opening the
+-- bundle; and a plan carried out is the call, since of a journal that isn't valid nothing else is asked. Assumes nothing.
+use mathlib.Core.Path.{_≡_, refl, sym, ap, ap₂, _∙_, subst}
 use mathlib.Core.Bool.{Bool, true, false, cond, not}
-use mathlib.Core.List.{List, [], _∷_, _++_}
-use Prim.Native.Nat.{ℕ, zero, suc, _+_, _*_, _≤_, _<_, _^_, zero-le, suc-le-suc}
-use borrow.Author.Tests.{leb-false, ltb-false, eqb-false, not-false, lt-ltb, le-ltb}
-use lib.Dec.{T, eqb, leb, ltb, leb→le}
+use mathlib.Core.List.{List, [], _∷_, _++_, getLastD}
+use Prim.Native.Nat.{ℕ, _+_, _-_, _*_, _≤_, _<_, _^_}
+use native.Mathlib.Decide.{ℕ-discrete}
+use borrow.Author.Tests.{leb-false, ltb-false, eqb-true, eqb-false, not-false}
+use lib.Dec.{T, eqb}
 use lib.ListN.{length}
-use mir.Facts.{and-yes}
-use Rattle.answer.specs.Answer.{Refusal, accepted, exhaustedInput, badValue, empty, stale, tooLong, badJournal, first}
-use Rattle.answer.proofs.Laws.{none-applies, first-on, first-stop, accepts, refuses, answered}
-use Rattle.bundle.specs.Bundle.{numberAt, halvesOf, whole}
+use Rattle.answer.specs.Answer.{Refusal, accepted, badValue, first, outcome}
+use Rattle.answer.proofs.Laws.{numbered, none-applies, first-on, first-stop, accepts, refuses, answered}
+use Rattle.bundle.specs.Bundle.{foundOf, numberAt, halvesOf, whole}
 use Rattle.bundle.proofs.Bytes.{Bytes}
+use Rattle.bundle.proofs.Halves.{whole-halves}
 use Rattle.bundle.proofs.Laws.{cut-found, number-at-lt}
-use Rattle.bundle.proofs.Lies.{Lies, lies}
+use Rattle.bundle.proofs.Lies.{found-when}
 use Rattle.operand.specs.declared.Operand.{Operand}
 use Rattle.immediate.specs.Row.{rowOf}
 use Rattle.immediate.specs.Immediate.{Sound, openRefusals}
@@ -21,11 +23,14 @@ use Rattle.immediate.proofs.Laws.{opened, open-sound}
 use Rattle.immediate.proofs.Written.{written-lt}
 use Rattle.immediate.specs.declared.meaning.Raw.{Raw}
 use Rattle.immediate.specs.declared.meaning.Raw.the-variants.{Is, Bad}
-use Rattle.journal.specs.Edit.{isBad, rawIn, rawFor, editedNumber, planRefusals, planOf, noHalves, rewritten, recordOf, editRefusals, editOf, standRefusals, undoRefusals, undoOf}
-use Rattle.journal.specs.Journal.{placesValid, validOf, roomRefusals, lastRefusals, pushOf, lastOf, popOf}
+use Rattle.journal.specs.Edit.{Outcome, isBad, rawIn, rawFor, editedNumber, planRefusals, planOf, noHalves, rewritten, recordOf, roomRefusals, editRefusals, editOf, undoRefusals, undoOf}
+use Rattle.journal.specs.Journal.{limit, noRecord, standing, journalOf, validOf, recordAt, withRecord}
+use Rattle.journal.specs.Plan.{refusedPlan, editPlanOf, undoPlanOf, carriedOut}
+use Rattle.journal.specs.declared.change.Change.{Change}
+use Rattle.journal.specs.declared.plan.Plan.{Plan}
 use Rattle.journal.specs.declared.records.Journal.{Journal}
 use Rattle.journal.specs.declared.records.Record.{Record}
-use Rattle.journal.specs.declared.plan.Plan.{Plan}
+use Rattle.journal.proofs.Standing.{valid-counts, valid-last, valid-pushes, valid-pops}
 
 module _ (code : List ℕ) (k slot family number : ℕ) (value : Operand) where
   opening : List Refusal
@@ -60,14 +65,14 @@ module _ (code : List ℕ) (k slot family number : ℕ) (value : Operand) where
 
   pub plan-answer : planOf code k slot family number value .answer ≡ first (planRefusals code k slot family number value)
   unfolding planOf
-  plan-answer = answered (λ (p : Plan). p .answer) (first (planRefusals code k slot family number value)) _ _ refl refl
+  plan-answer = answered (λ (p : Change). p .answer) (first (planRefusals code k slot family number value)) _ _ refl refl
 
   -- a plan that is accepted is of a bundle that lies in the code
   pub plan-opened : first (planRefusals code k slot family number value) ≡ accepted → first (openRefusals code k slot family (rowOf family number)) ≡ accepted
   plan-opened e = let n = none-applies (planRefusals code k slot family number value) tt e in rw (n .0, n .1 .0, n .1 .1 .0, n .1 .1 .1 .0, n .1 .1 .1 .1 .0)
 
-  pub plan-lies : first (planRefusals code k slot family number value) ≡ accepted → Lies code k
-  plan-lies e = lies code k (cut-found code k (opened code k slot family (rowOf family number) (plan-opened e) .cut))
+  pub plan-found : first (planRefusals code k slot family number value) ≡ accepted → foundOf code k ≡ accepted
+  plan-found e = cut-found code k (opened code k slot family (rowOf family number) (plan-opened e) .cut)
 
   pub plan-sound : first (planRefusals code k slot family number value) ≡ accepted → Sound slot (rowOf family number)
   plan-sound e = open-sound code k slot family (rowOf family number) (row-good family number) (plan-opened e)
@@ -84,81 +89,100 @@ module _ (code : List ℕ) (k slot family number : ℕ) (value : Operand) where
   pub edited-lt : first (planRefusals code k slot family number value) ≡ accepted → Bytes code → editedNumber (numberAt code k) slot family number value < 2 ^ 128
   edited-lt e b =
       written-lt slot (rowOf family number) (plan-sound e) (numberAt code k) _
-      (number-at-lt code k (cut-found code k (opened code k slot family (rowOf family number) (plan-opened e) .cut)) b)
+      (number-at-lt code k (plan-found e) b)
 
-  module _ (journal : Journal) where
-    plans : List Refusal
-    plans = planRefusals code k slot family number value
+-- an outcome that is refused, whatever would be done
+pub refused-is {ℓ} : {A : Type ℓ} (refused : ℕ → A) (done : A) (a b : ℕ) → b ≡ a → (a ≡ accepted → ⊥) → refused a ≡ outcome b done (refused b)
+refused-is refused done a b e d = ap refused (sym e) ∙ sym (refuses b done (refused b) (λ q. d (sym e ∙ q)))
 
-    pub edit-refused-by : (a : ℕ) → first (editRefusals code journal k slot family number value) ≡ a → (a ≡ accepted → ⊥)
-        → record { answer = a; journal = journal; code = code } ≡ editOf code journal k slot family number value
-    unfolding editOf
-    edit-refused-by a e d =
-        ap (λ (x : ℕ). record { answer = x; journal = journal; code = code }) (sym e)
-        ∙ sym (refuses (first (editRefusals code journal k slot family number value)) _ _ (λ q. d (sym e ∙ q)))
-
-    pub edit-done : first (editRefusals code journal k slot family number value) ≡ accepted
-        → editOf code journal k slot family number value
-        ≡ record { answer = accepted; journal = pushOf journal (recordOf code k slot family number value); code = rewritten code k (editedNumber (numberAt code k) slot family number value) }
-    unfolding editOf
-    edit-done e = accepts (first (editRefusals code journal k slot family number value)) _ _ e
-
-    pub edit-unplanned : (first (planRefusals code k slot family number value) ≡ accepted → ⊥)
-        → first (editRefusals code journal k slot family number value) ≡ first (planRefusals code k slot family number value)
-    unfolding plans
-    edit-unplanned d = first-stop plans (roomRefusals journal) d
-
-    pub edit-planned : first (planRefusals code k slot family number value) ≡ accepted
-        → first (editRefusals code journal k slot family number value) ≡ first (roomRefusals journal)
-    unfolding plans
-    edit-planned e = first-on plans (roomRefusals journal) tt e
-
--- a journal that has room
-pub has-room : (journal : Journal) → first (roomRefusals journal) ≡ accepted → journal .count < 64
-has-room journal e = leb-false 64 (journal .count) (none-applies (roomRefusals journal) tt e .1 .0)
-
--- a valid journal has at most 64 records
-pub valid-count : (journal : Journal) → validOf journal ≡ true → journal .count ≤ 64
-unfolding validOf
-valid-count journal e = leb→le _ _ (and-yes (leb (journal .count) 64) (placesValid (journal .count) 0 (journal .records)) (subst T (sym e) tt) .0)
-
--- a journal with a record to undo
-pub has-last : (journal : Journal) → first (lastRefusals journal) ≡ accepted → (0 < journal .count) × (journal .count ≤ 64)
-has-last journal e =
-    let n = none-applies (lastRefusals journal) tt e in
-    (pos-of (journal .count) (eqb-false (journal .count) 0 (n .1 .0)), valid-count journal (not-false _ (n .0)))
+-- a list of refusals accepts where its two parts do
+pub parts-accept : (rs qs : List Refusal) → T (numbered rs) → first (rs ++ qs) ≡ accepted → (first rs ≡ accepted) × (first qs ≡ accepted)
+parts-accept rs qs n e = go (ℕ-discrete (first rs) accepted)
   where
-    pos-of : (n : ℕ) → (n ≡ 0 → ⊥) → 0 < n
-    pos-of zero d = absurd (d refl)
-    pos-of (suc n) d = suc-le-suc zero-le
+    go : Dec (first rs ≡ accepted) → (first rs ≡ accepted) × (first qs ≡ accepted)
+    go (yes a) = (a, sym (first-on rs qs n a) ∙ e)
+    go (no d) = absurd (d (sym (first-stop rs qs d) ∙ e))
 
--- what undoing comes to, case by case
-module _ (code : List ℕ) (journal : Journal) where
-  pub undo-refused : (first (undoRefusals code journal) ≡ accepted → ⊥) → undoOf code journal ≡ record { answer = first (undoRefusals code journal); journal = journal; code = code }
-  unfolding undoOf
-  undo-refused d = refuses (first (undoRefusals code journal)) _ _ d
+-- and goes on by what its second part answers
+pub first-past : (rs qs ps : List Refusal) → first qs ≡ first ps → first (rs ++ qs) ≡ first (rs ++ ps)
+first-past [] qs ps e = e
+first-past (r ∷ rs) qs ps e = ap (λ (n : ℕ). cond (r .1) (r .0) n) (first-past rs qs ps e)
 
-  pub undo-refused-by : (a : ℕ) → first (undoRefusals code journal) ≡ a → (a ≡ accepted → ⊥) → record { answer = a; journal = journal; code = code } ≡ undoOf code journal
-  undo-refused-by a e d = ap (λ (x : ℕ). record { answer = x; journal = journal; code = code }) (sym e) ∙ sym (undo-refused (λ q. d (sym e ∙ q)))
+-- of a journal that isn't valid nothing else is asked
+room-same : (v : Bool) (m n : ℕ) → (v ≡ true → m ≡ n) → first (roomRefusals v m) ≡ first (roomRefusals v n)
+room-same true m n f = ap (λ (k : ℕ). first (roomRefusals true k)) (f refl)
+room-same false m n f = refl
 
-  pub undo-long : 65536 < length code → first (undoRefusals code journal) ≡ tooLong
-  undo-long h = rw (lt-ltb 65536 (length code) h)
+undo-same : (code : List ℕ) (v : Bool) (m n : ℕ) (r q : Record) → (v ≡ true → (m ≡ n) × (r ≡ q)) → first (undoRefusals code v m r) ≡ first (undoRefusals code v n q)
+undo-same code true m n r q f = ap₂ (λ (k : ℕ) (s : Record). first (undoRefusals code true k s)) (f refl .0) (f refl .1)
+undo-same code false m n r q f = refl
 
-  module _ (short : length code ≤ 65536) where
-    pub undo-none : (first (lastRefusals journal) ≡ accepted → ⊥)
-        → first (undoRefusals code journal) ≡ first (lastRefusals journal)
-    undo-none d = rw (le-ltb 65536 (length code) short) (first-stop (lastRefusals journal) (standRefusals code (lastOf journal)) d)
+-- a plan that is accepted or refused by a
+module _ (code : List ℕ) (plan : Plan) (a : ℕ) where
+  abbrev Decided : Plan
+  Decided = outcome a plan (refusedPlan a)
 
-    pub undo-some : first (lastRefusals journal) ≡ accepted
-        → first (undoRefusals code journal) ≡ first (standRefusals code (lastOf journal))
-    undo-some e = rw (le-ltb 65536 (length code) short) (first-on (lastRefusals journal) (standRefusals code (lastOf journal)) tt e)
+  -- its bundle is in the code where it is accepted
+  decided-found : (a ≡ accepted → foundOf code (plan .bundle) ≡ accepted) → Decided .answer ≡ accepted → foundOf code (Decided .bundle) ≡ accepted
+  decided-found f = go (eqb a accepted) refl
+    where
+      go : (t : Bool) → eqb a accepted ≡ t → cond t plan (refusedPlan a) .answer ≡ accepted → foundOf code (cond t plan (refusedPlan a) .bundle) ≡ accepted
+      go true e q = f (eqb-true a accepted e)
+      go false e q = absurd (eqb-false a accepted e q)
 
-  module _ (e : first (undoRefusals code journal) ≡ accepted) where
-    pub undo-done : undoOf code journal ≡ record { answer = accepted; journal = popOf journal; code = rewritten code (lastOf journal .bundle) (whole (lastOf journal .old)) }
-    unfolding undoOf
-    undo-done = accepts (first (undoRefusals code journal)) _ _ e
+  -- what carrying it out comes to, where its answer is b and it leaves this journal and this code
+  decided-carried : (j after : Journal) (written : List ℕ) (b : ℕ) → plan .answer ≡ accepted → a ≡ b
+      → (a ≡ accepted → (withRecord j (plan .place) (plan .kept) (plan .count) ≡ after) × (rewritten code (plan .bundle) (whole (plan .halves)) ≡ written))
+      → carriedOut code j Decided ≡ outcome b (record { answer = accepted; journal = after; code = written }) (record { answer = b; journal = j; code = code })
+  unfolding carriedOut
+  decided-carried j after written b h e f = go (eqb a accepted) refl ∙ ap (λ (n : ℕ). outcome n done (record { answer = n; journal = j; code = code })) e
+    where
+      done : Outcome
+      done = record { answer = accepted; journal = after; code = written }
 
-    pub undo-lies : Lies code (lastOf journal .bundle)
-    undo-lies =
-        let n = none-applies (undoRefusals code journal) tt e in
-        record { short = ltb-false _ _ (n .0); within = ltb-false _ _ (n .1 .1 .1 .0) }
+      go : (t : Bool) → eqb a accepted ≡ t → carriedOut code j (cond t plan (refusedPlan a)) ≡ cond t done (record { answer = a; journal = j; code = code })
+      go true q = let p = f (eqb-true a accepted q) in accepts (plan .answer) _ _ h ∙ (λ i. record { answer = accepted; journal = p .0 i; code = p .1 i })
+      go false q = refuses a _ _ (eqb-false a accepted q)
+
+-- an edit's plan carried out is the edit
+module _ (code : List ℕ) (k slot family number : ℕ) (value : Operand) where
+  plans : List Refusal
+  plans = planRefusals code k slot family number value
+
+  pub edit-found : (valid : Bool) (count : ℕ) → editPlanOf code valid count k slot family number value .answer ≡ accepted → foundOf code (editPlanOf code valid count k slot family number value .bundle) ≡ accepted
+  unfolding editPlanOf plans
+  edit-found valid count =
+      decided-found code _ (first (editRefusals code valid count k slot family number value))
+      (λ e. plan-found code k slot family number value (parts-accept plans (roomRefusals valid count) tt e .0))
+
+  pub edit-carried : Bytes code → (j : Journal) → carriedOut code j (editPlanOf code (validOf j) (j .count) k slot family number value) ≡ editOf code j k slot family number value
+  unfolding editPlanOf editOf plans
+  edit-carried b j =
+      decided-carried code _ (first (editRefusals code (validOf j) (j .count) k slot family number value)) j _ _ _ refl
+      (first-past plans (roomRefusals (validOf j) (j .count)) (roomRefusals (validOf j) (length (standing j))) (room-same (validOf j) (j .count) (length (standing j)) (valid-counts j)))
+      (λ e.
+      let p = parts-accept plans (roomRefusals (validOf j) (j .count)) tt e in
+      let n = none-applies (roomRefusals (validOf j) (j .count)) tt (p .1) in (
+        valid-pushes j (not-false _ (n .0)) (recordOf code k slot family number value) (leb-false limit (j .count) (n .1 .0)),
+        ap (rewritten code k) (whole-halves _ (edited-lt code k slot family number value (p .0) b)),
+      ))
+
+-- an undo's plan carried out is the undo
+module _ (code : List ℕ) where
+  pub undo-found : (valid : Bool) (count : ℕ) (last : Record) → undoPlanOf code valid count last .answer ≡ accepted → foundOf code (undoPlanOf code valid count last .bundle) ≡ accepted
+  unfolding undoPlanOf
+  undo-found valid count last =
+      decided-found code _ (first (undoRefusals code valid count last))
+      (λ e.
+      let n = none-applies (undoRefusals code valid count last) tt e in
+      found-when code (last .bundle) (record { short = ltb-false _ _ (n .0); within = ltb-false _ _ (n .1 .1 .1 .0) }))
+
+  pub undo-carried : (j : Journal) → carriedOut code j (undoPlanOf code (validOf j) (j .count) (recordAt j (j .count - 1))) ≡ undoOf code j
+  unfolding undoPlanOf undoOf
+  undo-carried j =
+      let last = recordAt j (j .count - 1) in
+      decided-carried code _ (first (undoRefusals code (validOf j) (j .count) last)) j _ _ _ refl
+      (undo-same code (validOf j) (j .count) (length (standing j)) last (getLastD (standing j) noRecord) (λ v. (valid-counts j v, valid-last j v)))
+      (λ e.
+      let v = not-false _ (none-applies (undoRefusals code (validOf j) (j .count) last) tt e .1 .0) in
+      (valid-pops j v, ap (λ (r : Record). rewritten code (r .bundle) (whole (r .old))) (valid-last j v)))

@@ -1,118 +1,187 @@
--- The journal of the standing edits is valid, and pushing and popping a record keep it the journal of the standing edits: its records
--- are padded to 64 places by free ones. Assumes nothing.
+-- The laws of the journal's view. A journal's places are its records and free places after them, `limit` together; so a record is added
+-- where the free places begin and taken where the records end. Assumes nothing.
 use mathlib.Core.Path.{_≡_, refl, sym, ap, ap₂, _∙_, subst}
-use mathlib.Core.Bool.{Bool, true, false, cond, _&&_}
-use mathlib.Core.List.{List, [], _∷_, _++_, append-assoc}
-use Prim.Native.Nat.{ℕ, zero, suc, _+_, _-_, _*_, _≤_, _<_, _^_}
+use mathlib.Core.Bool.{Bool, true, false, _&&_, and-true, and-false, and-assoc}
+use mathlib.Core.List.{List, [], _∷_, _++_, append-assoc, dropLast, getLastD}
+use Prim.Native.Nat.{ℕ, zero, suc, _+_, _-_, _≤_, _<_}
 use native.Mathlib.Omega.{arith}
-use borrow.Author.Tests.{le-ltb, lt-ltb, le-leb}
-use lib.Dec.{ltb, leb}
-use lib.ListN.{length, getD, set, replicate, length-append}
-use lib.Seq.{set-at, getD-at, append-snoc}
-use Rattle.journal.specs.Journal.{noRecord, placeValid, placesValid, validOf, pushOf, lastOf, popOf}
-use Rattle.journal.specs.Demand3.{Edit, madeAll, recordsOf, journalOf}
-use Rattle.journal.specs.Edit.{recordOf}
+use borrow.Author.Tests.{le-leb, leb-true, eq-eqb}
+use lib.Dec.{T, eqb, leb, leb→le, eqb→eq}
+use lib.ListN.{length, getD, set, take, drop, replicate, length-append, length-replicate, length-drop, take-append-drop}
+use lib.Seq.{set-at, getD-at, take-append-seam, drop-append-seam, length-take-le}
+use mir.Facts.{and-yes}
+use Rattle.journal.specs.Journal.{limit, noRecord, isZero, isFree, mayStand, all, standing, journalOf, validOf, recordAt, withRecord, JournalStands, JournalValid, ValidIsJournal, JournalReads, JournalPushes, JournalPops}
 use Rattle.journal.specs.declared.records.Record.{Record}
 use Rattle.journal.specs.declared.records.Journal.{Journal}
 
--- a list with free places after it, n together
-module _ {A : Type 0} (xs : List A) (z a : A) (n : ℕ) (h : length xs < n) where
-  one-more : replicate (n - length xs) z ≡ z ∷ replicate (n - suc (length xs)) z
-  one-more =
-      let e : n - length xs ≡ suc (n - suc (length xs)) = omega arith in
-      ap (λ (m : ℕ). replicate m z) e
+-- the free places after n records
+abbrev free : ℕ → List Record
+free n = replicate (limit - n) noRecord
 
-  filled : (b : A) → set (xs ++ replicate (n - length xs) z) (length xs) b ≡ xs ++ b ∷ replicate (n - suc (length xs)) z
-  filled b = ap (λ (r : List A). set (xs ++ r) (length xs) b) one-more ∙ set-at xs z _ b (length xs) refl
+one-more : (n : ℕ) → n < limit → free n ≡ noRecord ∷ free (n + 1)
+one-more n h =
+    let e : limit - n ≡ suc (limit - (n + 1)) = omega arith in
+    ap (λ (m : ℕ). replicate m noRecord) e
 
-  snoc : (xs ++ (a ∷ [])) ++ replicate (n - suc (length xs)) z ≡ xs ++ a ∷ replicate (n - suc (length xs)) z
-  snoc = append-assoc xs (a ∷ []) _
+pub journal-stands : JournalStands
+unfolding standing journalOf
+journal-stands rs = take-append-seam rs _
 
-  pub push-padded : set (xs ++ replicate (n - length xs) z) (length xs) a ≡ (xs ++ (a ∷ [])) ++ replicate (n - suc (length xs)) z
-  push-padded = filled a ∙ sym snoc
+pub journal-counts : (rs : List Record) → journalOf rs .count ≡ length rs
+unfolding journalOf
+journal-counts rs = refl
 
-  pub last-padded : getD ((xs ++ (a ∷ [])) ++ replicate (n - suc (length xs)) z) (length xs) z ≡ a
-  last-padded = ap (λ (r : List A). getD r (length xs) z) snoc ∙ getD-at xs a _ z (length xs) refl
+pub all-append : (test : Record → Bool) (rs qs : List Record) → all test (rs ++ qs) ≡ all test rs && all test qs
+all-append test [] qs = refl
+all-append test (r ∷ rs) qs = ap (λ (t : Bool). test r && t) (all-append test rs qs) ∙ sym (and-assoc (test r) (all test rs) (all test qs))
 
-  pub pop-padded : set ((xs ++ (a ∷ [])) ++ replicate (n - suc (length xs)) z) (length xs) z ≡ xs ++ replicate (n - length xs) z
-  pop-padded =
-      ap (λ (r : List A). set r (length xs) z) snoc
-      ∙ set-at xs a _ z (length xs) refl
-      ∙ ap (λ (r : List A). xs ++ r) (sym one-more)
+all-free : (n : ℕ) → all isFree (replicate n noRecord) ≡ true
+all-free zero = refl
+all-free (suc n) = all-free n
 
-abbrev pub Low : List Record → Type 0
-Low [] = Unit {0}
-Low (r ∷ rs) = (r .bundle ≤ 4095) × Low rs
+pub journal-valid : JournalValid
+unfolding validOf standing journalOf
+journal-valid rs = go (leb (length rs) limit) refl
+  where
+    go : (few : Bool) → leb (length rs) limit ≡ few → validOf (journalOf rs) ≡ few && all mayStand rs
+    go false e = rw (e, and-false (eqb (length (rs ++ free (length rs))) limit))
+    go true e =
+        let few : length rs ≤ limit = leb-true _ _ e in
+        let long : length (rs ++ free (length rs)) ≡ limit = omega (arith, length-append rs (free (length rs)), length-replicate (limit - length rs) noRecord) in
+        rw (e, take-append-seam rs (free (length rs)), drop-append-seam rs (free (length rs)), all-free (limit - length rs), eq-eqb _ _ long) (and-true (all mayStand rs))
 
-pub low-snoc : (rs : List Record) (r : Record) → Low rs → r .bundle ≤ 4095 → Low (rs ++ (r ∷ []))
-low-snoc [] r l h = (h, tt)
-low-snoc (q ∷ rs) r l h = (l .0, low-snoc rs r (l .1) h)
+free-is-none : (r : Record) → T (isFree r) → r ≡ noRecord
+free-is-none r t =
+    let b = and-yes (eqb (r .bundle) 0 && isZero (r .old)) (isZero (r .new)) t in
+    let a = and-yes (eqb (r .bundle) 0) (isZero (r .old)) (b .0) in
+    let o = and-yes (eqb (r .old .low) 0) (eqb (r .old .high) 0) (a .1) in
+    let n = and-yes (eqb (r .new .low) 0) (eqb (r .new .high) 0) (b .1) in
+    λ i. record {
+      bundle = eqb→eq (r .bundle) 0 (a .0) i;
+      old = record { low = eqb→eq (r .old .low) 0 (o .0) i; high = eqb→eq (r .old .high) 0 (o .1) i };
+      new = record { low = eqb→eq (r .new .low) 0 (n .0) i; high = eqb→eq (r .new .high) 0 (n .1) i };
+    }
 
-free-places : (m count i : ℕ) → count ≤ i → placesValid count i (replicate m noRecord) ≡ true
-free-places zero count i h = refl
-free-places (suc m) count i h =
-    let more : count ≤ i + 1 = omega arith in
-    ap₂ (λ (b c : Bool). placeValid b noRecord && c) (le-ltb i count h) (free-places m count (i + 1) more)
+free-are-none : (rs : List Record) → T (all isFree rs) → rs ≡ replicate (length rs) noRecord
+free-are-none [] t = refl
+free-are-none (r ∷ rs) t =
+    let s = and-yes (isFree r) (all isFree rs) t in
+    ap₂ (λ (q : Record) (qs : List Record). q ∷ qs) (free-is-none r (s .0)) (free-are-none rs (s .1))
 
-used-places : (rs : List Record) (m count i : ℕ) → i + length rs ≡ count → Low rs → placesValid count i (rs ++ replicate m noRecord) ≡ true
-used-places [] m count i e l = let h : count ≤ i = omega arith in free-places m count i h
-used-places (r ∷ rs) m count i e l =
-    let here : i < count = omega arith in
-    let more : i + 1 + length rs ≡ count = omega arith in
-    ap₂ (λ (b c : Bool). placeValid b r && c) (lt-ltb i count here) (used-places rs m count (i + 1) more (l .1))
-    ∙ ap (λ (b : Bool). b && true) (le-leb (r .bundle) 4095 (l .0))
+pub valid-is-journal : ValidIsJournal
+unfolding validOf standing journalOf
+valid-is-journal j v =
+    let rs = j .records in
+    let t = and-yes (eqb (length rs) limit && leb (j .count) limit && all mayStand (take (j .count) rs)) (all isFree (drop (j .count) rs)) (subst T (sym v) tt) in
+    let u = and-yes (eqb (length rs) limit && leb (j .count) limit) (all mayStand (take (j .count) rs)) (t .0) in
+    let w = and-yes (eqb (length rs) limit) (leb (j .count) limit) (u .0) in
+    let places : length rs ≡ limit = eqb→eq (length rs) limit (w .0) in
+    let few : j .count ≤ limit = leb→le (j .count) limit (w .1) in
+    let count : length (take (j .count) rs) ≡ j .count = length-take-le (j .count) rs (omega arith) in
+    let left : limit - length (take (j .count) rs) ≡ length (drop (j .count) rs) = omega (arith, length-drop (j .count) rs) in
+    let records =
+    ap (λ (n : ℕ). take (j .count) rs ++ replicate n noRecord) left
+    ∙ ap (λ (qs : List Record). take (j .count) rs ++ qs) (sym (free-are-none (drop (j .count) rs) (t .1)))
+    ∙ take-append-drop (j .count) rs in
+    λ i. record { count = count i; records = records i }
 
-pub plus-one : (n : ℕ) → n + 1 ≡ suc n
-plus-one n = omega arith
+pub journal-reads : JournalReads
+unfolding journalOf
+journal-reads rs i = go rs (limit - length rs) i
+  where
+    go : (rs : List Record) (n i : ℕ) → getD (rs ++ replicate n noRecord) i noRecord ≡ getD rs i noRecord
+    go [] zero i = refl
+    go [] (suc n) zero = refl
+    go [] (suc n) (suc i) = go [] n i
+    go (r ∷ rs) n zero = refl
+    go (r ∷ rs) n (suc i) = go rs n i
 
-less-one : (n : ℕ) → suc n - 1 ≡ n
-less-one n = omega arith
+pub journal-pushes : JournalPushes
+unfolding journalOf
+journal-pushes rs r h =
+    let long : length rs + 1 ≡ length (rs ++ (r ∷ [])) = sym (length-append rs (r ∷ [])) in
+    let records =
+    ap (λ (qs : List Record). set (rs ++ qs) (length rs) r) (one-more (length rs) h)
+    ∙ set-at rs noRecord _ r (length rs) refl
+    ∙ sym (append-assoc rs (r ∷ []) (free (length rs + 1)))
+    ∙ ap (λ (n : ℕ). (rs ++ (r ∷ [])) ++ free n) long in
+    λ i. record { count = long i; records = records i }
 
-module _ (code : List ℕ) where
-  pub records-length : (es : List Edit) → length (recordsOf code es) ≡ length es
-  records-length [] = refl
-  records-length (e ∷ es) =
-      length-append (recordsOf code es) _ ∙ ap (λ (n : ℕ). n + 1) (records-length es) ∙ plus-one (length es)
+-- some records are all but the last and the last
+pub but-last : (r : Record) (rs : List Record) → r ∷ rs ≡ dropLast (r ∷ rs) ++ (getLastD (r ∷ rs) noRecord ∷ [])
+unfolding getLastD
+but-last r [] = refl
+but-last r (q ∷ rs) = ap (λ (qs : List Record). r ∷ qs) (but-last q rs)
 
-  pub journal-valid : (es : List Edit) → length es ≤ 64 → Low (recordsOf code es) → validOf (journalOf code es) ≡ true
-  unfolding validOf journalOf
-  journal-valid es h l =
-      ap₂ (λ (b c : Bool). b && c) (le-leb (length es) 64 h)
-      (used-places (recordsOf code es) (64 - length es) (length es) 0 (let e = records-length es in omega arith) l)
+pub drop-last-snoc : (rs : List Record) (r : Record) → dropLast (rs ++ (r ∷ [])) ≡ rs
+drop-last-snoc [] r = refl
+drop-last-snoc (p ∷ []) r = refl
+drop-last-snoc (p ∷ q ∷ rs) r = ap (λ (qs : List Record). p ∷ qs) (drop-last-snoc (q ∷ rs) r)
 
-  module _ (e : Edit) (es : List Edit) (h : length es < 64) where
-    rs : List Record
-    rs = recordsOf code es
+pub last-snoc : (rs : List Record) (r : Record) → getLastD (rs ++ (r ∷ [])) noRecord ≡ r
+unfolding getLastD
+last-snoc [] r = refl
+last-snoc (p ∷ []) r = refl
+last-snoc (p ∷ q ∷ rs) r = last-snoc (q ∷ rs) r
 
-    r : Record
-    r = recordOf (madeAll code es) (e .bundle) (e .slot) (e .family) (e .number) (e .value)
+drop-last-length : (r : Record) (rs : List Record) → length (dropLast (r ∷ rs)) ≡ length rs
+drop-last-length r rs = omega (arith, ap length (but-last r rs), length-append (dropLast (r ∷ rs)) (getLastD (r ∷ rs) noRecord ∷ []))
 
-    room : length rs < 64
-    unfolding rs
-    room = let l = records-length es in omega arith
+-- the last of some records is the one before their number
+pub last-at : (rs : List Record) → getLastD rs noRecord ≡ getD rs (length rs - 1) noRecord
+unfolding getLastD
+last-at [] = refl
+last-at (r ∷ rs) = let n : length rs ≡ length (r ∷ rs) - 1 = omega arith in go r rs ∙ ap (λ (n : ℕ). getD (r ∷ rs) n noRecord) n
+  where
+    go : (r : Record) (rs : List Record) → getLastD (r ∷ rs) noRecord ≡ getD (r ∷ rs) (length rs) noRecord
+    go r [] = refl
+    go r (q ∷ rs) = go q rs
 
-    pub pushed-is : pushOf (journalOf code es) (recordOf (madeAll code es) (e .bundle) (e .slot) (e .family) (e .number) (e .value)) ≡ journalOf code (e ∷ es)
-    unfolding journalOf rs r
-    pushed-is =
-        let places =
-        ap (λ (n : ℕ). set (rs ++ replicate (64 - n) noRecord) n r) (sym (records-length es))
-        ∙ push-padded rs noRecord r 64 room
-        ∙ ap (λ (n : ℕ). (rs ++ (r ∷ [])) ++ replicate (64 - suc n) noRecord) (records-length es) in
-        (λ i. record { count = plus-one (length es) i; records = places i })
+pub journal-pops : JournalPops
+unfolding journalOf
+journal-pops [] h = refl
+journal-pops (r ∷ rs) h =
+    let qs = dropLast (r ∷ rs) in
+    let long : length (r ∷ rs) - 1 ≡ length qs = omega (arith, drop-last-length r rs) in
+    let more : length qs + 1 ≡ length (r ∷ rs) = omega (arith, drop-last-length r rs) in
+    let few : length qs < limit = omega arith in
+    let last = getLastD (r ∷ rs) noRecord in
+    let records =
+    ap₂ (λ (ps : List Record) (n : ℕ). set (ps ++ free (length (r ∷ rs))) n noRecord) (but-last r rs) long
+    ∙ ap (λ (ps : List Record). set ps (length qs) noRecord) (append-assoc qs (last ∷ []) _)
+    ∙ set-at qs last _ noRecord (length qs) refl
+    ∙ ap (λ (n : ℕ). qs ++ noRecord ∷ free n) (sym more)
+    ∙ ap (λ (ps : List Record). qs ++ ps) (sym (one-more (length qs) few)) in
+    λ i. record { count = long i; records = records i }
 
-    pub last-is : lastOf (journalOf code (e ∷ es)) ≡ recordOf (madeAll code es) (e .bundle) (e .slot) (e .family) (e .number) (e .value)
-    unfolding journalOf rs r
-    last-is =
-        ap (λ (n : ℕ). getD ((rs ++ (r ∷ [])) ++ replicate (64 - suc (length es)) noRecord) n noRecord) (less-one (length es))
-        ∙ ap (λ (n : ℕ). getD ((rs ++ (r ∷ [])) ++ replicate (64 - suc n) noRecord) n noRecord) (sym (records-length es))
-        ∙ last-padded rs noRecord r 64 room
+-- what a valid journal is, by the records that stand in it
+module _ (j : Journal) (v : validOf j ≡ true) where
+  pub valid-counts : j .count ≡ length (standing j)
+  valid-counts = ap (λ (i : Journal). i .count) (sym (valid-is-journal j v)) ∙ journal-counts (standing j)
 
-    pub popped-is : popOf (journalOf code (e ∷ es)) ≡ journalOf code es
-    unfolding journalOf rs r
-    popped-is =
-        let places =
-        ap (λ (n : ℕ). set ((rs ++ (r ∷ [])) ++ replicate (64 - suc (length es)) noRecord) n noRecord) (less-one (length es))
-        ∙ ap (λ (n : ℕ). set ((rs ++ (r ∷ [])) ++ replicate (64 - suc n) noRecord) n noRecord) (sym (records-length es))
-        ∙ pop-padded rs noRecord r 64 room
-        ∙ ap (λ (n : ℕ). rs ++ replicate (64 - n) noRecord) (records-length es) in
-        (λ i. record { count = less-one (length es) i; records = places i })
+  valid-tests : T (leb (length (standing j)) limit) × T (all mayStand (standing j))
+  valid-tests =
+      and-yes (leb (length (standing j)) limit) (all mayStand (standing j))
+      (subst T (sym v ∙ ap validOf (sym (valid-is-journal j v)) ∙ journal-valid (standing j)) tt)
+
+  pub valid-few : length (standing j) ≤ limit
+  valid-few = leb→le _ _ (valid-tests .0)
+
+  pub valid-stand : T (all mayStand (standing j))
+  valid-stand = valid-tests .1
+
+  pub valid-reads : (i : ℕ) → recordAt j i ≡ getD (standing j) i noRecord
+  valid-reads i = ap (λ (j : Journal). recordAt j i) (sym (valid-is-journal j v)) ∙ journal-reads (standing j) i
+
+  pub valid-last : recordAt j (j .count - 1) ≡ getLastD (standing j) noRecord
+  valid-last = ap (λ (n : ℕ). recordAt j (n - 1)) valid-counts ∙ valid-reads (length (standing j) - 1) ∙ sym (last-at (standing j))
+
+  pub valid-pushes : (r : Record) → j .count < limit → withRecord j (j .count) r (j .count + 1) ≡ journalOf (standing j ++ (r ∷ []))
+  valid-pushes r h =
+      ap₂ (λ (j : Journal) (n : ℕ). withRecord j n r (n + 1)) (sym (valid-is-journal j v)) valid-counts
+      ∙ journal-pushes (standing j) r (subst (λ (n : ℕ). n < limit) valid-counts h)
+
+  pub valid-pops : withRecord j (j .count - 1) noRecord (j .count - 1) ≡ journalOf (dropLast (standing j))
+  valid-pops =
+      ap₂ (λ (j : Journal) (n : ℕ). withRecord j (n - 1) noRecord (n - 1)) (sym (valid-is-journal j v)) valid-counts
+      ∙ journal-pops (standing j) valid-few

@@ -1,9 +1,8 @@
 -- Demand 3: after any run of edits and undos the code is the first code with exactly the standing edits made in order.
 -- It is about `editOf` and `undoOf`, with which the contracts of `edit` and `undo` equate all that the two functions do: between
 -- this statement and the code stand those two contracts and nothing else. Assumes nothing.
-use Prim.Native.Nat.{ℕ, suc, zero, _+_, _-_, _*_, _≤_, _<_, _^_}
+use Prim.Native.Nat.{ℕ, _+_, _*_, _≤_, _<_, _^_}
 use mathlib.Core.Path.{_≡_}
-use mathlib.Core.Bool.{Bool, true, false}
 use mathlib.Core.List.{List, [], _∷_, _++_}
 use lib.Dec.{T, leb, eqb}
 use lib.ListN.{length, getD, take, drop, replicate}
@@ -15,10 +14,9 @@ use Rattle.field.specs.Field.{placed}
 use Rattle.operand.specs.declared.Operand.{Operand}
 use Rattle.immediate.specs.Row.{rowOf}
 use Rattle.immediate.specs.Immediate.{valueIn}
-use Rattle.journal.specs.Journal.{noRecord, fresh}
+use Rattle.journal.specs.Journal.{limit, journalOf}
 use Rattle.journal.specs.Edit.{Outcome, rewritten, editedNumber, planRefusals, recordOf, editOf, undoOf}
 use Rattle.journal.specs.declared.records.Record.{Record}
-use Rattle.journal.specs.declared.records.Journal.{Journal}
 
 -- what an edit is asked to do
 pub record Edit : Type 0 where
@@ -39,7 +37,7 @@ step s undo = undoOf (s .code) (s .journal)
 
 -- a run from a first code and an empty journal; the last call stands first, so what is said of every run is said of every prefix
 abbrev pub run : List ℕ → List Call → Outcome
-run code [] = record { answer = accepted; journal = fresh; code = code }
+run code [] = record { answer = accepted; journal = journalOf []; code = code }
 run code (call ∷ calls) = step (run code calls) call
 
 -- the code with one edit made
@@ -58,7 +56,7 @@ unfit code e = planRefusals code (e .bundle) (e .slot) (e .family) (e .number) (
 
 -- what a call answers while these edits stand
 abbrev pub answerTo : List ℕ → List Edit → Call → ℕ
-answerTo code es (edit e) = first (unfit (madeAll code es) e ++ (full, leb 64 (length es)) ∷ [])
+answerTo code es (edit e) = first (unfit (madeAll code es) e ++ (full, leb limit (length es)) ∷ [])
 answerTo code es undo = first ((empty, eqb (length es) 0) ∷ [])
 
 -- the standing edits after a call that is taken
@@ -72,9 +70,9 @@ abbrev pub after : List ℕ → List Edit → Call → List Edit
 after code es call = outcome (answerTo code es call) (taken es call) es
 
 -- the edits that stand after a run, worked out from the first code and the calls alone
-abbrev pub standing : List ℕ → List Call → List Edit
-standing code [] = []
-standing code (call ∷ calls) = after code (standing code calls) call
+abbrev pub standingEdits : List ℕ → List Call → List Edit
+standingEdits code [] = []
+standingEdits code (call ∷ calls) = after code (standingEdits code calls) call
 
 -- the standing edits' records, the oldest first
 abbrev pub recordsOf : List ℕ → List Edit → List Record
@@ -82,28 +80,24 @@ recordsOf code [] = []
 recordsOf code (e ∷ es) =
     recordsOf code es ++ (recordOf (madeAll code es) (e .bundle) (e .slot) (e .family) (e .number) (e .value) ∷ [])
 
--- the journal of the standing edits
-unfoldable pub journalOf : List ℕ → List Edit → Journal
-journalOf code es = record { count = length es; records = recordsOf code es ++ replicate (64 - length es) noRecord }
-
 -- what there is after a call
 abbrev pub expected : List ℕ → List Edit → Call → Outcome
 expected code es call =
     record {
       answer = answerTo code es call;
-      journal = journalOf code (after code es call);
+      journal = journalOf (recordsOf code (after code es call));
       code = madeAll code (after code es call);
     }
 
--- the bits of an edit's immediate in its bundle
-abbrev pub bitsOf : Edit → Parts
-bitsOf e = placed (e .slot) (rowOf (e .family) (e .number) .parts)
+-- the parts of an edit's immediate in its bundle
+abbrev pub partsOf : Edit → Parts
+partsOf e = placed (e .slot) (rowOf (e .family) (e .number) .parts)
 
 -- an edit sets the bits of its one immediate and no other
 pub record SetsOnlyItsBits (code : List ℕ) (e : Edit) : Type 0 where
   pub value : valueIn (rowOf (e .family) (e .number)) (e .slot) (numberAt (made code e) (e .bundle)) ≡ e .value
   pub before : take (16 * e .bundle) (made code e) ≡ take (16 * e .bundle) code
-  pub bits : (i : ℕ) → T (apartFrom (i, 1) (bitsOf e)) → bit (numberAt (made code e) (e .bundle)) i ≡ bit (numberAt code (e .bundle)) i
+  pub bits : (i : ℕ) → T (apartFrom (i, 1) (partsOf e)) → bit (numberAt (made code e) (e .bundle)) i ≡ bit (numberAt code (e .bundle)) i
   pub past : drop (16 * e .bundle + 16) (made code e) ≡ drop (16 * e .bundle + 16) code
 
 -- the calls, and then so many undos
@@ -112,14 +106,14 @@ thenUndo n calls = replicate n undo ++ calls
 
 -- what demand 3 says after a run
 pub record Holds (code : List ℕ) (calls : List Call) : Type 0 where
-  pub code-is : run code calls .code ≡ madeAll code (standing code calls)
-  pub journal-is : run code calls .journal ≡ journalOf code (standing code calls)
-  pub next-is : (call : Call) → run code (call ∷ calls) ≡ expected code (standing code calls) call
+  pub code-is : run code calls .code ≡ madeAll code (standingEdits code calls)
+  pub journal-is : run code calls .journal ≡ journalOf (recordsOf code (standingEdits code calls))
+  pub next-is : (call : Call) → run code (call ∷ calls) ≡ expected code (standingEdits code calls) call
   pub edits-only : (e : Edit) → run code (edit e ∷ calls) .answer ≡ accepted → SetsOnlyItsBits (run code calls .code) e
   pub refused-keeps : (call : Call) → (run code (call ∷ calls) .answer ≡ accepted → ⊥)
       → (run code (call ∷ calls) .code ≡ run code calls .code) × (run code (call ∷ calls) .journal ≡ run code calls .journal)
-  pub undo-refused : (run code (undo ∷ calls) .answer ≡ accepted → ⊥) → standing code calls ≡ []
-  pub undone : run code (thenUndo (length (standing code calls)) calls) .code ≡ code
+  pub undo-refused : (run code (undo ∷ calls) .answer ≡ accepted → ⊥) → standingEdits code calls ≡ []
+  pub undone : run code (thenUndo (length (standingEdits code calls)) calls) .code ≡ code
 
 -- of every code of at most 65,536 bytes and every run
 abbrev pub Demand3 : Type 0

@@ -1,10 +1,10 @@
 -- The calls `edit` and `undo`. Assumes nothing.
 use Prim.Native.Nat.{ℕ, _+_, _*_}
 use mathlib.Core.Bool.{Bool, true, false, not, _&&_}
-use mathlib.Core.List.{List, [], _∷_, _++_}
-use lib.Dec.{eqb, ltb}
+use mathlib.Core.List.{List, [], _∷_, _++_, dropLast, getLastD}
+use lib.Dec.{eqb, leb, ltb}
 use lib.ListN.{length, take, drop}
-use Rattle.answer.specs.Answer.{Refusal, first, outcome, accepted, exhaustedInput, badValue, stale, tooLong}
+use Rattle.answer.specs.Answer.{Refusal, first, outcome, accepted, exhaustedInput, badValue, full, empty, stale, tooLong, badJournal}
 use Rattle.bundle.specs.Bytes.{bytes}
 use Rattle.bundle.specs.Bundle.{numberAt, halvesOf, whole}
 use Rattle.bundle.specs.declared.half.Halves.{Halves}
@@ -16,10 +16,10 @@ use Rattle.immediate.specs.Immediate.{openRefusals, written}
 use Rattle.immediate.specs.declared.row.Row.{Row}
 use Rattle.immediate.specs.declared.meaning.Raw.{Raw}
 use Rattle.immediate.specs.declared.meaning.Raw.the-variants.{Is, Bad}
-use Rattle.journal.specs.Journal.{noRecord, roomRefusals, lastRefusals, pushOf, lastOf, popOf}
+use Rattle.journal.specs.Journal.{limit, noRecord, standing, journalOf, validOf}
 use Rattle.journal.specs.declared.records.Record.{Record}
 use Rattle.journal.specs.declared.records.Journal.{Journal}
-use Rattle.journal.specs.declared.plan.Plan.{Plan}
+use Rattle.journal.specs.declared.change.Change.{Change}
 
 -- no raw number
 abbrev pub isBad : Raw → Bool
@@ -52,7 +52,7 @@ abbrev pub noHalves : Halves
 noHalves = record { low = 0; high = 0 }
 
 -- what an edit is about to do: the bundle before and after
-unfoldable pub planOf : List ℕ → ℕ → ℕ → ℕ → ℕ → Operand → Plan
+unfoldable pub planOf : List ℕ → ℕ → ℕ → ℕ → ℕ → Operand → Change
 planOf code k slot family number value =
     let answer = first (planRefusals code k slot family number value) in
     let n = numberAt code k in
@@ -65,23 +65,28 @@ pub record Outcome : Type 0 where
   pub journal : Journal
   pub code : List ℕ
 
+-- when there is no room for a record, by whether the journal is valid and how many stand
+abbrev pub roomRefusals : Bool → ℕ → List Refusal
+roomRefusals valid count = (badJournal, not valid) ∷ (full, leb limit count) ∷ []
+
 -- when an edit is refused
-abbrev pub editRefusals : List ℕ → Journal → ℕ → ℕ → ℕ → ℕ → Operand → List Refusal
-editRefusals code journal k slot family number value = planRefusals code k slot family number value ++ roomRefusals journal
+abbrev pub editRefusals : List ℕ → Bool → ℕ → ℕ → ℕ → ℕ → ℕ → Operand → List Refusal
+editRefusals code valid count k slot family number value = planRefusals code k slot family number value ++ roomRefusals valid count
 
 -- the record of an edit
 abbrev pub recordOf : List ℕ → ℕ → ℕ → ℕ → ℕ → Operand → Record
 recordOf code k slot family number value =
     record { bundle = k; old = halvesOf (numberAt code k); new = halvesOf (editedNumber (numberAt code k) slot family number value) }
 
--- what `edit` comes to
+-- what `edit` comes to: one record more
 unfoldable pub editOf : List ℕ → Journal → ℕ → ℕ → ℕ → ℕ → Operand → Outcome
 editOf code journal k slot family number value =
-    let answer = first (editRefusals code journal k slot family number value) in
+    let rs = standing journal in
+    let answer = first (editRefusals code (validOf journal) (length rs) k slot family number value) in
     outcome answer
     (record {
       answer = accepted;
-      journal = pushOf journal (recordOf code k slot family number value);
+      journal = journalOf (rs ++ (recordOf code k slot family number value ∷ []));
       code = rewritten code k (editedNumber (numberAt code k) slot family number value);
     })
     (record { answer = answer; journal = journal; code = code })
@@ -90,22 +95,22 @@ editOf code journal k slot family number value =
 abbrev pub sameHalves : Halves → Halves → Bool
 sameHalves a b = eqb (a .low) (b .low) && eqb (a .high) (b .high)
 
--- when a record's bundle doesn't stand in the code as its new one
-abbrev pub standRefusals : List ℕ → Record → List Refusal
-standRefusals code r =
-    (exhaustedInput, ltb (length code) (16 * r .bundle + 16))
-    ∷ (stale, not (sameHalves (halvesOf (numberAt code (r .bundle))) (r .new)))
+-- when undoing is refused, by whether the journal is valid, how many stand and the last of them
+abbrev pub undoRefusals : List ℕ → Bool → ℕ → Record → List Refusal
+undoRefusals code valid count last =
+    (tooLong, ltb 65536 (length code))
+    ∷ (badJournal, not valid)
+    ∷ (empty, eqb count 0)
+    ∷ (exhaustedInput, ltb (length code) (16 * last .bundle + 16))
+    ∷ (stale, not (sameHalves (halvesOf (numberAt code (last .bundle))) (last .new)))
     ∷ []
 
--- when undoing is refused
-abbrev pub undoRefusals : List ℕ → Journal → List Refusal
-undoRefusals code journal = (tooLong, ltb 65536 (length code)) ∷ lastRefusals journal ++ standRefusals code (lastOf journal)
-
--- what `undo` comes to
+-- what `undo` comes to: the last record's old bundle, and one record less
 unfoldable pub undoOf : List ℕ → Journal → Outcome
 undoOf code journal =
-    let answer = first (undoRefusals code journal) in
-    let last = lastOf journal in
+    let rs = standing journal in
+    let last = getLastD rs noRecord in
+    let answer = first (undoRefusals code (validOf journal) (length rs) last) in
     outcome answer
-    (record { answer = accepted; journal = popOf journal; code = rewritten code (last .bundle) (whole (last .old)) })
+    (record { answer = accepted; journal = journalOf (dropLast rs); code = rewritten code (last .bundle) (whole (last .old)) })
     (record { answer = answer; journal = journal; code = code })

@@ -1,13 +1,23 @@
--- The journal: records of the standing edits, the oldest first. Assumes nothing.
-use Prim.Native.Nat.{ℕ, _+_, _-_}
-use mathlib.Core.Bool.{Bool, true, false, cond, not, _&&_}
-use mathlib.Core.List.{List, [], _∷_}
-use lib.Dec.{eqb, leb, ltb}
-use lib.ListN.{getD, set, replicate}
-use Rattle.answer.specs.Answer.{Refusal, full, empty, badJournal}
+-- The journal: the records that stand, the oldest first. How they are kept (a count, and `limit` places of which those past the count are
+-- free) is said in this file alone: above it a journal is `journalOf` a list, and `standing` gives that list back. Its laws are proved in
+-- `proofs/Standing.antt`. Assumes nothing.
+use Prim.Native.Nat.{ℕ, _+_, _-_, _≤_, _<_}
+use mathlib.Core.Path.{_≡_}
+use mathlib.Core.Bool.{Bool, true, false, cond, _&&_}
+use mathlib.Core.List.{List, [], _∷_, _++_, dropLast}
+use lib.Dec.{eqb, leb}
+use lib.ListN.{length, getD, set, take, drop, replicate}
 use Rattle.bundle.specs.declared.half.Halves.{Halves}
 use Rattle.journal.specs.declared.records.Record.{Record}
 use Rattle.journal.specs.declared.records.Journal.{Journal}
+
+-- so many records may stand
+abbrev pub limit : ℕ
+limit = 64
+
+-- the highest number of a bundle
+abbrev pub highest : ℕ
+highest = 4095
 
 -- a free place: all five numbers are zero
 abbrev pub noRecord : Record
@@ -19,39 +29,59 @@ isZero h = eqb (h .low) 0 && eqb (h .high) 0
 abbrev pub isFree : Record → Bool
 isFree r = eqb (r .bundle) 0 && isZero (r .old) && isZero (r .new)
 
--- a journal without records
-abbrev pub fresh : Journal
-fresh = record { count = 0; records = replicate 64 noRecord }
+-- a record that may stand
+abbrev pub mayStand : Record → Bool
+mayStand r = leb (r .bundle) highest
 
--- a standing record's bundle number is at most 4095, and a place past the count is free
-abbrev pub placeValid : Bool → Record → Bool
-placeValid standing r = cond standing (leb (r .bundle) 4095) (isFree r)
+-- each of some records passes a test
+abbrev pub all : (Record → Bool) → List Record → Bool
+all test [] = true
+all test (r ∷ rs) = test r && all test rs
 
--- the places from place i on
-abbrev pub placesValid : ℕ → ℕ → List Record → Bool
-placesValid count i [] = true
-placesValid count i (r ∷ rs) = placeValid (ltb i count) r && placesValid count (i + 1) rs
+-- the records that stand
+unfoldable pub standing : Journal → List Record
+standing j = take (j .count) (j .records)
 
--- a valid journal
+-- the journal in which exactly these stand
+unfoldable pub journalOf : List Record → Journal
+journalOf rs = record { count = length rs; records = rs ++ replicate (limit - length rs) noRecord }
+
+-- a valid journal, of `limit` places: the count is at most the limit, those that stand may, and the places past the count are free
 unfoldable pub validOf : Journal → Bool
-validOf j = leb (j .count) 64 && placesValid (j .count) 0 (j .records)
+validOf j = eqb (length (j .records)) limit && leb (j .count) limit && all mayStand (standing j) && all isFree (drop (j .count) (j .records))
 
--- when there is no room for a record
-abbrev pub roomRefusals : Journal → List Refusal
-roomRefusals j = (badJournal, not (validOf j)) ∷ (full, leb 64 (j .count)) ∷ []
+-- what a place has to hold, by whether its record stands
+abbrev pub placeValid : Bool → Record → Bool
+placeValid stands r = cond stands (mayStand r) (isFree r)
 
--- when there is no record to undo
-abbrev pub lastRefusals : Journal → List Refusal
-lastRefusals j = (badJournal, not (validOf j)) ∷ (empty, eqb (j .count) 0) ∷ []
+-- the record at a place
+abbrev pub recordAt : Journal → ℕ → Record
+recordAt j place = getD (j .records) place noRecord
+
+-- a journal with a record at a place, and so many standing
+abbrev pub withRecord : Journal → ℕ → Record → ℕ → Journal
+withRecord j place r count = record { count = count; records = set (j .records) place r }
+
+-- in the journal of some records just these stand
+abbrev pub JournalStands : Type 0
+JournalStands = (rs : List Record) → standing (journalOf rs) ≡ rs
+
+-- it is valid just where they are at most `limit` and may stand
+abbrev pub JournalValid : Type 0
+JournalValid = (rs : List Record) → validOf (journalOf rs) ≡ leb (length rs) limit && all mayStand rs
+
+-- a valid journal is the one of the records that stand in it
+abbrev pub ValidIsJournal : Type 0
+ValidIsJournal = (j : Journal) → validOf j ≡ true → journalOf (standing j) ≡ j
+
+-- record i of them stands at place i
+abbrev pub JournalReads : Type 0
+JournalReads = (rs : List Record) (i : ℕ) → recordAt (journalOf rs) i ≡ getD rs i noRecord
 
 -- one record more, at the first free place
-abbrev pub pushOf : Journal → Record → Journal
-pushOf j r = record { count = j .count + 1; records = set (j .records) (j .count) r }
+abbrev pub JournalPushes : Type 0
+JournalPushes = (rs : List Record) (r : Record) → length rs < limit → withRecord (journalOf rs) (length rs) r (length rs + 1) ≡ journalOf (rs ++ (r ∷ []))
 
--- the last record
-abbrev pub lastOf : Journal → Record
-lastOf j = getD (j .records) (j .count - 1) noRecord
-
--- one record less, its place zeroed
-abbrev pub popOf : Journal → Journal
-popOf j = record { count = j .count - 1; records = set (j .records) (j .count - 1) noRecord }
+-- one record less: the last one's place is freed
+abbrev pub JournalPops : Type 0
+JournalPops = (rs : List Record) → length rs ≤ limit → withRecord (journalOf rs) (length rs - 1) noRecord (length rs - 1) ≡ journalOf (dropLast rs)

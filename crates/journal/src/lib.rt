@@ -1,26 +1,29 @@
 // Edits of one immediate each, the journal of those that stand, and undoing the last.
+mod change;
 mod plan;
 mod records;
 
-pub use plan::Plan;
-pub use plan::planned;
+pub use change::Change;
+pub use change::planned;
 pub use records::Edited;
 pub use records::Journal;
+pub use records::LIMIT;
 pub use records::Record;
 pub use records::empty;
+pub use records::may_stand;
+pub use records::record_at;
 pub use records::valid;
+pub use records::with_record;
 ghost use mathlib.Core.Path.{_≡_};
-ghost use Prim.Native.Nat.{_+_, _*_, _≤_};
-ghost use lib.ListN.{length};
-ghost use Rattle.answer.specs.Answer.{first};
-ghost use Rattle.bundle.specs.Bundle.{whole};
-ghost use Rattle.journal.specs.Edit.{Outcome, rewritten, editOf, sameHalves, standRefusals, undoOf};
+ghost use Prim.Native.Nat.{_-_};
+ghost use Rattle.answer.specs.Answer.{accepted};
+ghost use Rattle.bundle.specs.Bundle.{foundOf, whole};
+ghost use Rattle.journal.specs.Edit.{Outcome, rewritten, editOf, undoOf};
+ghost use Rattle.journal.specs.Plan.{carriedOut};
 use answer::ACCEPTED;
-use answer::EXHAUSTED_INPUT;
-use answer::STALE;
-use answer::TOO_LONG;
 use bundle::Halves;
 use operand::Operand;
+use plan::Plan;
 
 // Writes a value into a form's immediate, and records the bundle before and after.
 pub fn edit(
@@ -34,91 +37,60 @@ pub fn edit(
 ) -> Edited
     ensures { λ r. ⌜ _≡_ {A = Outcome} (record { answer = r .answer; journal = r .journal; code = now (code .exit) }) (editOf (now (code .entry)) journal bundle slot family number value) ⌝ }
 {
-    let plan = planned(code, bundle, slot, family, number, value);
-    let unfit = plan.answer;
-    if unfit != ACCEPTED {
-        return Edited {
-            answer: unfit,
-            journal,
-        };
-    }
-    let room = records::room(records::valid(journal), journal.count);
-    if room != ACCEPTED {
-        return Edited {
-            answer: room,
-            journal,
-        };
-    }
-    let old = plan.old;
-    let new = plan.new;
-    let edited = records::pushed(journal, Record { bundle, old, new });
-    rewrite(code, bundle, new);
-    edited
-}
-
-// Lends a bundle's sixteen bytes on to be written.
-fn rewrite(code: &mut [u8], bundle: u64, halves: Halves)
-    requires { ⌜ (length (now code) ≤ 65536) × (16 * bundle + 16 ≤ length (now code)) ⌝ }
-    ensures { λ _. ⌜ now (code .exit) ≡ rewritten (now (code .entry)) bundle (whole halves) ⌝ }
-{
-    let at = bundle as usize * 16;
-    bundle::write(&mut code[at..at + 16], halves);
-}
-
-fn same(a: Halves, b: Halves) -> bool
-    ensures { λ r. ⌜ r ≡ sameHalves a b ⌝ }
-{
-    if a.low != b.low {
-        return false;
-    }
-    a.high == b.high
-}
-
-// Whether a record's bundle stands in the code as the record left it.
-fn stands(code: &[u8], last: Record) -> u8
-    requires { ⌜ length (now code) ≤ 65536 ⌝ }
-    ensures { λ r. ⌜ r ≡ first (standRefusals (now (code .entry)) last) ⌝ }
-{
-    let bundle = last.bundle;
-    if bundle::found(code, bundle) != ACCEPTED {
-        return EXHAUSTED_INPUT;
-    }
-    let new = last.new;
-    if !same(bundle::read(bundle::find(code, bundle)), new) {
-        return STALE;
-    }
-    ACCEPTED
+    let count = journal.count;
+    let plan = plan::edit_plan(
+        code,
+        valid(journal),
+        count,
+        bundle,
+        slot,
+        family,
+        number,
+        value,
+    );
+    carry_out(code, journal, plan)
 }
 
 // Writes the last record's old bundle, and frees its place.
 pub fn undo(code: &mut [u8], journal: Journal) -> Edited
     ensures { λ r. ⌜ _≡_ {A = Outcome} (record { answer = r .answer; journal = r .journal; code = now (code .exit) }) (undoOf (now (code .entry)) journal) ⌝ }
 {
-    if bundle::MOST < code.len() {
-        return Edited {
-            answer: TOO_LONG,
-            journal,
-        };
-    }
     let count = journal.count;
-    let none = records::some(records::valid(journal), count);
-    if none != ACCEPTED {
-        return Edited {
-            answer: none,
-            journal,
-        };
+    let last = record_at(journal, one_less(count));
+    let plan = plan::undo_plan(code, valid(journal), count, last);
+    carry_out(code, journal, plan)
+}
+
+// Writes a plan's bundle and keeps its record, where it was accepted.
+fn carry_out(code: &mut [u8], journal: Journal, plan: Plan) -> Edited
+    requires { ⌜ (plan .answer ≡ accepted → foundOf (now code) (plan .bundle) ≡ accepted) ⌝ }
+    ensures { λ r. ⌜ _≡_ {A = Outcome} (record { answer = r .answer; journal = r .journal; code = now (code .exit) }) (carriedOut (now (code .entry)) journal plan) ⌝ }
+{
+    let answer = plan.answer;
+    if answer != ACCEPTED {
+        return Edited { answer, journal };
     }
-    let last = journal.records[(count - 1) as usize];
-    let gone = stands(code, last);
-    if gone != ACCEPTED {
-        return Edited {
-            answer: gone,
-            journal,
-        };
+    let halves = plan.halves;
+    rewrite(code, plan.bundle, halves);
+    let kept = plan.kept;
+    let journal = with_record(journal, plan.place, kept, plan.count);
+    Edited { answer, journal }
+}
+
+// Lends a bundle's sixteen bytes on to be written.
+fn rewrite(code: &mut [u8], bundle: u64, halves: Halves)
+    requires { ⌜ foundOf (now code) bundle ≡ accepted ⌝ }
+    ensures { λ _. ⌜ now (code .exit) ≡ rewritten (now (code .entry)) bundle (whole halves) ⌝ }
+{
+    let at = bundle as usize * 16;
+    bundle::write(&mut code[at..at + 16], halves);
+}
+
+fn one_less(count: u64) -> u64
+    ensures { λ r. ⌜ r ≡ count - 1 ⌝ }
+{
+    if count == 0 {
+        return 0;
     }
-    let bundle = last.bundle;
-    let old = last.old;
-    let undone = records::popped(journal);
-    rewrite(code, bundle, old);
-    undone
+    count - 1
 }

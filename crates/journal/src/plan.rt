@@ -1,53 +1,141 @@
-// What an edit is about to do, before the journal is looked at.
+// What `edit` and `undo` decide, on values alone: nothing is written here.
 ghost use mathlib.Core.Path.{_≡_};
-ghost use Rattle.journal.specs.Edit.{planOf, noHalves};
+ghost use Rattle.answer.specs.Answer.{first};
+ghost use Rattle.journal.specs.Edit.{sameHalves, roomRefusals, undoRefusals};
+ghost use Rattle.journal.specs.Plan.{refusedPlan, editPlanOf, undoPlanOf};
+use crate::change;
+use crate::records::LIMIT;
+use crate::records::NONE;
+use crate::records::Record;
 use answer::ACCEPTED;
-use answer::BAD_VALUE;
+use answer::BAD_JOURNAL;
+use answer::EMPTY;
+use answer::EXHAUSTED_INPUT;
+use answer::FULL;
+use answer::STALE;
+use answer::TOO_LONG;
 use bundle::Halves;
-use immediate::Raw;
 use operand::Operand;
 
-// The bundle before and after.
+// The answer, the bundle to write, the record to keep and its place, and how many records stand then.
 pub struct Plan {
     pub answer: u8,
-    pub old: Halves,
-    pub new: Halves,
+    pub bundle: u64,
+    pub halves: Halves,
+    pub place: u64,
+    pub kept: Record,
+    pub count: u64,
 }
 
-pub fn planned(
+fn refused(answer: u8) -> Plan
+    ensures { λ r. ⌜ r ≡ refusedPlan answer ⌝ }
+{
+    Plan {
+        answer,
+        bundle: 0,
+        halves: Halves { low: 0, high: 0 },
+        place: 0,
+        kept: NONE,
+        count: 0,
+    }
+}
+
+// An edit keeps its record at the first free place.
+pub fn edit_plan(
     code: &[u8],
+    valid: bool,
+    count: u64,
     bundle: u64,
     slot: u64,
     family: u64,
     number: u64,
     value: Operand,
 ) -> Plan
-    ensures { λ r. ⌜ r ≡ planOf (now (code .entry)) bundle slot family number value ⌝ }
+    ensures { λ r. ⌜ r ≡ editPlanOf (now (code .entry)) valid count bundle slot family number value ⌝ }
 {
-    let row = immediate::row_of(family, number);
-    let opened = immediate::open(code, bundle, slot, family, row);
-    let answer = opened.answer;
-    if answer != ACCEPTED {
-        return unplanned(answer);
+    let change = change::planned(code, bundle, slot, family, number, value);
+    let unfit = change.answer;
+    if unfit != ACCEPTED {
+        return refused(unfit);
     }
-    let meaning = row.meaning;
-    let parts = row.parts;
-    let raw = immediate::raw_of(meaning, immediate::width(parts), value);
-    let Raw::Is(number) = raw else {
-        return unplanned(BAD_VALUE);
-    };
-    let old = opened.halves;
-    let new = field::scatter(old, slot as u32, parts, number);
-    Plan { answer, old, new }
-}
-
-fn unplanned(answer: u8) -> Plan
-    ensures { λ r. ⌜ r ≡ record { answer = answer; old = noHalves; new = noHalves } ⌝ }
-{
-    let none = Halves { low: 0, high: 0 };
+    let answer = room_refusal(valid, count);
+    if answer != ACCEPTED {
+        return refused(answer);
+    }
+    let old = change.old;
+    let new = change.new;
     Plan {
         answer,
-        old: none,
-        new: none,
+        bundle,
+        halves: new,
+        place: count,
+        kept: Record { bundle, old, new },
+        count: count + 1,
     }
+}
+
+// Why no record can be added.
+fn room_refusal(valid: bool, count: u64) -> u8
+    ensures { λ r. ⌜ r ≡ first (roomRefusals valid count) ⌝ }
+{
+    if !valid {
+        return BAD_JOURNAL;
+    }
+    if LIMIT <= count {
+        return FULL;
+    }
+    ACCEPTED
+}
+
+// An undo frees the last record's place.
+pub fn undo_plan(code: &[u8], valid: bool, count: u64, last: Record) -> Plan
+    ensures { λ r. ⌜ r ≡ undoPlanOf (now (code .entry)) valid count last ⌝ }
+{
+    let answer = undo_refusal(code, valid, count, last);
+    if answer != ACCEPTED {
+        return refused(answer);
+    }
+    let halves = last.old;
+    let place = count - 1;
+    Plan {
+        answer,
+        bundle: last.bundle,
+        halves,
+        place,
+        kept: NONE,
+        count: place,
+    }
+}
+
+// Why the last record can't be undone.
+fn undo_refusal(code: &[u8], valid: bool, count: u64, last: Record) -> u8
+    ensures { λ r. ⌜ r ≡ first (undoRefusals (now (code .entry)) valid count last) ⌝ }
+{
+    if bundle::MOST < code.len() {
+        return TOO_LONG;
+    }
+    if !valid {
+        return BAD_JOURNAL;
+    }
+    if count == 0 {
+        return EMPTY;
+    }
+    let bundle = last.bundle;
+    if bundle::found(code, bundle) != ACCEPTED {
+        return EXHAUSTED_INPUT;
+    }
+    let new = last.new;
+    if !same(bundle::read(bundle::find(code, bundle)), new) {
+        return STALE;
+    }
+    ACCEPTED
+}
+
+fn same(a: Halves, b: Halves) -> bool
+    ensures { λ r. ⌜ r ≡ sameHalves a b ⌝ }
+{
+    if a.low != b.low {
+        return false;
+    }
+    a.high == b.high
 }

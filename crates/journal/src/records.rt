@@ -1,16 +1,14 @@
-// The journal: up to 64 records, the oldest first, and zeros in the places that are free.
+// The journal: the records that stand, the oldest first, and zeros in the places that are free.
 ghost use mathlib.Core.Path.{_≡_};
-ghost use mathlib.Core.Bool.{not};
-ghost use mathlib.Core.List.{[], _∷_};
-ghost use Prim.Native.Nat.{_≤_, _<_};
-ghost use lib.Dec.{eqb, leb};
-ghost use Rattle.answer.specs.Answer.{accepted, first, full, empty, badJournal};
-ghost use Rattle.journal.specs.Journal.{fresh, noRecord, isZero, isFree, placeValid, validOf, pushOf, popOf};
-use answer::ACCEPTED;
-use answer::BAD_JOURNAL;
-use answer::EMPTY;
-use answer::FULL;
+ghost use mathlib.Core.List.{[]};
+ghost use Rattle.journal.specs.Journal.{isZero, isFree, mayStand, placeValid, validOf, journalOf, recordAt, withRecord};
 use bundle::Halves;
+
+// So many records may stand.
+pub const LIMIT: u64 = 64;
+
+// The highest number of a bundle.
+const HIGHEST: u64 = 4095;
 
 // A bundle's number, and the bundle before and after.
 pub struct Record {
@@ -21,7 +19,7 @@ pub struct Record {
 
 pub struct Journal {
     pub count: u64,
-    pub records: [Record; 64],
+    pub records: [Record; LIMIT as usize],
 }
 
 // What a call answers, and the journal after it.
@@ -30,19 +28,42 @@ pub struct Edited {
     pub journal: Journal,
 }
 
-const NONE: Record = Record {
+// What a free place holds.
+pub const NONE: Record = Record {
     bundle: 0,
     old: Halves { low: 0, high: 0 },
     new: Halves { low: 0, high: 0 },
 };
 
 pub fn empty() -> Journal
-    ensures { λ r. ⌜ r ≡ fresh ⌝ }
+    ensures { λ r. ⌜ r ≡ journalOf [] ⌝ }
 {
     Journal {
         count: 0,
-        records: [NONE; 64],
+        records: [NONE; LIMIT as usize],
     }
+}
+
+// The record at a place.
+pub fn record_at(journal: Journal, place: u64) -> Record
+    ensures { λ r. ⌜ r ≡ recordAt journal place ⌝ }
+{
+    if place < LIMIT {
+        journal.records[place as usize]
+    } else {
+        NONE
+    }
+}
+
+// The journal with a record at a place, and so many standing.
+pub fn with_record(mut journal: Journal, place: u64, one: Record, count: u64) -> Journal
+    ensures { λ r. ⌜ r ≡ withRecord journal place one count ⌝ }
+{
+    if place < LIMIT {
+        journal.records[place as usize] = one;
+    }
+    journal.count = count;
+    journal
 }
 
 fn is_zero(halves: Halves) -> bool
@@ -68,81 +89,28 @@ fn is_free(place: Record) -> bool
     is_zero(new)
 }
 
-fn place_valid(standing: bool, place: Record) -> bool
-    ensures { λ r. ⌜ r ≡ placeValid standing place ⌝ }
+pub fn may_stand(one: Record) -> bool
+    ensures { λ r. ⌜ r ≡ mayStand one ⌝ }
 {
-    if standing {
-        place.bundle <= 4095
-    } else {
-        is_free(place)
-    }
+    one.bundle <= HIGHEST
 }
 
-// The count is at most 64, standing bundle numbers are at most 4095, and places past the count are zero.
+fn place_valid(stands: bool, one: Record) -> bool
+    ensures { λ r. ⌜ r ≡ placeValid stands one ⌝ }
+{
+    if stands { may_stand(one) } else { is_free(one) }
+}
+
+// The count is at most the limit, the records that stand may, and the places past the count are free.
 pub fn valid(journal: Journal) -> bool
     ensures { λ r. ⌜ r ≡ validOf journal ⌝ }
 {
     let count = journal.count;
-    let mut valid = count <= 64;
-    let mut i = 0;
-    while i < 64 {
-        let place = journal.records[i];
-        valid = valid & place_valid((i as u64) < count, place);
-        i += 1;
+    let mut valid = count <= LIMIT;
+    let mut place = 0;
+    while place < LIMIT {
+        valid = valid & place_valid(place < count, record_at(journal, place));
+        place += 1;
     }
     valid
-}
-
-// Whether a record can be added.
-pub fn room(valid: bool, count: u64) -> u8
-    ensures { λ r. ⌜ r ≡ first ((badJournal, not valid) ∷ (full, leb 64 count) ∷ []) ⌝ }
-{
-    if !valid {
-        return BAD_JOURNAL;
-    }
-    if 64 <= count {
-        return FULL;
-    }
-    ACCEPTED
-}
-
-// Whether there is a record to undo.
-pub fn some(valid: bool, count: u64) -> u8
-    ensures { λ r. ⌜ r ≡ first ((badJournal, not valid) ∷ (empty, eqb count 0) ∷ []) ⌝ }
-{
-    if !valid {
-        return BAD_JOURNAL;
-    }
-    if count == 0 {
-        return EMPTY;
-    }
-    ACCEPTED
-}
-
-// The journal with one record more.
-pub fn pushed(mut journal: Journal, last: Record) -> Edited
-    requires { ⌜ journal .count < 64 ⌝ }
-    ensures { λ r. ⌜ r ≡ record { answer = accepted; journal = pushOf journal last } ⌝ }
-{
-    let count = journal.count;
-    journal.records[count as usize] = last;
-    journal.count = count + 1;
-    Edited {
-        answer: ACCEPTED,
-        journal,
-    }
-}
-
-// The journal with one record less.
-pub fn popped(mut journal: Journal) -> Edited
-    requires { ⌜ (0 < journal .count) × (journal .count ≤ 64) ⌝ }
-    ensures { λ r. ⌜ r ≡ record { answer = accepted; journal = popOf journal } ⌝ }
-{
-    let count = journal.count - 1;
-    journal.records[count as usize] = NONE;
-    journal.count = count;
-    Edited {
-        answer: ACCEPTED,
-        journal,
-    }
 }

@@ -8,31 +8,15 @@ use lib.ListN.{take, drop}
 use lib.Seq.{drop-drop}
 use Rattle.bundle.specs.Bytes.{bytes}
 use Rattle.bundle.specs.Bundle.{whole}
+use Rattle.bundle.proofs.Lies.{Lies, lies}
 use Rattle.journal.specs.Edit.{rewritten}
 use borrow.Author.Needs.{needs}
 use Rattle.journal.proofs.rewrite.Statement.{statement}
 use Rattle.journal.proofs.rewrite.Tie as tie
 
-mul-at : tie.Need-mul-at
-mul-at c = search needs
-
-add-write : tie.Need-add-write
-add-write c = search needs
-
-sub-write : tie.Need-sub-write
-sub-write c = search needs
-
-part-write-start : tie.Need-part-write-start
-part-write-start c = search needs
-
-part-write-end : tie.Need-part-write-end
-part-write-end c = search needs
-
-write-requires : tie.Need-write-requires
-write-requires c κs = search needs
-
-same-length : tie.Need-same-length
-same-length c = search needs
+-- the bundle lies in the code
+in-code : (c : tie.Start) → Lies (now (c .args .code)) (c .args .bundle)
+in-code c = lies _ _ (c .pre)
 
 returns : tie.Need-returns
 unfolding rewritten
@@ -51,11 +35,11 @@ pub rewrite-spec : {M : Type 1} → statement M
 rewrite-spec =
     tie.close
     (tie.spec
-    mul-at
-    add-write
-    sub-write
-    part-write-start
-    part-write-end
-    write-requires
-    same-length
+    (λ c. omega (arith, in-code (c .before)))
+    (λ c. omega (arith, in-code (c .before)))
+    (λ c. search needs)
+    (λ c. search needs)
+    (λ c. omega (arith, in-code (c .before)))
+    (λ c κs. search needs)
+    (λ c. search needs)
     returns)

@@ -1,92 +1,88 @@
 -- `valid` meets its contract: the journal is as valid as the places passed and those left. Assumes nothing.
-use mathlib.Core.Path.{_≡_, refl, _∙_, ap, sym, subst}
-use mathlib.Core.Bool.{Bool, true, false, _&&_}
-use mathlib.Core.List.{List}
-use Prim.Native.Nat.{ℕ, _+_, _-_, _≤_, _<_}
+use mathlib.Core.Path.{_≡_, refl, _∙_, ap, sym}
+use mathlib.Core.Bool.{Bool, true, false, _&&_, and-true, and-assoc}
+use mathlib.Core.List.{List, [], _∷_}
+use Prim.Native.Nat.{ℕ, zero, suc, _+_, _-_, _≤_, _<_}
+use native.Mathlib.Decide.{decLt}
 use native.Mathlib.Numerals.{add-one}
+use native.Mathlib.Omega.{arith}
 use borrow.Author.Needs.{needs}
+use borrow.Author.Tests.{lt-ltb, le-ltb, eq-eqb}
 use lib.Dec.{leb, ltb}
-use lib.ListN.{length, getD, drop, length-map, drop-of-length-le}
+use lib.ListN.{length, getD, take, drop, length-map, drop-of-length-le}
 use lib.Seq.{drop-cons}
 use Rattle.journal.specs.declared.records.Journal.{Journal}
 use Rattle.journal.specs.declared.records.Record.{Record}
-use Rattle.journal.specs.Journal.{noRecord, placeValid, placesValid, validOf}
+use Rattle.journal.specs.Journal.{limit, noRecord, isFree, mayStand, all, placeValid, standing, validOf, recordAt}
 use Rattle.journal.proofs.records.valid.Statement.{statement}
 use Rattle.journal.proofs.records.valid.Tie as tie
 
--- `valid` says whether the places before place i are valid
-abbrev Passed : Journal → Bool → ℕ → Type 0
-Passed j valid i = (i ≤ 64) × (validOf j ≡ valid && placesValid (j .count) i (drop i (j .records)))
+-- of some places the first n may stand, and the others are free
+abbrev Split : ℕ → List Record → Bool
+Split n rs = all mayStand (take n rs) && all isFree (drop n rs)
 
-none-passed : (j : Journal) → validOf j ≡ leb (j .count) 64 && placesValid (j .count) 0 (j .records)
-unfolding validOf
-none-passed j = refl
+split-none : (n : ℕ) → Split n [] ≡ true
+split-none zero = refl
+split-none (suc n) = refl
 
--- the places from place i on are place i and those after it
-step : (valid : Bool) (count i : ℕ) (rs : List Record) → i < length rs
-    → valid && placesValid count i (drop i rs) ≡ (valid && placeValid (ltb i count) (getD rs i noRecord)) && placesValid count (i + 1) (drop (i + 1) rs)
-step false count i rs h = refl
-step true count i rs h =
-    ap (placesValid count i) (drop-cons rs i noRecord h)
-    ∙ ap (λ (k : ℕ). placeValid (ltb i count) (getD rs i noRecord) && placesValid count (i + 1) (drop k rs)) (sym (add-one i))
+split-one : (count i : ℕ) (r : Record) (rs : List Record) → Split (count - i) (r ∷ rs) ≡ placeValid (ltb i count) r && Split (count - (i + 1)) rs
+split-one count i r rs =
+    elim (decLt i count) [
+      | yes h ↦
+          let e : count - i ≡ suc (count - (i + 1)) = omega arith in
+          rw (e, lt-ltb i count h) (and-assoc (mayStand r) (all mayStand (take (count - (i + 1)) rs)) (all isFree (drop (count - (i + 1)) rs)))
+      | no h ↦
+          let e : count - i ≡ 0 = omega arith in
+          let d : count - (i + 1) ≡ 0 = omega arith in
+          rw (e, d, le-ltb i count (omega arith))
+    ]
 
--- past the last there are none
-stop : (valid : Bool) (count i : ℕ) (rs : List Record) → length rs ≤ i → valid && placesValid count i (drop i rs) ≡ valid
-stop false count i rs h = refl
-stop true count i rs h = ap (placesValid count i) (drop-of-length-le rs h)
+module _ (j : Journal) where
+  -- `valid` says whether the count and the places before place i are valid
+  abbrev Passed : Bool → ℕ → Type 0
+  Passed valid i = validOf j ≡ valid && Split (j .count - i) (drop i (j .records))
 
-module _ (j : Journal) (sixty-four : length (j .records) ≡ 64) (valid : Bool) (i : ℕ) (passed : Passed j valid i) where
-  one-passed : i < 64 → (b : Bool) → b ≡ placeValid (ltb i (j .count)) (getD (j .records) i noRecord)
-      → validOf j ≡ (valid && b) && placesValid (j .count) (i + 1) (drop (i + 1) (j .records))
-  one-passed h b e =
-      passed .1
-      ∙ step valid (j .count) i (j .records) (subst (λ (n : ℕ). i < n) (sym sixty-four) h)
-      ∙ ap (λ (x : Bool). (valid && x) && placesValid (j .count) (i + 1) (drop (i + 1) (j .records))) (sym e)
+  none-passed : length (j .records) ≡ limit → Passed (leb (j .count) limit) 0
+  unfolding validOf standing
+  none-passed places =
+      let z : j .count - 0 ≡ j .count = omega arith in
+      rw (eq-eqb _ _ places, z) (and-assoc (leb (j .count) limit) _ _)
 
-  all-passed : 64 ≤ i → validOf j ≡ valid
-  all-passed h = passed .1 ∙ stop valid (j .count) i (j .records) (subst (λ (n : ℕ). n ≤ i) (sym sixty-four) h)
+  one-passed : (valid : Bool) (i : ℕ) → Passed valid i → i < length (j .records) → Passed (valid && placeValid (ltb i (j .count)) (recordAt j i)) (i + 1)
+  one-passed valid i passed h =
+      passed
+      ∙ rw (drop-cons (j .records) i noRecord h, split-one (j .count) i (recordAt j i) (drop (suc i) (j .records)), add-one)
+      (sym (and-assoc valid _ _))
+
+  all-passed : (valid : Bool) (i : ℕ) → Passed valid i → length (j .records) ≤ i → validOf j ≡ valid
+  all-passed valid i passed h = passed ∙ rw (drop-of-length-le (j .records) {i = i} h, split-none) (and-true valid)
 
 abbrev Inv-loop : tie.InvT-loop
-Inv-loop journal count valid₀ i₀ valid i = Passed journal valid i
+Inv-loop journal count valid₀ place₀ valid place = (place ≤ limit) × Passed journal valid place
 
 abbrev μ-loop : tie.MeasureT-loop
-μ-loop journal count valid₀ i₀ valid i = 64 - i
+μ-loop journal count valid₀ place₀ valid place = limit - place
 
--- an array of 64 has as many elements
-places : (c : tie.Start Inv-loop μ-loop) → length (c .args .t1 .records) ≡ 64
-places c = sym (length-map (c .args .t1 .records) _) ∙ c .good .0 .1 .1 .1 .0 .1 .0 .1
+-- an array has as many elements as its type says
+places : (c : tie.Start Inv-loop μ-loop) → length (c .args .journal .records) ≡ limit
+places c = sym (length-map (c .args .journal .records) _) ∙ c .good .0 .1 .1 .1 .0 .1 .0 .1
 
 loop-holds : tie.Need-loop-holds Inv-loop μ-loop
-loop-holds c = (search needs, none-passed _)
-
-mul-place : tie.Need-mul-place Inv-loop μ-loop
-mul-place c = search needs
-
-element-copy-out-place : tie.Need-element-copy-out-place Inv-loop μ-loop
-element-copy-out-place c = search needs
-
-place-valid-requires : tie.Need-place-valid-requires Inv-loop μ-loop
-place-valid-requires c κs = search needs
-
-add-i : tie.Need-add-i Inv-loop μ-loop
-add-i c = search needs
-
-loop-less : tie.Need-loop-less Inv-loop μ-loop
-loop-less c = search needs
+loop-holds c = (search needs, none-passed _ (places c))
 
 loop-again : tie.Need-loop-again Inv-loop μ-loop
 loop-again c =
-    let l = c .before .before .before in
-    let start = l .before in
-    let j = start .args .t1 in
-    (search needs, one-passed j (places start) (l .loop .valid) (l .loop .i) (l .loop .inv) (c .before .before .loop-test .taken) _ (c .place-valid .ensures))
+    let t = c .before .before in
+    let l = t .before in
+    let j = l .before .args .journal in
+    let place = c .place-valid .ensures ∙ ap (placeValid (ltb (l .loop .place) (j .count))) (c .before .record-at .ensures) in
+    let passed = one-passed j (l .loop .valid) (l .loop .place) (l .loop .inv .1) (omega (arith, places (l .before), t .loop-test .taken)) in
+    (search needs, passed ∙ ap (λ (b : Bool). (l .loop .valid && b) && Split (j .count - (l .loop .place + 1)) (drop (l .loop .place + 1) (j .records))) (sym place))
 
 returns : tie.Need-returns Inv-loop μ-loop
 returns c =
     let l = c .before in
-    let start = l .before in
-    let j = start .args .t1 in
-    sym (all-passed j (places start) (l .loop .valid) (l .loop .i) (l .loop .inv) (c .loop-test .left))
+    sym (all-passed (l .before .args .journal) (l .loop .valid) (l .loop .place) (l .loop .inv .1) (omega (arith, places (l .before), c .loop-test .left)))
 
 pub valid-spec : {M : Type 1} → statement M
 valid-spec =
@@ -95,10 +91,9 @@ valid-spec =
     Inv-loop
     μ-loop
     loop-holds
-    mul-place
-    element-copy-out-place
-    place-valid-requires
-    add-i
-    loop-less
+    (λ c κs. search needs)
+    (λ c κs. search needs)
+    (λ c. search needs)
+    (λ c. search needs)
     loop-again
     returns)

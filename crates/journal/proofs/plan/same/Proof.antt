@@ -1,7 +1,7 @@
 -- `same` meets its contract: its tests are the definition's. Assumes nothing.
 use borrow.Author.Tests.{eq-eqb, ne-eqb}
-use Rattle.journal.proofs.same.Statement.{statement}
-use Rattle.journal.proofs.same.Tie as tie
+use Rattle.journal.proofs.plan.same.Statement.{statement}
+use Rattle.journal.proofs.plan.same.Tie as tie
 
 returns : tie.Need-returns
 returns c = let a = c .before .before .before .args in rw (ne-eqb (a .a .low) (a .b .low) (c .if1 .taken))

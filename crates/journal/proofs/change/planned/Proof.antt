@@ -22,8 +22,8 @@ use Rattle.immediate.proofs.Laws.{open-answer, open-done, open-sound, open-whol
 use Rattle.journal.specs.Edit.{rawIn, rawFor, editedNumber}
 use Rattle.journal.proofs.Laws.{refused-by, plan-done, plan-not-open, plan-bad, plan-good}
 use borrow.Author.Needs.{needs}
-use Rattle.journal.proofs.plan.planned.Statement.{statement}
-use Rattle.journal.proofs.plan.planned.Tie as tie
+use Rattle.journal.proofs.change.planned.Statement.{statement}
+use Rattle.journal.proofs.change.planned.Tie as tie
 
 row-of-requires : tie.Need-row-of-requires
 row-of-requires c κs = search needs

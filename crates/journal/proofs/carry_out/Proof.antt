@@ -1,0 +1,26 @@
+-- `carry_out` meets its contract: a refused plan leaves all as it was; an accepted one's bundle is written and its record kept. Assumes nothing.
+use mathlib.Core.Path.{_≡_, _∙_, sym}
+use borrow.Author.Needs.{needs}
+use Rattle.answer.proofs.Laws.{accepts, refuses}
+use Rattle.journal.specs.Plan.{carriedOut}
+use Rattle.journal.proofs.carry_out.Statement.{statement}
+use Rattle.journal.proofs.carry_out.Tie as tie
+
+returns : tie.Need-returns
+unfolding carriedOut
+returns c = sym (refuses _ _ _ (c .if1 .taken))
+
+rewrite-requires : tie.Need-rewrite-requires
+rewrite-requires c κs = let e = c .before .before in e .before .before .pre (e .if1 .left)
+
+returns-2 : tie.Need-returns-2
+unfolding carriedOut
+returns-2 c =
+    let w = c .before .before .before .before in
+    let e = w .before .before .before in
+    let kept = c .with-record .ensures in
+    let code = w .rewrite .ensures in
+    (λ i. record { answer = e .if1 .left i; journal = kept i; code = code i }) ∙ sym (accepts _ _ _ (e .if1 .left))
+
+pub carry-out-spec : {M : Type 1} → statement M
+carry-out-spec = tie.close (tie.spec returns rewrite-requires (λ c κs. search needs) (λ c. search needs) returns-2)

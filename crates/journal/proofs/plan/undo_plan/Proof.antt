@@ -1,0 +1,41 @@
+-- `undo_plan` meets its contract: where none of the refusals applies there is a last record. Assumes nothing.
+use mathlib.Core.Path.{_≡_, _∙_, refl, sym}
+use Prim.Native.Nat.{ℕ, zero, suc, _-_, _≤_, zero-le, suc-le-suc}
+use borrow.Author.Needs.{needs}
+use borrow.Author.Tests.{eqb-false}
+use denote.Ref.{now}
+use Rattle.answer.specs.Answer.{accepted, first}
+use Rattle.answer.proofs.Laws.{none-applies, accepts}
+use Rattle.journal.specs.Journal.{noRecord}
+use Rattle.journal.specs.Edit.{undoRefusals}
+use Rattle.journal.specs.Plan.{refusedPlan, undoPlanOf}
+use Rattle.journal.proofs.Laws.{refused-is}
+use Rattle.journal.proofs.plan.undo_plan.Statement.{statement}
+use Rattle.journal.proofs.plan.undo_plan.Tie as tie
+
+returns : tie.Need-returns
+unfolding undoPlanOf
+returns c = c .refused .ensures ∙ refused-is refusedPlan _ _ _ (sym (c .before .before .undo-refusal .ensures)) (c .before .if1 .taken)
+
+can-undo : (c : tie.Else1) → let a = c .before .before .before .args in first (undoRefusals (now (a .code)) (a .valid) (a .count) (a .last)) ≡ accepted
+can-undo c = sym (c .before .undo-refusal .ensures) ∙ c .if1 .left
+
+some-stand : tie.Need-sub-place
+some-stand c =
+    let a = c .before .before .before .before .args in
+    some (a .count) (eqb-false (a .count) 0 (none-applies (undoRefusals (now (a .code)) (a .valid) (a .count) (a .last)) tt (can-undo (c .before)) .1 .1 .0))
+  where
+    some : (n : ℕ) → (n ≡ 0 → ⊥) → 1 ≤ n
+    some zero d = absurd (d refl)
+    some (suc n) d = suc-le-suc zero-le
+
+returns-2 : tie.Need-returns-2
+unfolding undoPlanOf
+returns-2 c =
+    let e = c .before in
+    let a = e .before .before .before .args in
+    (λ i. record { answer = e .if1 .left i; bundle = a .last .bundle; halves = a .last .old; place = a .count - 1; kept = noRecord; count = a .count - 1 })
+    ∙ sym (accepts _ _ _ (can-undo e))
+
+pub undo-plan-spec : {M : Type 1} → statement M
+undo-plan-spec = tie.close (tie.spec (λ c κs. search needs) (λ c κs. search needs) returns some-stand returns-2)
