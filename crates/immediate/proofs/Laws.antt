@@ -1,22 +1,27 @@
 -- When a form's row is read or changed in a slot of a bundle: none of the refusals applies, so the row is sound there. Assumes nothing.
-use mathlib.Core.Path.{_≡_, sym, ap, _∙_}
+use mathlib.Core.Path.{_≡_, refl, sym, ap, _∙_}
 use mathlib.Core.Bool.{true, false, not, _||_}
 use mathlib.Core.List.{List}
-use Prim.Native.Nat.{ℕ, _<_, suc-le-suc}
+use Prim.Native.Nat.{ℕ, _<_, _^_, suc-le-suc}
 use borrow.Author.Tests.{ltb-false, not-false, eqb-true, eq-eqb, ne-eqb}
 use lib.Dec.{T, ltb, eqb}
 use Rattle.answer.specs.Answer.{Refusal, accepted, badValue, first}
-use Rattle.answer.proofs.Laws.{none-applies, first-on, first-stop, accepts, refuses}
+use Rattle.answer.proofs.Laws.{none-applies, first-on, first-stop, accepts, refuses, answered}
+use Rattle.bits.specs.Part.{bit}
+use Rattle.bits.specs.Parts.{apartFrom}
 use Rattle.bundle.specs.Bundle.{bundleRefusals, halvesOf}
 use Rattle.bundle.proofs.Laws.{or-false}
 use Rattle.form.specs.declared.Form.{Form}
 use Rattle.form.specs.declared.Edit.{Edit}
 use Rattle.row.specs.Row.{isNone, rowOf}
+use Rattle.row.specs.Meaning.{Is}
 use Rattle.immediate.specs.Sound.{Sound}
-use Rattle.immediate.specs.Immediate.{fits, unitAt, readRefusals, rawFor, valueRefusals, changeRefusals, changedNumber, noChange, changedOf}
+use Rattle.immediate.specs.Immediate.{fits, unitAt, readRefusals, rawFor, valueRefusals, changeRefusals, valueIn, partsOf, changedNumber, noChange, changedOf}
 use Rattle.row.specs.declared.Row.{Row}
+use Rattle.immediate.specs.declared.outcome.Changed.{Changed}
 use Rattle.row.proofs.Rows.{good, row-good}
 use Rattle.immediate.proofs.Sound.{sound}
+use Rattle.immediate.proofs.Written.{read-written, written-lt, bit-kept}
 
 -- the row is one, and the form fits the slot
 pub record Stands (n slot : ℕ) (form : Form) (row : Row) : Type 0 where
@@ -46,6 +51,14 @@ module _ (n : ℕ) (e : Edit) where
   unfolding changedOf
   unchanged-by a q d = ap noChange (sym q) ∙ sym (refuses (first (changeRefusals n e)) _ _ (λ p. d (sym q ∙ p)))
 
+  pub changed-answer : changedOf n e .answer ≡ first (changeRefusals n e)
+  unfolding changedOf
+  changed-answer = answered (λ (c : Changed). c .answer) (first (changeRefusals n e)) _ _ refl refl
+
+  pub changed-taken : first (changeRefusals n e) ≡ accepted → changedOf n e ≡ record { answer = accepted; bundle = halvesOf (changedNumber n e) }
+  unfolding changedOf
+  changed-taken q = accepts _ _ _ q
+
   pub not-read : (first reading ≡ accepted → ⊥) → first (changeRefusals n e) ≡ first reading
   not-read d = first-stop reading (valueRefusals row (e .value)) d
 
@@ -54,8 +67,7 @@ module _ (n : ℕ) (e : Edit) where
     no-raw d = first-on reading (valueRefusals row (e .value)) tt read ∙ rw (ne-eqb _ accepted d)
 
     pub changed-done : rawFor row (e .value) .answer ≡ accepted → changedOf n e ≡ record { answer = accepted; bundle = halvesOf (changedNumber n e) }
-    unfolding changedOf
-    changed-done q = accepts _ _ _ (first-on reading (valueRefusals row (e .value)) tt read ∙ rw (eq-eqb _ accepted q))
+    changed-done q = changed-taken (first-on reading (valueRefusals row (e .value)) tt read ∙ rw (eq-eqb _ accepted q))
 
 -- an edit that a bundle takes: its row stands in its slot, and its value has a raw number
 module _ (n : ℕ) (e : Edit) (taken : first (changeRefusals n e) ≡ accepted) where
@@ -65,5 +77,18 @@ module _ (n : ℕ) (e : Edit) (taken : first (changeRefusals n e) ≡ accepted) 
   pub change-sound : Sound (e .slot) (rowOf (e .form))
   change-sound = read-sound n (e .slot) (e .form) (rowOf (e .form)) (row-good (e .form)) change-read
 
-  pub change-raw : rawFor (rowOf (e .form)) (e .value) .answer ≡ accepted
-  change-raw = eqb-true _ _ (not-false _ (none-applies (changeRefusals n e) tt taken .1 .1 .1 .0))
+  change-raw : rawFor (rowOf (e .form)) (e .value) ≡ Is (rawFor (rowOf (e .form)) (e .value) .raw)
+  change-raw =
+      let answer = eqb-true (rawFor (rowOf (e .form)) (e .value) .answer) accepted (not-false _ (none-applies (changeRefusals n e) tt taken .1 .1 .1 .0)) in
+      λ i. record { answer = answer i; raw = rawFor (rowOf (e .form)) (e .value) .raw }
+
+  -- the changed bundle reads as the edit's value, and is a number below 2 ^ 128
+  pub changed-value : valueIn (rowOf (e .form)) (e .slot) (changedNumber n e) ≡ e .value
+  changed-value = read-written (e .slot) (rowOf (e .form)) change-sound n _ (e .value) change-raw
+
+  pub changed-lt : n < 2 ^ 128 → changedNumber n e < 2 ^ 128
+  changed-lt h = written-lt (e .slot) (rowOf (e .form)) change-sound n _ h
+
+-- no bit outside the edit's parts changes
+pub changed-bit : (n : ℕ) (e : Edit) (i : ℕ) → T (apartFrom (i, 1) (partsOf e)) → bit (changedNumber n e) i ≡ bit n i
+changed-bit n e i t = bit-kept (e .slot) (rowOf (e .form)) n _ i t

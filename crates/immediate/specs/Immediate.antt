@@ -7,7 +7,7 @@ use lib.Dec.{eqb, ltb}
 use lib.IntN.{ℤ}
 use lib.ListN.{getD}
 use Rattle.answer.specs.Answer.{Refusal, first, outcome, accepted, badForm, badSlot, badValue}
-use Rattle.bits.specs.Parts.{gather, scatter}
+use Rattle.bits.specs.Parts.{Parts, gather, scatter}
 use Rattle.bundle.specs.Template.{M, I, unitsOf}
 use Rattle.bundle.specs.Bundle.{numberAt, tagOf, findAnswer, bundleRefusals, halvesOf}
 use Rattle.form.specs.Form.{A}
@@ -79,6 +79,10 @@ changeRefusals n e =
 -- the bundle with a raw number in a row's parts
 abbrev pub withRaw : Row → ℕ → ℕ → ℕ → ℕ
 withRaw row slot n raw = scatter n (placed slot (row .parts)) raw
+
+-- the parts of an edit's immediate in its bundle
+abbrev pub partsOf : Edit → Parts
+partsOf e = placed (e .slot) (rowOf (e .form) .parts)
 
 -- the bundle with an edit's value in its immediate
 abbrev pub changedNumber : ℕ → Edit → ℕ

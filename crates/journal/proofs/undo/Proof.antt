@@ -4,7 +4,7 @@ use mathlib.Core.Bool.{Bool}
 use Prim.Native.Nat.{ℕ, _-_}
 use borrow.Author.Needs.{needs}
 use denote.Ref.{now}
-use Rattle.bundle.specs.Bundle.{foundOf}
+use Rattle.bundle.specs.Bundle.{findAnswer}
 use Rattle.answer.specs.Answer.{accepted}
 use Rattle.journal.specs.Journal.{validOf, recordAt}
 use Rattle.journal.specs.Plan.{undoPlanOf, carriedOut}
@@ -28,7 +28,7 @@ carry-out-requires : tie.Need-carry-out-requires
 carry-out-requires c κs =
     let p = c .before in
     let a = p .before .before .before .before .before .before .args in
-    subst (λ (plan : Plan). plan .answer ≡ accepted → foundOf (now (a .code)) (plan .bundle) ≡ accepted) (sym (planned p))
+    subst (λ (plan : Plan). plan .answer ≡ accepted → findAnswer (now (a .code)) (plan .bundle) ≡ accepted) (sym (planned p))
     (undo-found (now (a .code)) (validOf (a .journal)) (a .journal .count) (recordAt (a .journal) (a .journal .count - 1)))
 
 returns : tie.Need-returns
