@@ -9,7 +9,7 @@ use borrow.Author.Tests.{le-leb, leb-true, eq-eqb}
 use lib.Dec.{T, eqb, leb, leb→le, eqb→eq}
 use lib.ListN.{length, getD, set, take, drop, replicate, length-append, length-replicate, length-drop, take-append-drop}
 use lib.Seq.{set-at, getD-at, take-append-seam, drop-append-seam, length-take-le}
-use mir.Facts.{and-yes}
+use mir.Facts.{and-yes, yes-and}
 use Rattle.journal.specs.Journal.{limit, noRecord, isZero, isFree, mayStand, all, standing, journalOf, validOf, recordAt, withRecord, JournalStands, JournalValid, ValidIsJournal, JournalReads, JournalPushes, JournalPops}
 use Rattle.journal.specs.declared.records.Record.{Record}
 use Rattle.journal.specs.declared.records.Journal.{Journal}
@@ -26,6 +26,16 @@ one-more n h =
 pub journal-stands : JournalStands
 unfolding standing journalOf
 journal-stands rs = take-append-seam rs _
+
+-- what holds of every place holds of the records that stand
+pub standing-all : (test : Record → Bool) (j : Journal) → T (all test (j .records)) → T (all test (standing j))
+unfolding standing
+standing-all test j = go (j .count) (j .records)
+  where
+    go : (n : ℕ) (rs : List Record) → T (all test rs) → T (all test (take n rs))
+    go zero rs t = tt
+    go (suc n) [] t = tt
+    go (suc n) (r ∷ rs) t = let s = and-yes (test r) (all test rs) t in yes-and (test r) (all test (take n rs)) (s .0) (go n rs (s .1))
 
 pub journal-counts : (rs : List Record) → journalOf rs .count ≡ length rs
 unfolding journalOf

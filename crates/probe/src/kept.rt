@@ -4,8 +4,6 @@ use journal::Edited;
 use journal::Journal;
 use journal::Record;
 
-const PLACES: usize = 64;
-
 pub fn get(kept: &[u64], i: usize) -> u64 {
     if i < kept.len() { kept[i] } else { 0 }
 }
@@ -35,12 +33,11 @@ pub fn clear(kept: &mut [u64]) {
 }
 
 pub fn journal(kept: &[u64]) -> Journal {
+    let count = get(kept, 0);
     let mut j = journal::empty();
-    j.count = get(kept, 0);
     let mut i = 0;
-    while i < PLACES {
-        let one = place(kept, i * 5);
-        j.records[i] = one;
+    while i < journal::LIMIT {
+        j = journal::with_record(j, i, place(kept, i as usize * 5), count);
         i += 1;
     }
     j
@@ -73,9 +70,8 @@ pub fn keep(kept: &mut [u64], edited: Edited) -> u8 {
 fn set_journal(kept: &mut [u64], j: Journal) {
     set(kept, 0, j.count);
     let mut i = 0;
-    while i < PLACES {
-        let one = j.records[i];
-        set_place(kept, i * 5 + 1, numbers(one));
+    while i < journal::LIMIT {
+        set_place(kept, i as usize * 5 + 1, numbers(journal::record_at(j, i)));
         i += 1;
     }
 }

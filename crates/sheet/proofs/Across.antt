@@ -1,77 +1,52 @@
--- Demand 3 holds across sheets: a run's journal is valid and held, so the sheet that was just written from it loads as it. Assumes nothing.
+-- Demand 3 holds across sheets: a run's journal has a sheet, so the sheet that was just written from it loads as it. Assumes nothing.
 use mathlib.Core.Path.{_≡_, refl, sym, ap, ap₂, _∙_, subst}
-use mathlib.Core.Bool.{true}
+use mathlib.Core.Bool.{Bool, true, _&&_}
 use mathlib.Core.List.{List, [], _∷_, _++_}
 use mathlib.Core.Option.{Option, none, some, Option·some-injective, Option·none-ne-some}
-use Prim.Native.Nat.{ℕ, zero, suc, _+_, _-_, _≤_, _<_, _^_}
+use Prim.Native.Nat.{ℕ, _≤_, _<_, _^_}
 use native.Mathlib.Decide.{ℕ-discrete}
 use native.Mathlib.Omega.{arith}
-use lib.ListN.{length, getD, take, drop, replicate, length-append, length-replicate}
+use lib.Dec.{T, leb→le}
+use lib.ListN.{length, take, drop}
 use lib.Seq.{take-append-seam}
+use mir.Facts.{and-yes, yes-and}
 use Rattle.answer.specs.Answer.{accepted, first, outcome}
 use Rattle.answer.proofs.Laws.{accepts, refuses}
 use Rattle.bits.proofs.Laws.{part-lt}
 use Rattle.bundle.specs.Bundle.{halvesOf}
 use Rattle.bundle.proofs.Bytes.{Bytes}
-use Rattle.journal.specs.Journal.{noRecord, validOf}
-use Rattle.journal.specs.Edit.{Outcome, editOf, undoOf}
-use Rattle.journal.specs.Demand3.{Edit, Call, edit, undo, step, run, standing, recordsOf, journalOf}
+use Rattle.journal.specs.Journal.{highest, mayStand, all, standing, journalOf}
+use Rattle.journal.specs.Edit.{Outcome, recordOf, editOf, undoOf}
+use Rattle.journal.specs.Demand3.{Edit, Call, edit, undo, step, run, madeAll, standingEdits, recordsOf}
 use Rattle.journal.specs.declared.records.Edited.{Edited}
 use Rattle.journal.specs.declared.records.Journal.{Journal}
 use Rattle.journal.specs.declared.records.Record.{Record}
-use Rattle.journal.proofs.Run.{holds, run-valid, run-most}
-use Rattle.journal.proofs.Standing.{records-length}
+use Rattle.journal.proofs.Run.{holds, run-valid}
+use Rattle.journal.proofs.Standing.{all-append, journal-stands, valid-stand}
 use Rattle.text.specs.Whole.{wroteOf, wholeRefusals}
 use Rattle.text.specs.declared.whole.Written.{Written}
-use Rattle.sheet.specs.Held.{Words, Held}
+use Rattle.sheet.specs.RoundTrip.{isHeld, HasSheet}
 use Rattle.sheet.specs.Sheet.{sheetOf, writeRefusals}
 use Rattle.sheet.specs.Load.{loadOf}
 use Rattle.sheet.specs.Across.{SheetCall, call, write, load, State, sheetIn, loaded, next, runAcross, plain, HoldsAcross, Demand3Across}
+use Rattle.sheet.proofs.Held.{Words, is-held}
 use Rattle.sheet.proofs.Inverse.{load-written}
-
--- every record's halves are numbers below 2 ^ 64
-abbrev Fine : List Record → Type 0
-Fine rs = (i : ℕ) → Words (getD rs i noRecord .old) × Words (getD rs i noRecord .new)
 
 words : (n : ℕ) → Words (halvesOf n)
 words n = record { low = part-lt n 0 64; high = part-lt n 64 64 }
 
-fine-none : Fine []
-fine-none i = (words 0, words 0)
-
-fine-append : (xs ys : List Record) → Fine xs → Fine ys → Fine (xs ++ ys)
-fine-append [] ys f g i = g i
-fine-append (x ∷ xs) ys f g zero = f 0
-fine-append (x ∷ xs) ys f g (suc i) = fine-append xs ys (λ j. f (suc j)) g i
-
-fine-one : (r : Record) → Words (r .old) → Words (r .new) → Fine (r ∷ [])
-fine-one r o n zero = (o, n)
-fine-one r o n (suc i) = fine-none i
-
-fine-free : (m : ℕ) → Fine (replicate m noRecord)
-fine-free zero i = fine-none i
-fine-free (suc m) zero = (words 0, words 0)
-fine-free (suc m) (suc i) = fine-free m i
-
-fine-records : (code : List ℕ) (es : List Edit) → Fine (recordsOf code es)
-fine-records code [] i = fine-none i
-fine-records code (e ∷ es) i = fine-append (recordsOf code es) _ (fine-records code es) (fine-one _ (words _) (words _)) i
-
-held : (code : List ℕ) (es : List Edit) → length es ≤ 64 → Held (journalOf code es)
-unfolding journalOf
-held code es most =
-    let fine = fine-append (recordsOf code es) _ (fine-records code es) (fine-free (64 - length es)) in
-    record {
-      places =
-          length-append (recordsOf code es) _
-          ∙ ap₂ (λ (a b : ℕ). a + b) (records-length code es) (length-replicate (64 - length es) noRecord)
-          ∙ together (length es) most;
-      old = λ i. fine i .0;
-      new = λ i. fine i .1;
-    }
+-- the code holds the records of edits whose bundles may stand
+records-held : (code : List ℕ) (es : List Edit) → T (all mayStand (recordsOf code es)) → T (all isHeld (recordsOf code es))
+records-held code [] t = tt
+records-held code (e ∷ es) t =
+    let rs = recordsOf code es in
+    let m = and-yes (all mayStand rs) (mayStand last && true) (subst T (all-append mayStand rs (last ∷ [])) t) in
+    let low = leb→le (e .bundle) highest (and-yes (mayStand last) true (m .1) .0) in
+    let held = is-held last (record { bundle = omega (arith, low); old = words _; new = words _ }) in
+    subst T (sym (all-append isHeld rs (last ∷ []))) (yes-and (all isHeld rs) (isHeld last && true) (records-held code es (m .0)) (yes-and (isHeld last) true held tt))
   where
-    together : (n : ℕ) → n ≤ 64 → n + (64 - n) ≡ 64
-    together n h = omega arith
+    last : Record
+    last = recordOf (madeAll code es) (e .bundle) (e .slot) (e .family) (e .number) (e .value)
 
 -- the sheet in an output is the one that was written
 sheet-in : (j : Journal) (out text : List ℕ) → sheetIn (wroteOf (writeRefusals j) (sheetOf j) out) ≡ some text → text ≡ sheetOf j
@@ -103,15 +78,23 @@ same-step s t p q (edit e) = ap₂ (λ (code : List ℕ) (journal : Journal). ed
 same-step s t p q undo = ap₂ undoOf p q
 
 module _ (code : List ℕ) (b : Bytes code) (short : length code ≤ 65536) where
-  run-held : (calls : List Call) → Held (run code calls .journal)
-  run-held calls = subst Held (sym (holds code b short calls .journal-is)) (held code (standing code calls) (run-most code b short calls))
+  run-sheet : (calls : List Call) → HasSheet (run code calls .journal)
+  run-sheet calls =
+      let valid = run-valid code b short calls in
+      let stand = ap standing (holds code b short calls .journal-is) ∙ journal-stands (recordsOf code (standingEdits code calls)) in
+      record {
+        valid = valid;
+        held =
+            subst (λ (rs : List Record). T (all isHeld rs)) (sym stand)
+            (records-held code (standingEdits code calls) (subst (λ (rs : List Record). T (all mayStand rs)) stand (valid-stand _ valid)));
+      }
 
   -- loading the sheet of the run's journal gives that journal
   loads-own : (calls : List SheetCall) → Reached code calls → (text : List ℕ) → runAcross code calls .sheet ≡ some text
       → (given : Journal) → loadOf given text ≡ record { answer = accepted; journal = run code (plain calls) .journal }
   loads-own calls r text e given =
       ap (loadOf given) (r .sheets text e)
-      ∙ load-written given (run code (plain calls) .journal) (run-held (plain calls)) (run-valid code b short (plain calls))
+      ∙ load-written given (run code (plain calls) .journal) (run-sheet (plain calls))
 
   after-load : (calls : List SheetCall) → Reached code calls → Reached code (load ∷ calls)
   after-load calls r =
@@ -157,6 +140,7 @@ demand-3-across code b short calls =
     record {
       code-is = r .codes;
       journal-is = r .journals;
+      answers = λ c. ap (λ (o : Outcome). o .answer) (same-step (runAcross code calls .after) (run code (plain calls)) (r .codes) (r .journals) c);
       loads = λ text e.
           ap (λ (sheet : Option (List ℕ)). loaded (runAcross code calls .after) sheet .answer) e
           ∙ ap (λ (l : Edited). l .answer) (loads-own code b short calls r text e (runAcross code calls .after .journal));

@@ -1,65 +1,48 @@
 -- How long a sheet can be: a bundle number has at most 4 digits and a half at most 20, so a line has at most 89 bytes, and a valid
--- journal has at most 64 of them. Assumes nothing.
-use mathlib.Core.Path.{_≡_, sym, subst, _∙_}
-use mathlib.Core.Bool.{true}
+-- journal has at most `limit` of them. Assumes nothing.
+use mathlib.Core.Path.{_≡_, ap, _∙_}
 use mathlib.Core.List.{List, [], _∷_}
 use Prim.Native.Nat.{ℕ, zero, suc, _+_, _-_, _*_, _/_, _^_, _≤_, _<_}
 use native.Mathlib.Nat.{le-antisymm}
 use native.Mathlib.Omega.{arith}
 use native.Mathlib.Decide.{decLt}
-use lib.Dec.{T, leb, ltb, leb→le}
-use lib.ListN.{length, getD, take, replicate, length-append}
+use lib.Dec.{T, leb→le}
+use lib.ListN.{length, replicate, length-append, length-replicate}
 use mir.Facts.{and-yes}
-use borrow.Author.Tests.{lt-ltb}
-use Rattle.journal.specs.Journal.{noRecord, placeValid, placesValid, validOf}
-use Rattle.journal.specs.declared.records.Journal.{Journal}
+use Rattle.journal.specs.Journal.{limit, highest, mayStand, all, standing, journalOf}
 use Rattle.journal.specs.declared.records.Record.{Record}
-use Rattle.journal.proofs.Laws.{valid-count}
+use Rattle.journal.proofs.Standing.{journal-stands, valid-few, valid-stand}
 use Rattle.text.specs.Decimal.{decimal}
 use Rattle.text.proofs.Numerals.{decimal-one, decimal-more, decimal-length}
-use Rattle.sheet.specs.Held.{Words}
-use Rattle.sheet.specs.RoundTrip.{AtMost, longest, LongestHas}
+use Rattle.sheet.specs.RoundTrip.{isHeld, AtMost, longest, LongestHas}
 use Rattle.sheet.specs.Sheet.{lineOf, linesOf}
+use Rattle.sheet.proofs.Held.{numbers}
 use Rattle.sheet.proofs.Sheets.{line-length, sheet-length}
 
-line-most : (r : Record) → r .bundle ≤ 4095 → Words (r .old) → Words (r .new) → length (lineOf r) ≤ 89
-line-most r b o n =
+line-most : (r : Record) → T (mayStand r) → T (isHeld r) → length (lineOf r) ≤ 89
+line-most r m h =
+    let n = numbers r h in
     omega (
       arith,
       line-length r,
-      decimal-length 3 (r .bundle) (omega arith),
-      decimal-length 19 (r .old .low) (omega (arith, o .low)),
-      decimal-length 19 (r .old .high) (omega (arith, o .high)),
-      decimal-length 19 (r .new .low) (omega (arith, n .low)),
-      decimal-length 19 (r .new .high) (omega (arith, n .high)),
+      decimal-length 3 (r .bundle) (omega (arith, leb→le (r .bundle) highest m)),
+      decimal-length 19 (r .old .low) (omega (arith, n .old .low)),
+      decimal-length 19 (r .old .high) (omega (arith, n .old .high)),
+      decimal-length 19 (r .new .low) (omega (arith, n .new .low)),
+      decimal-length 19 (r .new .high) (omega (arith, n .new .high)),
     )
 
--- a standing record's bundle number
-pub standing-bundle : (count k i : ℕ) (rs : List Record) → T (placesValid count k rs) → k + i < count → i < length rs → getD rs i noRecord .bundle ≤ 4095
-standing-bundle count k i [] v h l = absurd (omega arith)
-standing-bundle count k zero (r ∷ rs) v h l =
-    let s = and-yes (placeValid (ltb k count) r) (placesValid count (k + 1) rs) v .0 in
-    leb→le _ _ (rw (lt-ltb k count (omega arith)) at s)
-standing-bundle count k (suc i) (r ∷ rs) v h l =
-    standing-bundle count (k + 1) i rs (and-yes (placeValid (ltb k count) r) (placesValid count (k + 1) rs) v .1) (omega arith) (omega arith)
-
--- the places of a valid journal
-pub valid-places : (j : Journal) → validOf j ≡ true → T (placesValid (j .count) 0 (j .records))
-unfolding validOf
-valid-places j v = and-yes (leb (j .count) 64) (placesValid (j .count) 0 (j .records)) (subst T (sym v) tt) .1
-
-lines-most : (rs : List Record) (n : ℕ) → n ≤ length rs → ((i : ℕ) → i < n → length (lineOf (getD rs i noRecord)) ≤ 89) → length (linesOf (take n rs)) ≤ 89 * n
-lines-most rs zero h most = omega arith
-lines-most [] (suc n) h most = absurd (omega arith)
-lines-most (r ∷ rs) (suc n) h most =
-    rw (length-append (lineOf r) (linesOf (take n rs)))
-    (omega (arith, most 0 (omega arith), lines-most rs n (omega arith) (λ i l. most (suc i) (omega arith))))
+lines-most : (rs : List Record) → T (all mayStand rs) → T (all isHeld rs) → length (linesOf rs) ≤ 89 * length rs
+lines-most [] m h = omega arith
+lines-most (r ∷ rs) m h =
+    let a = and-yes (mayStand r) (all mayStand rs) m in
+    let b = and-yes (isHeld r) (all isHeld rs) h in
+    omega (arith, length-append (lineOf r) (linesOf rs), line-most r (a .0) (b .0), lines-most rs (a .1) (b .1))
 
 pub sheet-most : AtMost
-sheet-most j held v =
-    let few = valid-count j v in
-    let line : (i : ℕ) → i < j .count → length (lineOf (getD (j .records) i noRecord)) ≤ 89 = λ i h. line-most (getD (j .records) i noRecord) (standing-bundle (j .count) 0 i (j .records) (valid-places j v) (omega arith) (omega (arith, held .places))) (held .old i) (held .new i) in
-    omega (arith, sheet-length j, decimal-length 1 (j .count) (omega arith), lines-most (j .records) (j .count) (omega (arith, held .places)) line)
+sheet-most j s =
+    let few = valid-few j (s .valid) in
+    omega (arith, few, sheet-length j, decimal-length 1 (length (standing j)) (omega (arith, few)), lines-most (standing j) (valid-stand j (s .valid)) (s .held))
 
 -- a number of 10 ^ k or more has more than k digits
 digits-least : (k n : ℕ) → 10 ^ k ≤ n → suc k ≤ length (decimal n)
@@ -84,8 +67,10 @@ lines-copies (suc n) r = length-append (lineOf r) (linesOf (replicate n r)) ∙ 
 -- and so many it can be
 pub longest-has : LongestHas
 longest-has =
-    let r : Record = getD (longest .records) 0 noRecord in
     let half : length (decimal (2 ^ 64 - 1)) ≡ 20 = le-antisymm (decimal-length 19 (2 ^ 64 - 1) (omega arith)) (digits-least 19 (2 ^ 64 - 1) (omega arith)) in
-    let near : length (decimal 4095) ≡ 4 = le-antisymm (decimal-length 3 4095 (omega arith)) (digits-least 3 4095 (omega arith)) in
-    let count : length (decimal 64) ≡ 2 = le-antisymm (decimal-length 1 64 (omega arith)) (digits-least 1 64 (omega arith)) in
-    sheet-length longest ∙ omega (arith, lines-copies 64 r, line-length r, half, near, count)
+    let near : length (decimal highest) ≡ 4 = le-antisymm (decimal-length 3 highest (omega arith)) (digits-least 3 highest (omega arith)) in
+    let count : length (decimal limit) ≡ 2 = le-antisymm (decimal-length 1 limit (omega arith)) (digits-least 1 limit (omega arith)) in
+    let r : Record = record { bundle = highest; old = record { low = 2 ^ 64 - 1; high = 2 ^ 64 - 1 }; new = record { low = 2 ^ 64 - 1; high = 2 ^ 64 - 1 } } in
+    sheet-length longest
+    ∙ ap (λ (rs : List Record). length (decimal (length rs)) + 9 + length (linesOf rs)) (journal-stands (replicate limit r))
+    ∙ omega (arith, lines-copies limit r, line-length r, half, near, count)

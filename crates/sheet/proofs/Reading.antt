@@ -2,7 +2,7 @@
 use mathlib.Core.Path.{_≡_, refl}
 use mathlib.Core.Bool.{Bool, true, false, _&&_}
 use mathlib.Core.List.{List, [], _∷_}
-use mathlib.Core.Option.{none, some}
+use mathlib.Core.Option.{none, some, Option·map}
 use Prim.Native.Nat.{ℕ, suc, _+_, _-_, _≤_, _<_}
 use native.Mathlib.Numerals.{add-one}
 use native.Mathlib.Omega.{arith}
@@ -13,12 +13,12 @@ use borrow.Author.Tests.{lt-ltb, le-ltb, le-leb, lt-leb, eq-eqb, ne-eqb}
 use Rattle.text.specs.declared.number.Number.the-variants.{Read, Refused}
 use Rattle.text.specs.Number.{numberOf}
 use Rattle.bundle.specs.declared.half.Halves.{Halves}
-use Rattle.journal.specs.Journal.{fresh}
+use Rattle.journal.specs.Journal.{limit, mayStand}
 use Rattle.journal.specs.declared.records.Journal.{Journal}
 use Rattle.journal.specs.declared.records.Record.{Record}
 use Rattle.sheet.specs.declared.line.Line.the-variants as line
 use Rattle.sheet.specs.declared.line.Pair.the-variants as pair
-use Rattle.sheet.specs.Load.{startsWith, fieldAt, halvesAt, lineAt, placed, filled, headOf, journalOf, answerOf, loadOf}
+use Rattle.sheet.specs.Load.{startsWith, fieldAt, halvesAt, lineAt, recordsAt, headOf, recordsIn, answerOf, loadOf}
 
 and-false : (t : Bool) → (t && false) ≡ false
 and-false true = refl
@@ -78,61 +78,61 @@ module _ (text : List ℕ) (at : ℕ) where
   line-none e = rw e
 
   module _ (bundle first : ℕ) (e : fieldAt text at 9 ≡ Read bundle first) where
-    pub line-far : 4095 < bundle → line.Refused ≡ lineAt text at
+    pub line-no-old : halvesAt text first 9 ≡ pair.Refused → line.Refused ≡ lineAt text at
     unfolding lineAt
-    line-far h = rw (e, lt-leb bundle 4095 h)
+    line-no-old o = rw (e, o)
 
-    module _ (near : bundle ≤ 4095) where
-      pub line-no-old : halvesAt text first 9 ≡ pair.Refused → line.Refused ≡ lineAt text at
+    module _ (old : Halves) (second : ℕ) (o : halvesAt text first 9 ≡ pair.Read old second) where
+      pub line-no-new : halvesAt text second 10 ≡ pair.Refused → line.Refused ≡ lineAt text at
       unfolding lineAt
-      line-no-old o = rw (e, le-leb bundle 4095 near, o)
+      line-no-new n = rw (e, o, n)
 
-      module _ (old : Halves) (second : ℕ) (o : halvesAt text first 9 ≡ pair.Read old second) where
-        pub line-no-new : halvesAt text second 10 ≡ pair.Refused → line.Refused ≡ lineAt text at
+      module _ (new : Halves) (next : ℕ) (n : halvesAt text second 10 ≡ pair.Read new next) where
+        pub line-unfit : mayStand (record { bundle = bundle; old = old; new = new }) ≡ false → line.Refused ≡ lineAt text at
         unfolding lineAt
-        line-no-new n = rw (e, le-leb bundle 4095 near, o, n)
+        line-unfit m = rw (e, o, n, m)
 
-        pub line-whole : (new : Halves) (next : ℕ) → halvesAt text second 10 ≡ pair.Read new next → line.Read (record { bundle = bundle; old = old; new = new }) next ≡ lineAt text at
+        pub line-whole : mayStand (record { bundle = bundle; old = old; new = new }) ≡ true → line.Read (record { bundle = bundle; old = old; new = new }) next ≡ lineAt text at
         unfolding lineAt
-        line-whole new next n = rw (e, le-leb bundle 4095 near, o, n)
+        line-whole m = rw (e, o, n, m)
 
 -- the lines that are left
-module _ (text : List ℕ) (at i count : ℕ) (j : Journal) where
+module _ (text : List ℕ) (at i count : ℕ) where
   module _ (h : i < count) where
     left : count - i ≡ suc (count - (i + 1))
     left = omega arith
 
-    pub filled-on : (r : Record) (next : ℕ) → lineAt text at ≡ line.Read r next → filled text at i (count - i) j ≡ filled text next (i + 1) (count - (i + 1)) (placed j i r)
-    unfolding filled
-    filled-on r next e = rw (left, e)
+    pub records-on : (r : Record) (next : ℕ) → lineAt text at ≡ line.Read r next → recordsAt text at (count - i) ≡ Option·map (λ (rs : List Record). r ∷ rs) (recordsAt text next (count - (i + 1)))
+    unfolding recordsAt
+    records-on r next e = rw (left, e)
 
-    pub filled-not : lineAt text at ≡ line.Refused → filled text at i (count - i) j ≡ none
-    unfolding filled
-    filled-not e = rw (left, e)
+    pub records-not : lineAt text at ≡ line.Refused → recordsAt text at (count - i) ≡ none
+    unfolding recordsAt
+    records-not e = rw (left, e)
 
   module _ (h : count ≤ i) where
     done : count - i ≡ 0
     done = omega arith
 
-    pub filled-whole : at ≡ length text → filled text at i (count - i) j ≡ some j
-    unfolding filled
-    filled-whole e = rw (done, eq-eqb at (length text) e)
+    pub records-whole : at ≡ length text → recordsAt text at (count - i) ≡ some []
+    unfolding recordsAt
+    records-whole e = rw (done, eq-eqb at (length text) e)
 
-    pub filled-trailing : (at ≡ length text → ⊥) → filled text at i (count - i) j ≡ none
-    unfolding filled
-    filled-trailing d = rw (done, ne-eqb at (length text) d)
+    pub records-trailing : (at ≡ length text → ⊥) → recordsAt text at (count - i) ≡ none
+    unfolding recordsAt
+    records-trailing d = rw (done, ne-eqb at (length text) d)
 
 -- what loading comes to, by the first line
 module _ (given : Journal) (text : List ℕ) where
   pub load-no-head : headOf text ≡ Refused → loadOf given text ≡ answerOf given none
-  unfolding loadOf journalOf
+  unfolding loadOf recordsIn
   load-no-head e = rw e
 
   module _ (count at : ℕ) (e : headOf text ≡ Read count at) where
-    pub load-many : 64 < count → loadOf given text ≡ answerOf given none
-    unfolding loadOf journalOf
-    load-many h = rw (e, lt-leb count 64 h)
+    pub load-many : limit < count → loadOf given text ≡ answerOf given none
+    unfolding loadOf recordsIn
+    load-many h = rw (e, lt-leb count limit h)
 
-    pub load-lines : count ≤ 64 → loadOf given text ≡ answerOf given (filled text at 0 (count - 0) (record { count = count; records = fresh .records }))
-    unfolding loadOf journalOf
-    load-lines h = let z : count - 0 ≡ count = omega arith in rw (e, le-leb count 64 h, z)
+    pub load-lines : count ≤ limit → loadOf given text ≡ answerOf given (recordsAt text at count)
+    unfolding loadOf recordsIn
+    load-lines h = rw (e, le-leb count limit h)

@@ -6,7 +6,7 @@ use native.Mathlib.Numerals.{add-one}
 use native.Mathlib.Omega.{arith}
 use lib.ListN.{length, getD, take, length-append}
 use lib.Seq.{take-suc}
-use Rattle.journal.specs.Journal.{noRecord}
+use Rattle.journal.specs.Journal.{noRecord, standing}
 use Rattle.journal.specs.declared.records.Journal.{Journal}
 use Rattle.journal.specs.declared.records.Record.{Record}
 use Rattle.text.specs.Decimal.{decimal}
@@ -31,20 +31,13 @@ lines-more rs i h =
     ∙ lines-append (take i rs) (getD rs i noRecord ∷ [])
     ∙ ap (λ (l : List ℕ). linesOf (take i rs) ++ l) (append-nil (lineOf (getD rs i noRecord)))
 
--- fewer records have no more bytes
-pub lines-within : (rs : List Record) (i n : ℕ) → i ≤ n → length (linesOf (take i rs)) ≤ length (linesOf (take n rs))
-lines-within rs zero n h = omega arith
-lines-within [] (suc i) n h = omega arith
-lines-within (r ∷ rs) (suc i) zero h = absurd (omega arith)
-lines-within (r ∷ rs) (suc i) (suc n) h =
-    rw (length-append (lineOf r) (linesOf (take i rs)), length-append (lineOf r) (linesOf (take n rs))) (omega (arith, lines-within rs i n (omega arith)))
+-- the line of record i ends within the lines
+pub line-within : (rs : List Record) (i : ℕ) → i < length rs → length (linesOf (take i rs)) + length (lineOf (getD rs i noRecord)) ≤ length (linesOf rs)
+line-within [] i h = absurd (omega arith)
+line-within (r ∷ rs) zero h = rw (length-append (lineOf r) (linesOf rs)) (omega arith)
+line-within (r ∷ rs) (suc i) h =
+    rw (length-append (lineOf r) (linesOf rs), length-append (lineOf r) (linesOf (take i rs))) (omega (arith, line-within rs i (omega arith)))
 
-pub sheet-length : (j : Journal) → length (sheetOf j) ≡ length (decimal (j .count)) + 9 + length (linesOf (take (j .count) (j .records)))
+pub sheet-length : (j : Journal) → length (sheetOf j) ≡ length (decimal (length (standing j))) + 9 + length (linesOf (standing j))
 unfolding sheetOf
-sheet-length j = length-append (headerOf (j .count)) (linesOf (take (j .count) (j .records))) ∙ omega (arith, header-length (j .count))
-
--- the line of record i ends within the sheet
-pub line-within : (j : Journal) (i : ℕ) → i < j .count → i < length (j .records) → length (decimal (j .count)) + 9 + length (linesOf (take i (j .records))) + length (lineOf (getD (j .records) i noRecord)) ≤ length (sheetOf j)
-line-within j i h l =
-    let e = ap length (lines-more (j .records) i l) ∙ length-append (linesOf (take i (j .records))) (lineOf (getD (j .records) i noRecord)) in
-    omega (arith, e, sheet-length j, lines-within (j .records) (i + 1) (j .count) (omega arith))
+sheet-length j = length-append (headerOf (length (standing j))) (linesOf (standing j)) ∙ omega (arith, header-length (length (standing j)))

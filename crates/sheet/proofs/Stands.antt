@@ -1,15 +1,18 @@
 -- A piece of text stands at a place. A field, halves and a line are read where their text stands, and what is read stands there: from
 -- the same of a decimal, piece by piece. Assumes nothing.
-use mathlib.Core.Path.{_≡_, refl, sym, ap, _∙_}
+use mathlib.Core.Path.{_≡_, refl, sym, ap, _∙_, subst}
+use mathlib.Core.Bool.{Bool, true, false}
 use mathlib.Core.List.{List, [], _∷_, _++_, append-assoc}
 use mathlib.Core.Logic.{inl}
 use Prim.Native.Nat.{ℕ, _+_, _-_, _^_, _≤_, _<_}
 use native.Mathlib.Numerals.{add-one}
 use native.Mathlib.Omega.{arith}
 use native.Mathlib.Decide.{decLt, ℕ-discrete}
+use lib.Dec.{T}
 use lib.ListN.{length, getD, drop, length-append, length-drop}
 use lib.Seq.{append-snoc, drop-drop, drop-at, drop-cons, getD-drop}
 use Rattle.bundle.specs.declared.half.Halves.{Halves}
+use Rattle.journal.specs.Journal.{mayStand}
 use Rattle.journal.specs.declared.records.Record.{Record}
 use Rattle.text.specs.Decimal.{decimal}
 use Rattle.text.specs.Number.{numberOf}
@@ -19,10 +22,11 @@ use Rattle.text.proofs.RoundTrip.{decimal-read, read-decimal}
 use Rattle.sheet.specs.declared.line.Pair.{Pair}
 use Rattle.sheet.specs.declared.line.Line.the-variants as line
 use Rattle.sheet.specs.declared.line.Pair.the-variants as pair
-use Rattle.sheet.specs.Held.{Words}
 use Rattle.sheet.specs.Load.{fieldAt, halvesAt, lineAt}
+use Rattle.sheet.specs.RoundTrip.{isHeld}
 use Rattle.sheet.specs.Sheet.{lineOf}
-use Rattle.sheet.proofs.Reading.{field-none, field-past, field-other, field-ended, halves-none, halves-one, halves-both, line-none, line-far, line-no-old, line-no-new, line-whole}
+use Rattle.sheet.proofs.Held.{Words, numbers, is-held}
+use Rattle.sheet.proofs.Reading.{field-none, field-past, field-other, field-ended, halves-none, halves-one, halves-both, line-none, line-no-old, line-no-new, line-unfit, line-whole}
 
 -- the piece stands at `at` and ends at `next`
 pub record Stands (text : List ℕ) (at : ℕ) (piece : List ℕ) (next : ℕ) : Type 0 where
@@ -54,6 +58,10 @@ pub line-parts : (r : Record) → lineOf r ≡ field (r .bundle) 9 ++ (halves (r
 unfolding lineOf
 line-parts r = simp append-assoc
 
+pub T-true : (t : Bool) → T t → t ≡ true
+T-true true h = refl
+T-true false h = absurd h
+
 -- read where it stands
 module _ (text : List ℕ) where
   pub field-back : (at n end next : ℕ) → n < 2 ^ 64 → end < 48 → Stands text at (field n end) next → fieldAt text at end ≡ Read n next
@@ -71,11 +79,12 @@ module _ (text : List ℕ) where
       let p = stands-parts (field (h .low) 9) s in
       sym (halves-both text at end (h .low) _ (field-back at (h .low) 9 _ (w .low) (omega arith) (p .0)) (h .high) next (field-back _ (h .high) end next (w .high) l (p .1)))
 
-  pub line-back : (at next : ℕ) (r : Record) → r .bundle ≤ 4095 → Words (r .old) → Words (r .new) → Stands text at (lineOf r) next → lineAt text at ≡ line.Read r next
-  line-back at next r b o n s =
+  pub line-back : (at next : ℕ) (r : Record) → T (mayStand r) → T (isHeld r) → Stands text at (lineOf r) next → lineAt text at ≡ line.Read r next
+  line-back at next r m h s =
+      let n = numbers r h in
       let p = stands-parts (field (r .bundle) 9) (rw (line-parts r) at s) in
       let q = stands-parts (halves (r .old) 9) (p .1) in
-      sym (line-whole text at (r .bundle) _ (field-back at (r .bundle) 9 _ (omega arith) (omega arith) (p .0)) b (r .old) _ (halves-back _ 9 _ (r .old) o (omega arith) (q .0)) (r .new) next (halves-back _ 10 next (r .new) n (omega arith) (q .1)))
+      sym (line-whole text at (r .bundle) _ (field-back at (r .bundle) 9 _ (n .bundle) (omega arith) (p .0)) (r .old) _ (halves-back _ 9 _ (r .old) (n .old) (omega arith) (q .0)) (r .new) next (halves-back _ 10 next (r .new) (n .new) (omega arith) (q .1)) (T-true (mayStand r) m))
 
 no-number : {n next : ℕ} → Refused ≡ Read n next → ⊥
 no-number e = let z : _≡_ {A = ℕ} 0 1 = cc in omega arith
@@ -97,9 +106,8 @@ pub record HalvesRead (text : List ℕ) (at : ℕ) (h : Halves) (end next : ℕ)
 
 pub record LineRead (text : List ℕ) (at : ℕ) (r : Record) (next : ℕ) : Type 0 where
   pub stands : Stands text at (lineOf r) next
-  pub near : r .bundle ≤ 4095
-  pub old : Words (r .old)
-  pub new : Words (r .new)
+  pub may : T (mayStand r)
+  pub held : T (isHeld r)
 
 module _ (text : List ℕ) where
   ended : (at k middle end : ℕ) → numberOf text at ≡ Read k middle → middle < length text → getD text middle 0 ≡ end → FieldRead text at k end (middle + 1)
@@ -151,29 +159,34 @@ module _ (text : List ℕ) where
     halves-read = halves-first (fieldAt text at 9) refl
 
   module _ (at : ℕ) (r : Record) (next : ℕ) (f : lineAt text at ≡ line.Read r next) where
-    line-third : (bundle first : ℕ) → fieldAt text at 9 ≡ Read bundle first → bundle ≤ 4095 → (old : Halves) (second : ℕ) → halvesAt text first 9 ≡ pair.Read old second → (m : Pair) → halvesAt text second 10 ≡ m → LineRead text at r next
-    line-third bundle first e near old second o pair.Refused n = absurd (no-line (line-no-new text at bundle first e near old second o n ∙ f))
-    line-third bundle first e near old second o (pair.Read new last) n =
-        let g : line.Read (record { bundle = bundle; old = old; new = new }) last ≡ line.Read r next = line-whole text at bundle first e near old second o new last n ∙ f in
+    line-fourth : (bundle first : ℕ) → fieldAt text at 9 ≡ Read bundle first → (old : Halves) (second : ℕ) → halvesAt text first 9 ≡ pair.Read old second → (new : Halves) (last : ℕ) → halvesAt text second 10 ≡ pair.Read new last
+        → (t : Bool) → mayStand (record { bundle = bundle; old = old; new = new }) ≡ t → LineRead text at r next
+    line-fourth bundle first e old second o new last n false m = absurd (no-line (line-unfit text at bundle first e old second o new last n m ∙ f))
+    line-fourth bundle first e old second o new last n true m =
+        let g : line.Read (record { bundle = bundle; old = old; new = new }) last ≡ line.Read r next = line-whole text at bundle first e old second o new last n m ∙ f in
         let v : record { bundle = bundle; old = old; new = new } ≡ r = cc in
         let p : last ≡ next = cc in
         let b = field-read at bundle 9 first e in
         let x = halves-read first old 9 second o in
         let y = halves-read second new 10 last n in
         rw (← v, ← p)
-        (record { stands = rw (line-parts (record { bundle = bundle; old = old; new = new })) (stands-then (b .stands) (stands-then (x .stands) (y .stands))); near = near; old = x .words; new = y .words })
+        (record {
+          stands = rw (line-parts (record { bundle = bundle; old = old; new = new })) (stands-then (b .stands) (stands-then (x .stands) (y .stands)));
+          may = subst T (sym m) tt;
+          held = is-held (record { bundle = bundle; old = old; new = new }) (record { bundle = b .below; old = x .words; new = y .words });
+        })
 
-    line-second : (bundle first : ℕ) → fieldAt text at 9 ≡ Read bundle first → bundle ≤ 4095 → (m : Pair) → halvesAt text first 9 ≡ m → LineRead text at r next
-    line-second bundle first e near pair.Refused o = absurd (no-line (line-no-old text at bundle first e near o ∙ f))
-    line-second bundle first e near (pair.Read old second) o = line-third bundle first e near old second o (halvesAt text second 10) refl
+    line-third : (bundle first : ℕ) → fieldAt text at 9 ≡ Read bundle first → (old : Halves) (second : ℕ) → halvesAt text first 9 ≡ pair.Read old second → (m : Pair) → halvesAt text second 10 ≡ m → LineRead text at r next
+    line-third bundle first e old second o pair.Refused n = absurd (no-line (line-no-new text at bundle first e old second o n ∙ f))
+    line-third bundle first e old second o (pair.Read new last) n = line-fourth bundle first e old second o new last n (mayStand (record { bundle = bundle; old = old; new = new })) refl
+
+    line-second : (bundle first : ℕ) → fieldAt text at 9 ≡ Read bundle first → (m : Pair) → halvesAt text first 9 ≡ m → LineRead text at r next
+    line-second bundle first e pair.Refused o = absurd (no-line (line-no-old text at bundle first e o ∙ f))
+    line-second bundle first e (pair.Read old second) o = line-third bundle first e old second o (halvesAt text second 10) refl
 
     line-first : (m : Number) → fieldAt text at 9 ≡ m → LineRead text at r next
     line-first Refused e = absurd (no-line (line-none text at e ∙ f))
-    line-first (Read bundle first) e =
-        elim (decLt 4095 bundle) [
-          | yes h ↦ absurd (no-line (line-far text at bundle first e h ∙ f))
-          | no h ↦ line-second bundle first e (omega arith) (halvesAt text first 9) refl
-        ]
+    line-first (Read bundle first) e = line-second bundle first e (halvesAt text first 9) refl
 
     pub line-read : LineRead text at r next
     line-read = line-first (fieldAt text at 9) refl

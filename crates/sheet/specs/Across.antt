@@ -1,12 +1,11 @@
--- Demand 3 across sheets: a run may write sheets, and load the one that the call straight before it wrote from the same journal. Code and
--- journal are then those of the run's edits and undos alone. Proved in `proofs/Across.antt`. Assumes nothing.
+-- Demand 3 across sheets: a run may write sheets, and load the one that the call straight before it wrote from the same journal. Code, journal
+-- and the answers of edits and undos are then those of the run's edits and undos alone. Proved in `proofs/Across.antt`. Assumes nothing.
 use Prim.Native.Nat.{ℕ, _≤_, _<_, _^_}
 use mathlib.Core.Path.{_≡_}
 use mathlib.Core.List.{List, [], _∷_}
 use mathlib.Core.Option.{Option, none, some}
 use lib.ListN.{length, getD, take}
 use Rattle.answer.specs.Answer.{accepted, outcome}
-use Rattle.journal.specs.Journal.{fresh}
 use Rattle.journal.specs.Edit.{Outcome}
 use Rattle.journal.specs.Demand3.{Call, step, run, Holds}
 use Rattle.text.specs.Whole.{wroteOf}
@@ -57,6 +56,7 @@ plain (load ∷ cs) = plain cs
 pub record HoldsAcross (code : List ℕ) (calls : List SheetCall) : Type 0 where
   pub code-is : runAcross code calls .after .code ≡ run code (plain calls) .code
   pub journal-is : runAcross code calls .after .journal ≡ run code (plain calls) .journal
+  pub answers : (c : Call) → runAcross code (call c ∷ calls) .after .answer ≡ run code (c ∷ plain calls) .answer
   pub loads : (text : List ℕ) → runAcross code calls .sheet ≡ some text → runAcross code (load ∷ calls) .after .answer ≡ accepted
   pub holds : Holds code (plain calls)
 

@@ -1,5 +1,4 @@
 pub mod Across
-pub mod Held
 pub mod Load
 pub mod RoundTrip
 pub mod Sheet

@@ -2,12 +2,12 @@
 use Prim.Native.Nat.{ℕ, zero, suc, _+_}
 use mathlib.Core.Bool.{Bool, true, false, cond, _&&_}
 use mathlib.Core.List.{List, [], _∷_}
-use mathlib.Core.Option.{Option, none, some}
+use mathlib.Core.Option.{Option, none, some, Option·map}
 use lib.Dec.{eqb, leb, ltb}
-use lib.ListN.{length, getD, set}
+use lib.ListN.{length, getD}
 use Rattle.answer.specs.Answer.{accepted, badSheet}
 use Rattle.bundle.specs.declared.half.Halves.{Halves}
-use Rattle.journal.specs.Journal.{fresh}
+use Rattle.journal.specs.Journal.{limit, mayStand, journalOf}
 use Rattle.journal.specs.declared.records.Edited.{Edited}
 use Rattle.journal.specs.declared.records.Journal.{Journal}
 use Rattle.journal.specs.declared.records.Record.{Record}
@@ -50,37 +50,32 @@ halvesAt text at end =
     afterNumber (fieldAt text at 9) (λ low middle.
     afterNumber (fieldAt text middle end) (λ high next. pair.Read (record { low = low; high = high }) next) pair.Refused) pair.Refused
 
--- a record's line at a place, whose bundle number is at most 4095
+-- a record's line at a place, where the record may stand
 unfoldable pub lineAt : List ℕ → ℕ → Line
 lineAt text at =
     afterNumber (fieldAt text at 9) (λ bundle first.
-    cond (leb bundle 4095)
-    (afterPair (halvesAt text first 9) (λ old second.
-    afterPair (halvesAt text second 10) (λ new next. line.Read (record { bundle = bundle; old = old; new = new }) next) line.Refused) line.Refused)
-    line.Refused) line.Refused
+    afterPair (halvesAt text first 9) (λ old second.
+    afterPair (halvesAt text second 10) (λ new next.
+    let r : Record = record { bundle = bundle; old = old; new = new } in
+    cond (mayStand r) (line.Read r next) line.Refused) line.Refused) line.Refused) line.Refused
 
--- a journal with a record at place i
-abbrev pub placed : Journal → ℕ → Record → Journal
-placed j i r = record { count = j .count; records = set (j .records) i r }
-
--- the journal with the records of as many lines as are left, from place i on; the text ends after them
-unfoldable pub filled : List ℕ → ℕ → ℕ → ℕ → Journal → Option Journal
-filled text at i zero j = cond (eqb at (length text)) (some j) none
-filled text at i (suc left) j = afterLine (lineAt text at) (λ r next. filled text next (i + 1) left (placed j i r)) none
+-- the records of so many lines from a place on; the text ends after them
+unfoldable pub recordsAt : List ℕ → ℕ → ℕ → Option (List Record)
+recordsAt text at zero = cond (eqb at (length text)) (some []) none
+recordsAt text at (suc left) = afterLine (lineAt text at) (λ r next. Option·map (λ (rs : List Record). r ∷ rs) (recordsAt text next left)) none
 
 -- the count that the first line gives, and the place after that line
 unfoldable pub headOf : List ℕ → Number
 headOf text = cond (startsWith (ascii "patches\t") text) (fieldAt text 8 10) number.Refused
 
--- the journal whose sheet a text is
-unfoldable pub journalOf : List ℕ → Option Journal
-journalOf text =
-    afterNumber (headOf text) (λ count at. cond (leb count 64) (filled text at 0 count (record { count = count; records = fresh .records })) none) none
+-- the records that a sheet gives
+unfoldable pub recordsIn : List ℕ → Option (List Record)
+recordsIn text = afterNumber (headOf text) (λ count at. cond (leb count limit) (recordsAt text at count) none) none
 
--- what loading answers: that journal, or that the text is no sheet and the journal as it was given
-abbrev pub answerOf : Journal → Option Journal → Edited
-answerOf journal (some j) = record { answer = accepted; journal = j }
+-- what loading answers: their journal, or that the text is no sheet and the journal as it was given
+abbrev pub answerOf : Journal → Option (List Record) → Edited
+answerOf journal (some rs) = record { answer = accepted; journal = journalOf rs }
 answerOf journal none = record { answer = badSheet; journal = journal }
 
 unfoldable pub loadOf : Journal → List ℕ → Edited
-loadOf journal text = answerOf journal (journalOf text)
+loadOf journal text = answerOf journal (recordsIn text)

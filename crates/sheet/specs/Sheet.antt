@@ -2,9 +2,9 @@
 use Prim.Native.Nat.{ℕ}
 use mathlib.Core.Bool.{not}
 use mathlib.Core.List.{List, [], _∷_, _++_}
-use lib.ListN.{take}
+use lib.ListN.{length}
 use Rattle.answer.specs.Answer.{Refusal, badJournal}
-use Rattle.journal.specs.Journal.{validOf}
+use Rattle.journal.specs.Journal.{standing, validOf}
 use Rattle.journal.specs.declared.records.Journal.{Journal}
 use Rattle.journal.specs.declared.records.Record.{Record}
 use Rattle.text.specs.Ascii.{ascii, row}
@@ -19,17 +19,17 @@ abbrev pub linesOf : List Record → List ℕ
 linesOf [] = []
 linesOf (r ∷ rs) = lineOf r ++ linesOf rs
 
--- the standing records
-abbrev pub standing : Journal → List Record
-standing j = take (j .count) (j .records)
-
 -- the first line
 abbrev pub headerOf : ℕ → List ℕ
 headerOf count = row (ascii "patches" ∷ decimal count ∷ [])
 
 -- the sheet of a journal
 unfoldable pub sheetOf : Journal → List ℕ
-sheetOf j = headerOf (j .count) ++ linesOf (standing j)
+sheetOf j = headerOf (length (standing j)) ++ linesOf (standing j)
+
+-- no sheet is longer
+abbrev pub capacity : ℕ
+capacity = 5707
 
 -- which journal has no sheet
 abbrev pub writeRefusals : Journal → List Refusal

@@ -2,13 +2,15 @@
 mod line;
 
 ghost use mathlib.Core.Path.{_≡_};
+ghost use mathlib.Core.Bool.{true};
 ghost use Prim.Native.Nat.{_≤_};
 ghost use lib.Dec.{leb};
 ghost use lib.ListN.{length};
 ghost use Rattle.answer.specs.Answer.{badSheet};
+ghost use Rattle.journal.specs.Journal.{validOf};
 ghost use Rattle.text.specs.Put.{Put};
 ghost use Rattle.text.specs.Whole.{wroteOf};
-ghost use Rattle.sheet.specs.Sheet.{sheetOf, writeRefusals};
+ghost use Rattle.sheet.specs.Sheet.{sheetOf, capacity, writeRefusals};
 ghost use Rattle.sheet.specs.Load.{headOf, loadOf};
 use answer::ACCEPTED;
 use answer::BAD_JOURNAL;
@@ -48,7 +50,7 @@ pub fn write(journal: Journal, out: &mut [u8]) -> Written
 
 // Whether the sheet has at most `room` bytes. It is measured only where room may be short.
 fn fits(journal: Journal, room: usize) -> bool
-    requires { ⌜ (journal .count ≤ 64) × (length (sheetOf journal) ≤ 5707) ⌝ }
+    requires { ⌜ (validOf journal ≡ true) × (length (sheetOf journal) ≤ capacity) ⌝ }
     ensures { λ r. ⌜ r ≡ leb (length (sheetOf journal)) room ⌝ }
 {
     if CAPACITY <= room {
@@ -60,17 +62,16 @@ fn fits(journal: Journal, room: usize) -> bool
 
 // Writes the sheet as far as there is room, and answers its length.
 fn put_sheet(out: &mut [u8], journal: Journal) -> usize
-    requires { ⌜ (journal .count ≤ 64) × (length (sheetOf journal) ≤ 5707) ⌝ }
+    requires { ⌜ (validOf journal ≡ true) × (length (sheetOf journal) ≤ capacity) ⌝ }
     ensures { λ r. ⌜ Put (now (out .entry)) 0 (sheetOf journal) (now (out .exit)) r ⌝ }
 {
     let count = journal.count;
     let start = text::put_text(out, 0, b"patches\t");
     let mut at = text::put_field(out, start, count, line::NEWLINE);
-    let mut left = count;
-    while 0 < left {
-        let place = journal.records[(count - left) as usize];
-        at = line::put_line(out, at, place);
-        left -= 1;
+    let mut place = 0;
+    while place < count {
+        at = line::put_line(out, at, journal::record_at(journal, place));
+        place += 1;
     }
     at
 }
@@ -83,21 +84,20 @@ pub fn load(journal: Journal, text: &[u8]) -> Edited
     let Number::Read(count, first) = head else {
         return refused(journal);
     };
-    if 64 < count {
+    if journal::LIMIT < count {
         return refused(journal);
     }
     let mut loaded = journal::empty();
-    loaded.count = count;
     let mut at = first;
-    let mut i = 0;
-    while i < count {
+    let mut place = 0;
+    while place < count {
         let line = line::read_line(text, at);
-        let Line::Read(place, next) = line else {
+        let Line::Read(one, next) = line else {
             return refused(journal);
         };
-        loaded.records[i as usize] = place;
+        loaded = journal::with_record(loaded, place, one, place + 1);
         at = next;
-        i += 1;
+        place += 1;
     }
     if at != text.len() {
         return refused(journal);

@@ -26,13 +26,13 @@ pub enum Line {
     Refused,
 }
 
-pub fn put_line(out: &mut [u8], at: usize, place: Record) -> usize
-    requires { ⌜ at + length (lineOf place) < 2 ^ 64 ⌝ }
-    ensures { λ r. ⌜ Put (now (out .entry)) at (lineOf place) (now (out .exit)) r ⌝ }
+pub fn put_line(out: &mut [u8], at: usize, one: Record) -> usize
+    requires { ⌜ at + length (lineOf one) < 2 ^ 64 ⌝ }
+    ensures { λ r. ⌜ Put (now (out .entry)) at (lineOf one) (now (out .exit)) r ⌝ }
 {
-    let old = place.old;
-    let new = place.new;
-    let mut next = put_field(out, at, place.bundle, TAB);
+    let old = one.old;
+    let new = one.new;
+    let mut next = put_field(out, at, one.bundle, TAB);
     next = put_field(out, next, old.low, TAB);
     next = put_field(out, next, old.high, TAB);
     next = put_field(out, next, new.low, TAB);
@@ -97,9 +97,6 @@ pub fn read_line(text: &[u8], at: usize) -> Line
     let Number::Read(bundle, first) = number else {
         return Line::Refused;
     };
-    if 4095 < bundle {
-        return Line::Refused;
-    }
     let before = read_halves(text, first, TAB);
     let Pair::Read(old, second) = before else {
         return Line::Refused;
@@ -108,5 +105,10 @@ pub fn read_line(text: &[u8], at: usize) -> Line
     let Pair::Read(new, next) = after else {
         return Line::Refused;
     };
-    Line::Read(Record { bundle, old, new }, next)
+    let one = Record { bundle, old, new };
+    if journal::may_stand(one) {
+        Line::Read(one, next)
+    } else {
+        Line::Refused
+    }
 }

@@ -5,7 +5,7 @@ use lines::out;
 pub fn answer(kept: &[u64], out: &mut [u8], at: usize) -> usize {
     let mut to = out::number(out, at, kept::get(kept, 0));
     let mut i = 0;
-    while i < 64 {
+    while i < journal::LIMIT {
         to = place(kept, i, out, to);
         i += 1;
     }
@@ -13,7 +13,7 @@ pub fn answer(kept: &[u64], out: &mut [u8], at: usize) -> usize {
 }
 
 fn place(kept: &[u64], i: u64, out: &mut [u8], at: usize) -> usize {
-    let start = (i % 64 * 5 + 1) as usize;
+    let start = (i % journal::LIMIT * 5 + 1) as usize;
     if zero(kept, start) {
         return at;
     }

@@ -4,27 +4,17 @@ use mathlib.Core.Bool.{true}
 use Prim.Native.Nat.{_≤_}
 use borrow.Author.Needs.{needs}
 use borrow.Author.Tests.{leb-true, leb-false, eqb-false, not-true, not-false}
-use lib.ListN.{length, length-map}
+use lib.ListN.{length}
 use Rattle.answer.specs.Answer.{first, accepted, badJournal}
 use Rattle.journal.specs.Journal.{validOf}
-use Rattle.journal.proofs.Laws.{valid-count}
+use Rattle.journal.proofs.Standing.{standing-all}
 use Rattle.text.proofs.Wholes.{whole-refused, whole-no-room, whole-put}
-use Rattle.sheet.specs.Held.{Held}
-use Rattle.sheet.specs.Sheet.{sheetOf, writeRefusals}
+use Rattle.sheet.specs.RoundTrip.{isHeld}
+use Rattle.sheet.specs.Sheet.{sheetOf, capacity, writeRefusals}
 use Rattle.sheet.proofs.Lengths.{sheet-most}
 use Rattle.sheet.proofs.Owned.{owned}
 use Rattle.sheet.proofs.write.Statement.{statement}
 use Rattle.sheet.proofs.write.Tie as tie
-
-held : (c : tie.Start) → Held (c .args .journal)
-held c =
-    let array = c .good .0 .1 .1 .1 .0 in
-    let rs = c .args .journal .records in
-    record {
-      places = sym (length-map rs _) ∙ array .1 .0 .1;
-      old = λ i. owned rs (array .0) i (array .1 .1) .0;
-      new = λ i. owned rs (array .0) i (array .1 .1) .1;
-    }
 
 is-valid : (c : tie.Else1) → validOf (c .before .before .before .args .journal) ≡ true
 is-valid c = sym (c .before .valid .ensures) ∙ not-false _ (c .if1 .left)
@@ -32,27 +22,18 @@ is-valid c = sym (c .before .valid .ensures) ∙ not-false _ (c .if1 .left)
 none-refuses : (c : tie.Else1) → first (writeRefusals (c .before .before .before .args .journal)) ≡ accepted
 none-refuses c = rw (is-valid c)
 
-short : (c : tie.Else1) → (c .before .before .before .args .journal .count ≤ 64) × (length (sheetOf (c .before .before .before .args .journal)) ≤ 5707)
+-- the journal has a sheet that isn't too long
+short : (c : tie.Else1) → let j = c .before .before .before .args .journal in (validOf j ≡ true) × (length (sheetOf j) ≤ capacity)
 short c =
-    let j = c .before .before .before .args .journal in
-    (valid-count j (is-valid c), sheet-most j (held (c .before .before .before)) (is-valid c))
-
-valid-requires : tie.Need-valid-requires
-valid-requires c κs = search needs
+    let start = c .before .before .before in
+    let j = start .args .journal in
+    let array = start .good .0 .1 .1 .1 .0 in
+    (is-valid c, sheet-most j (record { valid = is-valid c; held = standing-all isHeld j (owned (j .records) (array .0) (array .1 .1)) }))
 
 returns : tie.Need-returns
 returns c =
     let j = c .before .before .before .args .journal in
     whole-refused (writeRefusals j) _ _ badJournal (rw (sym (c .before .valid .ensures) ∙ not-true _ (c .if1 .taken))) (eqb-false badJournal accepted refl)
-
-fits-requires : tie.Need-fits-requires
-fits-requires c κs = short c
-
-put-sheet-requires : tie.Need-put-sheet-requires
-put-sheet-requires c κs = short (c .before .before .before)
-
-same-length : tie.Need-same-length
-same-length c = search needs
 
 returns-2 : tie.Need-returns-2
 returns-2 c =
@@ -70,10 +51,10 @@ pub write-spec : {M : Type 1} → statement M
 write-spec =
     tie.close
     (tie.spec
-    valid-requires
+    (λ c κs. search needs)
     returns
-    fits-requires
-    put-sheet-requires
-    same-length
+    (λ c κs. short c)
+    (λ c κs. short (c .before .before .before))
+    (λ c. search needs)
     returns-2
     returns-3)

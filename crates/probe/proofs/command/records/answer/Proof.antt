@@ -3,14 +3,15 @@ use Prim.Native.Nat.{_≤_, _-_}
 use borrow.Author.Needs.{needs}
 use mathlib.Core.Path.{_≡_}
 use lib.ListN.{length}
+use Rattle.journal.specs.Journal.{limit}
 use Rattle.probe.proofs.command.records.answer.Statement.{statement}
 use Rattle.probe.proofs.command.records.answer.Tie as tie
 
 abbrev Inv-loop : tie.InvT-loop
-Inv-loop kept out₀ at to₀ i₀ out to i = (i ≤ 64) × (length out ≡ length out₀)
+Inv-loop kept out₀ at to₀ i₀ out to i = (i ≤ limit) × (length out ≡ length out₀)
 
 abbrev μ-loop : tie.MeasureT-loop
-μ-loop kept out₀ at to₀ i₀ out to i = 64 - i
+μ-loop kept out₀ at to₀ i₀ out to i = limit - i
 
 get-requires : tie.Need-get-requires Inv-loop μ-loop
 get-requires c κs = search needs
