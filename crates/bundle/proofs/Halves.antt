@@ -1,16 +1,14 @@
 -- A bundle's number, its tag and slots, and its two halves say the same: each is the number cut at other bits.
 -- Assumes nothing.
-use mathlib.Core.Path.{_≡_, refl, sym, ap, ap₂, _∙_}
-use mathlib.Core.List.{List, [], _∷_}
+use mathlib.Core.Path.{_≡_, sym, ap, ap₂, _∙_}
+use mathlib.Core.List.{[], _∷_}
 use Prim.Native.Nat.{ℕ, _+_, _*_, _/_, _%_, _<_, _^_}
 use native.Mathlib.Nat.{div-one}
 use native.Mathlib.Omega.{arith}
 use lib.Dec.{lit≤}
-use lib.ListN.{getD}
-use Rattle.bits.specs.Part.{part, above}
+use Rattle.bits.specs.Part.{above}
 use Rattle.bits.proofs.Laws.{part-whole, part-part, part-join, part-top, above-low, above-within, above-high, above-lt}
 use Rattle.bundle.specs.Bundle.{tagOf, slotOf, slotsOf, joined, halvesOf, whole}
-use Rattle.bundle.specs.declared.half.Halves.{Halves}
 
 -- a tag and three slots that fit
 pub record Fitting (tag a b c : ℕ) : Type 0 where

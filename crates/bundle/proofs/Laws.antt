@@ -1,15 +1,15 @@
 -- What loading, cutting and joining come to, case by case. Each case takes the list of refusals as far as it goes.
 -- Assumes nothing.
-use mathlib.Core.Path.{_≡_, refl, ap, _∙_, subst}
+use mathlib.Core.Path.{_≡_, refl, ap, subst}
 use mathlib.Core.Bool.{Bool, true, false, cond, _||_}
-use mathlib.Core.List.{List, [], _∷_, _++_}
+use mathlib.Core.List.{List, [], _++_}
 use Prim.Native.Nat.{ℕ, _*_, _≤_, _<_, _^_, suc-le-suc}
 use native.Mathlib.Omega.{arith}
 use borrow.Author.Tests.{ltb-false, leb-false}
 use lib.Dec.{T, eqb, ltb, leb}
 use lib.ListN.{length, getD, drop, length-drop}
 use lib.Seq.{length-take-le}
-use Rattle.answer.specs.Answer.{accepted, badBundle, first, outcome}
+use Rattle.answer.specs.Answer.{accepted, badBundle, first}
 use Rattle.answer.proofs.Laws.{none-applies, accepts, refuses}
 use Rattle.bundle.specs.Bytes.{bytes}
 use Rattle.bundle.specs.Template.{reserved, templateOf}

@@ -1,6 +1,5 @@
 -- How long a listing can be: a number below 10 ^ k has at most k digits, so a bundle's line has at most 54 bytes, and a code
 -- of at most 65,536 bytes has at most 4,096 of them. Assumes nothing.
-use mathlib.Core.Path.{_≡_}
 use mathlib.Core.List.{List, _++_}
 use Prim.Native.Nat.{ℕ, zero, suc, _*_, _/_, _%_, _^_, _≤_, _<_}
 use native.Mathlib.Omega.{arith}

@@ -2,14 +2,14 @@
 use mathlib.Core.Path.{_≡_, ap}
 use mathlib.Core.List.{List}
 use Prim.Native.Nat.{ℕ, _≤_, _<_}
-use lib.ListN.{length, take}
+use lib.ListN.{length}
 use borrow.Author.Tests.{lt-ltb, le-ltb}
 use Rattle.answer.specs.Answer.{first, accepted, tooLong}
 use Rattle.bundle.specs.Bundle.{longestCode}
 use Rattle.text.specs.Hex.{hexBytes}
 use Rattle.text.specs.declared.hex.Ending.{Ending}
 use Rattle.text.proofs.Enough.{decisive, enough}
-use Rattle.lister.specs.Listing.{listRefusals, listed, listingOf}
+use Rattle.lister.specs.Listing.{listRefusals, listed, listingOf, Decides}
 
 pub short-listed : (code : List ℕ) → length code ≤ longestCode → first (listRefusals code) ≡ accepted
 short-listed code h = rw (le-ltb longestCode (length code) h)
@@ -21,7 +21,6 @@ pub listing-is : (text : List ℕ) (e : Ending) → hexBytes longestCode text .1
 unfolding listingOf
 listing-is text e h = ap (listed (hexBytes longestCode text .0)) h
 
--- the characters that decide a text's listing
-pub listing-enough : (text : List ℕ) → listingOf (take (decisive longestCode) text) ≡ listingOf text
+pub listing-enough : (text : List ℕ) → Decides (decisive longestCode) text
 unfolding listingOf
-listing-enough text = rw (enough longestCode text)
+listing-enough text = record { same = rw (enough longestCode text) }

@@ -1,9 +1,10 @@
 -- The listing of document 01: a header, a line for each bundle, and how many bytes are left over. Assumes nothing.
+use mathlib.Core.Path.{_≡_}
 use Prim.Native.Nat.{ℕ, zero, suc, _/_, _%_}
 use mathlib.Core.Bool.{cond}
 use mathlib.Core.List.{List, [], _∷_, _++_}
 use lib.Dec.{eqb, ltb}
-use lib.ListN.{length, getD}
+use lib.ListN.{length, getD, take}
 use Rattle.answer.specs.Answer.{Refusal, badBundle, tooLong}
 use Rattle.bundle.specs.Bundle.{longestCode, cutOf}
 use Rattle.bundle.specs.declared.Bundle.{Bundle}
@@ -54,3 +55,7 @@ listed code TooLong = row (ascii "toolong" ∷ [])
 -- the listing of a text
 unfoldable pub listingOf : List ℕ → List ℕ
 listingOf text = listed (hexBytes longestCode text .0) (hexBytes longestCode text .1)
+
+-- its first n characters decide it
+pub record Decides (n : ℕ) (text : List ℕ) : Type 0 where
+  pub same : listingOf (take n text) ≡ listingOf text

@@ -5,11 +5,11 @@ ghost use mathlib.Core.Path.{_≡_};
 ghost use mathlib.Core.List.{[]};
 ghost use Prim.Native.Nat.{_≤_};
 ghost use lib.Dec.{leb};
-ghost use lib.ListN.{length, take};
+ghost use lib.ListN.{length};
 ghost use Rattle.bundle.specs.Bundle.{longestCode};
 ghost use Rattle.text.specs.Put.{Put};
 ghost use Rattle.text.specs.Whole.{wroteOf};
-ghost use Rattle.lister.specs.Listing.{listOf, listRefusals, listingOf};
+ghost use Rattle.lister.specs.Listing.{listOf, listRefusals, listingOf, Decides};
 use answer::ACCEPTED;
 use answer::NO_ROOM;
 use answer::TOO_LONG;
@@ -26,7 +26,7 @@ pub const CAPACITY: usize = 221227;
 // The listing of the bytes that a text gives in hex.
 pub fn listing(text: &[u8], out: &mut [u8]) -> Written
     ensures { λ r. ⌜ (r, now (out .exit)) ≡ wroteOf [] (listingOf (now (text .entry))) (now (out .entry)) ⌝ }
-    ensures enough { λ _. do ⌜ listingOf (take (← ⟦ENOUGH⟧ .entry) (now (text .entry))) ≡ listingOf (now (text .entry)) ⌝ }
+    ensures enough { λ _. do ⌜ Decides (← ⟦ENOUGH⟧ .entry) (now (text .entry)) ⌝ }
 {
     let mut code = [0u8; LONGEST_CODE];
     let decoded = text::decode(text, &mut code);

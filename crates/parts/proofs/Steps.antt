@@ -11,7 +11,7 @@ use lib.Pow.{pow-mono}
 use lib.Seq.{drop-cons}
 use mir.Facts.{and-yes, yes-and}
 use Rattle.bits.specs.Part.{part, above, put}
-use Rattle.bits.specs.Parts.{widths, gather, scatter, within}
+use Rattle.bits.specs.Parts.{widths, gather, scatter}
 use Rattle.bits.proofs.Parts.{gather-lt, gather-none, scatter-none}
 use Rattle.bits.proofs.Shift.{shl}
 use Rattle.parts.specs.Placed.{noPart, standsAt, placed, widthOf, inWord, inWords, readable}

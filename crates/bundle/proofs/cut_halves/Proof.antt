@@ -1,7 +1,5 @@
 -- `cut_halves` meets its contract: each return is a case of what the halves' number is cut into. Assumes nothing.
 use mathlib.Core.Path.{_≡_, _∙_, ap, sym}
-use mathlib.Core.List.{List}
-use Prim.Native.Nat.{ℕ}
 use Rattle.answer.specs.Answer.{accepted, badBundle}
 use Rattle.bundle.specs.Bundle.{whole, tagOf, slotsOf}
 use Rattle.bundle.specs.Template.{unitless, reserved}

@@ -1,16 +1,15 @@
 -- `join` meets its contract: where none of its refusals applies the tag and the slots fit and there is room, so the sixteen
 -- bytes that are written are those of their number. Assumes nothing.
-use mathlib.Core.Path.{_≡_, refl, _∙_, ap, sym}
+use mathlib.Core.Path.{_≡_, _∙_, ap, sym}
 use mathlib.Core.List.{_++_}
-use Prim.Native.Nat.{ℕ, _≤_}
+use Prim.Native.Nat.{ℕ}
 use denote.Ref.{now}
-use lib.ListN.{length, getD, take, drop}
+use lib.ListN.{length, take, drop}
 use lib.Seq.{length-take-le}
-use Rattle.answer.specs.Answer.{accepted, first}
-use Rattle.answer.proofs.Laws.{accepts, refuses}
+use Rattle.answer.specs.Answer.{accepted}
 use Rattle.bundle.specs.Bytes.{bytes}
-use Rattle.bundle.specs.Bundle.{joinRefusals, joinOf, joined, whole, Joined}
-use Rattle.bundle.proofs.Halves.{Fitting, joined-lt, whole-halves}
+use Rattle.bundle.specs.Bundle.{joined, whole}
+use Rattle.bundle.proofs.Halves.{joined-lt, whole-halves}
 use Rattle.bundle.proofs.Laws.{Joinable, joinable, join-refused, join-done}
 use borrow.Author.Needs.{needs}
 use Rattle.bundle.proofs.join.Statement.{statement}

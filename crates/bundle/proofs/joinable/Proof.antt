@@ -1,8 +1,7 @@
 -- `joinable` meets its contract: each return has the tests that led there. Assumes nothing.
-use mathlib.Core.Path.{_≡_, refl, _∙_, ap, sym}
+use mathlib.Core.Path.{_≡_, _∙_, ap, sym}
 use mathlib.Core.Bool.{true, false}
 use mathlib.Core.Logic.{⊎-elim}
-use Prim.Native.Nat.{ℕ}
 use borrow.Author.Tests.{lt-ltb, le-ltb}
 use Rattle.bundle.specs.Template.{unitless, reserved}
 use Rattle.bundle.specs.Bundle.{tooLarge}

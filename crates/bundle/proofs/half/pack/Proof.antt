@@ -1,7 +1,7 @@
 -- `half::pack` meets its contract: the number of the tag and the slots, cut at bit 64 within slot 1.
 -- Assumes nothing.
 use mathlib.Core.Path.{_≡_, _∙_, ap, sym}
-use Prim.Native.Nat.{ℕ, _+_, _*_, _/_, _%_, _<_, _^_}
+use Prim.Native.Nat.{_+_, _*_, _/_, _%_, _<_, _^_}
 use native.Mathlib.Omega.{arith}
 use lib.ListN.{getD}
 use Rattle.bundle.specs.Bundle.{halvesOf}

@@ -1,7 +1,7 @@
 -- `half::read` meets its contract: the number of sixteen bytes is that of the first eight and, above it, of the other eight.
 -- Assumes nothing.
 use mathlib.Core.Path.{_≡_, _∙_, ap, ap₂, sym}
-use Prim.Native.Nat.{ℕ, _≤_}
+use Prim.Native.Nat.{_≤_}
 use native.Mathlib.Omega.{arith}
 use denote.Ref.{now}
 use lib.ListN.{length, take}

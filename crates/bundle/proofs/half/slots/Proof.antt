@@ -1,7 +1,7 @@
 -- `half::slots` meets its contract: slot 1 is put together of 18 bits of the low half and 23 of the high one.
 -- Assumes nothing.
 use mathlib.Core.Path.{_≡_, _∙_, ap, sym}
-use mathlib.Core.List.{List, [], _∷_}
+use mathlib.Core.List.{[], _∷_}
 use Prim.Native.Nat.{ℕ, _+_, _*_, _/_, _%_, _<_, _^_}
 use native.Mathlib.Omega.{arith}
 use Rattle.bits.specs.Part.{above}
