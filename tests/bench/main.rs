@@ -97,15 +97,16 @@ fn immediates(random: &mut Random, model: &Model) {
         let form = format!("{}{number}", letter as char);
         let (tag, slot) = fitting(letter);
         let code = code_of(random, tag);
-        let reads = || {
-            (0..BUNDLES as u64).fold(0u64, |sum, n| sum.wrapping_add(model.immediate(&code, n, slot, family, number).1.pattern()))
-        };
+        // plain Rust looks the form's row up at each call, too, and not once before the loop
+        let asked = || black_box(family);
+        let read = |n| model.immediate(&code, n, slot, asked(), number).1.pattern();
+        let reads = || (0..BUNDLES as u64).fold(0u64, |sum, n| sum.wrapping_add(read(n)));
         let ours = || unsafe { bench_immediate(code.as_ptr(), code.len(), slot, family, number) };
         line(&format!("immediate read, {form}"), BUNDLES, "plain Rust", ours, reads);
 
         // so small that M17 and A2 take them too
         let numbers = (0..BUNDLES as i64).map(|n| if signed { n % 8 - 4 } else { n % 4 });
-        let values: Vec<u64> = numbers.map(|n| (times * n + plus) as u64).collect();
+        let values: Vec<u64> = numbers.map(|n| (times * n) as u64 + plus).collect();
         let (mut mine, mut other) = (code.clone(), code);
         let (mut first, mut second) = (Vec::new(), Vec::new());
         let ours = || {
@@ -118,7 +119,7 @@ fn immediates(random: &mut Random, model: &Model) {
         let writes = || {
             for (n, value) in values.iter().enumerate() {
                 let value = if signed { Value::Signed(*value as i64) } else { Value::Unsigned(*value) };
-                if let Ok((_, new)) = model.planned(&other, n as u64, slot, family, number, value) {
+                if let Ok((_, new)) = model.planned(&other, n as u64, slot, asked(), number, value) {
                     journal::write(&mut other, n as u64, new);
                 }
             }

@@ -11,15 +11,17 @@ pub mod sheet;
 pub mod table;
 mod text;
 
-use immediate::Row;
+use table::Row;
 
 const MOST: usize = 65536;
 
 /// The table, as the calls look things up in it.
 pub struct Model {
     units: [Option<[u8; 3]>; 32],
+    /// By a family's letter: the units of the slots that it fits.
+    fitting: [Vec<u8>; 256],
     /// By a family's letter and a form's number.
-    rows: Vec<Vec<Option<Row>>>,
+    rows: [Vec<Option<Row>>; 256],
 }
 
 /// The answer, a bundle's tag, its units and its slots.
@@ -54,13 +56,14 @@ fn slots(whole: u128) -> [u64; 3] {
 
 impl Model {
     pub fn new() -> Model {
-        let table = table::rows();
-        let mut rows: Vec<Vec<Option<Row>>> = (0..256).map(|_| Vec::new()).collect();
+        let (fitting, rows) = ([const { Vec::new() }; 256], [const { Vec::new() }; 256]);
+        let mut model = Model { units: table::units(), fitting, rows };
         for family in table::families() {
-            let row = |number| table.iter().find(|row| row.forms.contains(&(family.letter, number)));
-            rows[family.letter as usize] = (0..=*family.numbers.end()).map(|number| Some(Row::new(row(number)?, &family.units))).collect();
+            let row = |number| table::rows().into_iter().find(|row| row.forms.contains(&(family.letter, number)));
+            model.rows[family.letter as usize] = (0..=*family.numbers.end()).map(row).collect();
+            model.fitting[family.letter as usize] = family.units;
         }
-        Model { units: table::units(), rows }
+        model
     }
 
     fn units(&self, whole: u128) -> Option<[u8; 3]> {

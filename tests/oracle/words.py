@@ -2,9 +2,14 @@
 
 A form is named as in `M48`. A part of its words is (which, start, end), where which is 0 for the word itself and 1 for the L word.
 """
+import pathlib
 import random
+import sys
 
-FORMS = [f"{family}{number}" for family, count in (("A", 10), ("B", 9), ("F", 16), ("M", 48), ("X", 5)) for number in range(1, count + 1)]
+sys.path.append(str(pathlib.Path(__file__).resolve().parents[1] / "table"))
+import table
+
+FORMS = [f"{family}{number}" for family, numbers in table.FORMS.items() for number in numbers]
 BITS = 41
 ONES = (1 << BITS) - 1
 X6 = ((27, 33), (30, 36))

@@ -15,7 +15,7 @@ pub struct Row {
     pub parts: Vec<Part>,
     pub signed: bool,
     pub times: i64,
-    pub plus: i64,
+    pub plus: u64,
 }
 
 /// Bits `place..place + width` of the slot, or of the L slot, stand for the value bits from `to` on.
