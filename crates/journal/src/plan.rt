@@ -98,7 +98,7 @@ pub fn undo_plan(code: &[u8], valid: bool, count: u64, last: Record) -> Plan
         bundle: last.bundle,
         halves,
         place,
-        kept: NONE,
+        kept: NONE, // the place is free again
         count: place,
     }
 }
