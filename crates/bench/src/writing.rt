@@ -50,7 +50,10 @@ pub extern "C" fn bench_write(
 
 // Slot 2, B1, of a bundle set to a value.
 fn branch(bundle: u64, to: i64) -> Edit {
-    let form = Form { family: B, number: 1 };
+    let form = Form {
+        family: B,
+        number: 1,
+    };
     let value = Operand::ImmI64(to);
     Edit {
         bundle,

@@ -11,7 +11,10 @@ fn main() {
     let edit = Edit {
         bundle: 0,
         slot: 2,
-        form: Form { family: B, number: 1 },
+        form: Form {
+            family: B,
+            number: 1,
+        },
         value: Operand::ImmI64(16),
     };
     let edited = journal::edit(&mut code, journal::empty(), edit);

@@ -6,12 +6,6 @@ use Rattle.reading.proofs.Minus.{difference, difference-fits}
 use Rattle.reading.proofs.operand_of.Statement.{statement}
 use Rattle.reading.proofs.operand_of.Tie as tie
 
-cast-value : tie.Need-cast-value
-cast-value c = search needs
-
-cast-value-2 : tie.Need-cast-value-2
-cast-value-2 c = search needs
-
 sub-value : tie.Need-sub-value
 sub-value c = difference-fits _ _ (c .before .before .pre .0) (c .before .before .pre .1)
 
@@ -19,4 +13,4 @@ returns : tie.Need-returns
 returns c = ap ImmI64 (difference _ _ (c .before .before .pre .0) (c .before .before .pre .1))
 
 pub operand-of-spec : {M : Type 1} → statement M
-operand-of-spec = tie.close (tie.spec cast-value cast-value-2 sub-value returns)
+operand-of-spec = tie.close (tie.spec (λ c. search needs) (λ c. search needs) sub-value returns)

@@ -15,15 +15,6 @@ use Rattle.row.proofs.value.displacement.Tie as tie
 power : (c : tie.Start) → (1 * 2 ^ (c .args .width - 1)) % 2 ^ 64 ≡ 2 ^ (c .args .width - 1)
 power c = let h : c .args .width - 1 < 64 = omega arith in one-shl (c .args .width - 1) h
 
-sub-low : tie.Need-sub-low
-sub-low c = search needs
-
-cast-low : tie.Need-cast-low
-cast-low c = search needs
-
-shl-low : tie.Need-shl-low
-shl-low c = search needs
-
 rem-low : tie.Need-rem-low
 rem-low c = rw (power c) (pow-pos (c .args .width - 1))
 
@@ -36,9 +27,6 @@ sub-wrapping-sub-u64 c = mod-le (c .args .raw) _
 mul-wrapping-sub-u64-2 : tie.Need-mul-wrapping-sub-u64-2
 mul-wrapping-sub-u64-2 c = let a = c .args in rw (power c) (omega (arith, top-fits (a .unit) (a .width) (a .raw) (c .pre .0) (c .pre .1)))
 
-wrapping-sub-u64-requires : tie.Need-wrapping-sub-u64-requires
-wrapping-sub-u64-requires c κs = search needs
-
 returns : tie.Need-returns
 returns c =
     let start = c .before in
@@ -50,12 +38,12 @@ pub displacement-spec : {M : Type 1} → statement M
 displacement-spec =
     tie.close
     (tie.spec
-    sub-low
-    cast-low
-    shl-low
+    (λ c. search needs)
+    (λ c. search needs)
+    (λ c. search needs)
     rem-low
     mul-wrapping-sub-u64
     sub-wrapping-sub-u64
     mul-wrapping-sub-u64-2
-    wrapping-sub-u64-requires
+    (λ c κs. search needs)
     returns)

@@ -15,28 +15,10 @@ use borrow.Author.Needs.{needs}
 use Rattle.row.proofs.value.raw_signed.Statement.{statement}
 use Rattle.row.proofs.value.raw_signed.Tie as tie
 
-enum-known-value : tie.Need-enum-known-value
-enum-known-value c = search needs
-
 returns : tie.Need-returns
 returns c =
     let a = c .before .args in
     sym (not-i64 (but 4 kinds) (a .value) (rawSigned (a .unit) (a .width)) Bad tt (c .match .keys2))
-
-pattern-requires : tie.Need-pattern-requires
-pattern-requires c κs = search needs
-
-raw-up-requires : tie.Need-raw-up-requires
-raw-up-requires c κs = search needs
-
-sub-raw-down : tie.Need-sub-raw-down
-sub-raw-down c = search needs
-
-add-raw-down : tie.Need-add-raw-down
-add-raw-down c = search needs
-
-raw-down-requires : tie.Need-raw-down-requires
-raw-down-requires c κs = search needs
 
 returns-2 : tie.Need-returns-2
 returns-2 c =
@@ -60,12 +42,12 @@ pub raw-signed-spec : {M : Type 1} → statement M
 raw-signed-spec =
     tie.close
     (tie.spec
-    enum-known-value
+    (λ c. search needs)
     returns
-    pattern-requires
-    raw-up-requires
-    sub-raw-down
-    add-raw-down
-    raw-down-requires
+    (λ c κs. search needs)
+    (λ c κs. search needs)
+    (λ c. search needs)
+    (λ c. search needs)
+    (λ c κs. search needs)
     returns-2
     returns-3)

@@ -11,9 +11,6 @@ use borrow.Author.Needs.{needs}
 use Rattle.row.proofs.value.raw_unsigned.Statement.{statement}
 use Rattle.row.proofs.value.raw_unsigned.Tie as tie
 
-enum-known-value : tie.Need-enum-known-value
-enum-known-value c = search needs
-
 returns : tie.Need-returns
 returns c =
     let a = c .before .args in
@@ -24,15 +21,6 @@ returns-2 c =
     let a = c .before .before .before .before .args in
     let v = c .before .before .value .given in
     sym (ap (λ (o : Operand). ofU64 o (rawUnsigned (a .plus) (a .width)) Bad) (v .1) ∙ rw (lt-ltb (v .0 .0) (a .plus) (c .if1 .taken)))
-
-sub-if2 : tie.Need-sub-if2
-sub-if2 c = search needs
-
-cast-if2 : tie.Need-cast-if2
-cast-if2 c = search needs
-
-shr-if2 : tie.Need-shr-if2
-shr-if2 c = search needs
 
 returns-3 : tie.Need-returns-3
 returns-3 c =
@@ -55,4 +43,4 @@ returns-4 c =
 pub raw-unsigned-spec : {M : Type 1} → statement M
 raw-unsigned-spec =
     tie.close
-    (tie.spec enum-known-value returns returns-2 sub-if2 cast-if2 shr-if2 returns-3 returns-4)
+    (tie.spec (λ c. search needs) returns returns-2 (λ c. search needs) (λ c. search needs) (λ c. search needs) returns-3 returns-4)

@@ -8,23 +8,8 @@ use borrow.Author.Needs.{needs}
 use Rattle.row.proofs.value.raw_up.Statement.{statement}
 use Rattle.row.proofs.value.raw_up.Tie as tie
 
-rem-if1 : tie.Need-rem-if1
-rem-if1 c = search needs
-
 returns : tie.Need-returns
 returns c = rw (ne-eqb (c .before .args .value % c .before .args .unit) 0 (c .if1 .taken))
-
-div-times : tie.Need-div-times
-div-times c = search needs
-
-sub-if2 : tie.Need-sub-if2
-sub-if2 c = search needs
-
-cast-if2 : tie.Need-cast-if2
-cast-if2 c = search needs
-
-shl-if2 : tie.Need-shl-if2
-shl-if2 c = search needs
 
 -- the code's 1 << (width - 1)
 power : (c : tie.Else1) → (1 * 2 ^ (c .before .args .width - 1)) % 2 ^ 64 ≡ 2 ^ (c .before .args .width - 1)
@@ -42,4 +27,4 @@ returns-3 c =
 
 pub raw-up-spec : {M : Type 1} → statement M
 raw-up-spec =
-    tie.close (tie.spec rem-if1 returns div-times sub-if2 cast-if2 shl-if2 returns-2 returns-3)
+    tie.close (tie.spec (λ c. search needs) returns (λ c. search needs) (λ c. search needs) (λ c. search needs) (λ c. search needs) returns-2 returns-3)

@@ -13,32 +13,17 @@ use borrow.Author.Needs.{needs}
 use Rattle.row.proofs.value.value_of.Statement.{statement}
 use Rattle.row.proofs.value.value_of.Tie as tie
 
-enum-told : tie.Need-enum-told
-enum-told c = search needs
-
-enum-known-meaning : tie.Need-enum-known-meaning
-enum-known-meaning c = search needs
-
 add-t8 : tie.Need-add-t8
 add-t8 c =
     let start = c .before .before .before in
     let f : UnsignedFits (c .before .meaning .given .0 .0) (start .args .width) = subst (λ (m : Meaning). Fitting m (start .args .width)) (c .before .meaning .given .1) (start .pre .0) in
     omega (arith, f .2, start .pre .1)
 
-enum-known-meaning-2 : tie.Need-enum-known-meaning-2
-enum-known-meaning-2 c = search needs
-
 signed : (c : tie.After-known-told2) → SignedFits (c .before .meaning2 .given .0 .0) (c .before .before .before .args .width)
 signed c = let start = c .before .before .before in subst (λ (m : Meaning). Fitting m (start .args .width)) (c .before .meaning2 .given .1) (start .pre .0)
 
 displacement-requires : tie.Need-displacement-requires
 displacement-requires c κs = (signed c, c .before .before .before .pre .1)
-
-integer-requires : tie.Need-integer-requires
-integer-requires c κs = search needs
-
-returns : tie.Need-returns
-returns c = search needs
 
 returns-2 : tie.Need-returns-2
 returns-2 c = let a = c .before .before .before .args in sym (ap (λ (m : Meaning). valueOf m (a .width) (a .raw)) (c .before .meaning .given .1))
@@ -57,12 +42,12 @@ pub value-of-spec : {M : Type 1} → statement M
 value-of-spec =
     tie.close
     (tie.spec
-    enum-told
-    enum-known-meaning
+    (λ c. search needs)
+    (λ c. search needs)
     add-t8
-    enum-known-meaning-2
+    (λ c. search needs)
     displacement-requires
-    integer-requires
-    returns
+    (λ c κs. search needs)
+    (λ c. search needs)
     returns-2
     returns-3)
