@@ -1,6 +1,6 @@
 -- What a byte makes of a number, a case at a time. By the definitions' tests. Assumes nothing.
 use mathlib.Core.Path.{_≡_, refl}
-use mathlib.Core.Bool.{Bool, true, false, cond, _&&_, _||_}
+use mathlib.Core.Bool.{Bool, true, false, cond, and-false, or-true}
 use mathlib.Core.List.{List, [], _∷_}
 use mathlib.Core.Logic.{_⊎_, inl, inr}
 use Prim.Native.Nat.{ℕ, _+_, _-_, _*_, _^_, _≤_, _<_}
@@ -17,14 +17,6 @@ use Rattle.text.specs.declared.number.Number.{Number}
 use Rattle.text.specs.declared.number.Number.the-variants.{Read, Refused}
 use Rattle.text.proofs.number.Grown.{the-type as grown-type}
 use Rattle.text.specs.Number.{grownOf, onward, readOn}
-
-and-false : (t : Bool) → (t && false) ≡ false
-and-false true = refl
-and-false false = refl
-
-or-true : (t : Bool) → (t || true) ≡ true
-or-true true = refl
-or-true false = refl
 
 module _ (c n : ℕ) (begun : Bool) where
   pub grown-stop : (c < 48) ⊎ (57 < c) → Stop ≡ grownOf c n begun

@@ -3,6 +3,7 @@ use mathlib.Core.Path.{_∙_}
 use Prim.Native.Nat.{_≤_}
 use native.Mathlib.Omega.{arith}
 use lib.ListN.{length-set}
+use borrow.Author.Needs.{needs}
 use Rattle.text.proofs.Numerals.{length-four}
 use Rattle.text.proofs.Writing.{put-length}
 use Rattle.text.proofs.Filling.{Filling, filling-none, filling-four, filling-rest}
@@ -21,23 +22,11 @@ four-left c = let l = c .before .loop in omega (arith, length-four (l .rest) (c 
 loop-holds : tie.Need-loop-holds Inv-loop μ-loop
 loop-holds c = filling-none (c .before .pre .0) (c .before .pre .1)
 
-cast-out : tie.Need-cast-out Inv-loop μ-loop
-cast-out c = omega arith
-
-add-out : tie.Need-add-out Inv-loop μ-loop
-add-out c = omega arith
-
 sub-out : tie.Need-sub-out Inv-loop μ-loop
 sub-out c = omega (arith, four-left c)
 
 slice-write-out : tie.Need-slice-write-out Inv-loop μ-loop
 slice-write-out c = omega (arith, four-left c)
-
-cast-out-2 : tie.Need-cast-out-2 Inv-loop μ-loop
-cast-out-2 c = omega arith
-
-add-out-2 : tie.Need-add-out-2 Inv-loop μ-loop
-add-out-2 c = omega arith
 
 sub-out-2 : tie.Need-sub-out-2 Inv-loop μ-loop
 sub-out-2 c = omega (arith, four-left c)
@@ -45,23 +34,11 @@ sub-out-2 c = omega (arith, four-left c)
 slice-write-out-2 : tie.Need-slice-write-out-2 Inv-loop μ-loop
 slice-write-out-2 c = simp length-set (omega (arith, four-left c))
 
-cast-out-3 : tie.Need-cast-out-3 Inv-loop μ-loop
-cast-out-3 c = omega arith
-
-add-out-3 : tie.Need-add-out-3 Inv-loop μ-loop
-add-out-3 c = omega arith
-
 sub-out-3 : tie.Need-sub-out-3 Inv-loop μ-loop
 sub-out-3 c = omega (arith, four-left c)
 
 slice-write-out-3 : tie.Need-slice-write-out-3 Inv-loop μ-loop
 slice-write-out-3 c = simp length-set (omega (arith, four-left c))
-
-cast-out-4 : tie.Need-cast-out-4 Inv-loop μ-loop
-cast-out-4 c = omega arith
-
-add-out-4 : tie.Need-add-out-4 Inv-loop μ-loop
-add-out-4 c = omega arith
 
 sub-out-4 : tie.Need-sub-out-4 Inv-loop μ-loop
 sub-out-4 c = omega (arith, four-left c)
@@ -71,9 +48,6 @@ slice-write-out-4 c = simp length-set (omega (arith, four-left c))
 
 sub-i : tie.Need-sub-i Inv-loop μ-loop
 sub-i c = omega (arith, four-left c)
-
-loop-less : tie.Need-loop-less Inv-loop μ-loop
-loop-less c = omega arith
 
 loop-again : tie.Need-loop-again Inv-loop μ-loop
 loop-again c = filling-four (c .before .loop .inv) (c .loop-test .taken)
@@ -97,24 +71,24 @@ fill-spec =
     Inv-loop
     μ-loop
     loop-holds
-    cast-out
-    add-out
+    (λ c. search needs)
+    (λ c. search needs)
     sub-out
     slice-write-out
-    cast-out-2
-    add-out-2
+    (λ c. search needs)
+    (λ c. search needs)
     sub-out-2
     slice-write-out-2
-    cast-out-3
-    add-out-3
+    (λ c. search needs)
+    (λ c. search needs)
     sub-out-3
     slice-write-out-3
-    cast-out-4
-    add-out-4
+    (λ c. search needs)
+    (λ c. search needs)
     sub-out-4
     slice-write-out-4
     sub-i
-    loop-less
+    (λ c. search needs)
     loop-again
     fill-few-requires
     same-length

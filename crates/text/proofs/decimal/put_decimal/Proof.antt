@@ -18,24 +18,6 @@ short c = decimal-length 19 (c .before .before .args .n) (omega arith)
 spelled : (c : tie.After-fill2) → take (c .before .before .before .digits .result) (c .fill2 .last .0) ≡ decimal (c .before .before .before .before .before .args .n)
 spelled c = put-front (short (c .before .before .before)) (c .fill2 .ensures)
 
-digits-requires : tie.Need-digits-requires
-digits-requires c κs = search needs
-
-add-end : tie.Need-add-end
-add-end c = search needs
-
-fill-requires : tie.Need-fill-requires
-fill-requires c κs = search needs
-
-same-length : tie.Need-same-length
-same-length c = search needs
-
-returns : tie.Need-returns
-returns c = search needs
-
-slice-aggregate-fill : tie.Need-slice-aggregate-fill
-slice-aggregate-fill c = search needs
-
 fill-requires-2 : tie.Need-fill-requires-2
 fill-requires-2 c κs = (zero-add _ ∙ sym (c .before .before .digits .ensures), omega (arith, c .before .before .digits .ensures, short (c .before .before)))
 
@@ -48,9 +30,6 @@ slice-aggregate-put-text c = c .before .before .before .before .before .before .
 put-text-requires : tie.Need-put-text-requires
 put-text-requires c κs = rw (spelled (c .before .before .before)) (c .before .before .before .before .before .before .before .before .pre)
 
-same-length-2 : tie.Need-same-length-2
-same-length-2 c = search needs
-
 returns-2 : tie.Need-returns-2
 returns-2 c = rw (spelled (c .before .before .before .before .before .before)) at (c .before .before .put-text .ensures)
 
@@ -58,15 +37,15 @@ pub put-decimal-spec : {M : Type 1} → statement M
 put-decimal-spec =
     tie.close
     (tie.spec
-    digits-requires
-    add-end
-    fill-requires
-    same-length
-    returns
-    slice-aggregate-fill
+    (λ c κs. search needs)
+    (λ c. search needs)
+    (λ c κs. search needs)
+    (λ c. search needs)
+    (λ c. search needs)
+    (λ c. search needs)
     fill-requires-2
     array-share-prefix-text
     slice-aggregate-put-text
     put-text-requires
-    same-length-2
+    (λ c. search needs)
     returns-2)

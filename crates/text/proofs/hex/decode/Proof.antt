@@ -91,12 +91,6 @@ end-read c = cc
 sub-step : tie.Need-sub-step Inv-loop μ-loop
 sub-step c = omega (arith, put-length (c .loop .inv .1))
 
-step-requires : tie.Need-step-requires Inv-loop μ-loop
-step-requires c κs = tt
-
-enum-known-b : tie.Need-enum-known-b Inv-loop μ-loop
-enum-known-b c = search needs
-
 slice-write-out : tie.Need-slice-write-out Inv-loop μ-loop
 slice-write-out c = turned c .room
 
@@ -113,9 +107,6 @@ loop-again : tie.Need-loop-again Inv-loop μ-loop
 loop-again c =
     let l = c .before .before .before .before .loop in
     (omega (arith, turned c .room, put-length (l .inv .1)), turned c .put, l .inv .2 ∙ turned c .read)
-
-enum-known-ending : tie.Need-enum-known-ending Inv-loop μ-loop
-enum-known-ending c = search needs
 
 same-length : tie.Need-same-length Inv-loop μ-loop
 same-length c = put-length (c .before .before .before .before .loop .inv .1)
@@ -134,13 +125,13 @@ decode-spec =
     μ-loop
     loop-holds
     sub-step
-    step-requires
-    enum-known-b
+    (λ c κs. search needs)
+    (λ c. search needs)
     slice-write-out
     add-count
     add-at
     loop-less
     loop-again
-    enum-known-ending
+    (λ c. search needs)
     same-length
     returns)

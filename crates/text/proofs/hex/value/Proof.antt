@@ -37,16 +37,10 @@ returns-2 c =
     let s = c .before .before .before in
     rw (le-ltb (s .args .c) 48 (c .before .if1 .left), lt-ltb 102 (s .args .c) (c .if2 .taken)) at (at-byte (s .args .c) (s .fits .c .fits))
 
-cast-result : tie.Need-cast-result
-cast-result c = search needs
-
-element-copy-out-result : tie.Need-element-copy-out-result
-element-copy-out-result c = search needs
-
 returns-3 : tie.Need-returns-3
 returns-3 c =
     let s = c .before .before .before .before in
     rw (le-ltb (s .args .c) 48 (c .before .before .if1 .left), le-ltb 102 (s .args .c) (c .before .if2 .left)) at (at-byte (s .args .c) (s .fits .c .fits))
 
 pub value-spec : {M : Type 1} → statement M
-value-spec = tie.close (tie.spec returns returns-2 cast-result element-copy-out-result returns-3)
+value-spec = tie.close (tie.spec returns returns-2 (λ c. search needs) (λ c. search needs) returns-3)

@@ -18,12 +18,6 @@ returns c = let a = c .before .args in grown-stop (a .c) (a .n) (a .begun) (inl 
 returns-2 : tie.Need-returns-2
 returns-2 c = let a = c .before .before .args in grown-stop (a .c) (a .n) (a .begun) (inr (c .if2 .taken))
 
-cast-digit : tie.Need-cast-digit
-cast-digit c = search needs
-
-sub-if4 : tie.Need-sub-if4
-sub-if4 c = search needs
-
 returns-3 : tie.Need-returns-3
 returns-3 c = let a = c .before .before .before .before .args in grown-long (a .c) (a .n) (a .begun) (omega arith) (omega arith) (omega (arith, ltb-true))
 
@@ -46,8 +40,8 @@ grow-spec =
     (tie.spec
     returns
     returns-2
-    cast-digit
-    sub-if4
+    (λ c. search needs)
+    (λ c. search needs)
     returns-3
     mul-grown
     add-grown

@@ -38,52 +38,19 @@ returns : tie.Need-returns Inv-loop μ-loop
 unfolding numberOf
 returns c = let a = c .before .before .args in sym (read-end (a .text .now) (a .at) 0 (a .at) false (le-ltb (a .at) (a .at) (omega arith)) (c .if1 .taken))
 
-shared-slice-read-grow : tie.Need-shared-slice-read-grow Inv-loop μ-loop
-shared-slice-read-grow c = omega arith
-
-grow-requires : tie.Need-grow-requires Inv-loop μ-loop
-grow-requires c κs = tt
-
-enum-known-first : tie.Need-enum-known-first Inv-loop μ-loop
-enum-known-first c = search needs
-
 returns-2 : tie.Need-returns-2 Inv-loop μ-loop
 returns-2 c =
     let a = c .before .before .before .before .before .args in
     sym (first-read (c .before) (c .before .grow .result) refl ∙ no-digit (c .before .grow .result) (λ m. readOn (a .at) m (a .at + 1) (drop (a .at + 1) (a .text .now))) (c .match .keys2))
 
-add-next : tie.Need-add-next Inv-loop μ-loop
-add-next c = omega arith
-
 loop-holds : tie.Need-loop-holds Inv-loop μ-loop
 loop-holds c = (first-read (c .before .before .before) _ (c .before .first .given .1), omega arith)
-
-shared-slice-read-grow-2 : tie.Need-shared-slice-read-grow-2 Inv-loop μ-loop
-shared-slice-read-grow-2 c = omega arith
-
-grow-requires-2 : tie.Need-grow-requires-2 Inv-loop μ-loop
-grow-requires-2 c κs = tt
-
-enum-known-m : tie.Need-enum-known-m Inv-loop μ-loop
-enum-known-m c = search needs
-
-add-next-2 : tie.Need-add-next-2 Inv-loop μ-loop
-add-next-2 c = omega arith
-
-loop-less : tie.Need-loop-less Inv-loop μ-loop
-loop-less c = omega arith
 
 loop-again : tie.Need-loop-again Inv-loop μ-loop
 loop-again c = (more-read (c .before .before .before) _ (c .before .m .given .1), omega arith)
 
-enum-told : tie.Need-enum-told Inv-loop μ-loop
-enum-told c = search needs
-
 returns-3 : tie.Need-returns-3 Inv-loop μ-loop
 returns-3 c = sym (more-read (c .before .before) Stop (c .enum-told .given .1))
-
-enum-told-2 : tie.Need-enum-told-2 Inv-loop μ-loop
-enum-told-2 c = search needs
 
 returns-4 : tie.Need-returns-4 Inv-loop μ-loop
 returns-4 c = sym (more-read (c .before .before) Refuse (c .enum-told2 .given .1))
@@ -101,20 +68,20 @@ read-decimal-spec =
     Inv-loop
     μ-loop
     returns
-    shared-slice-read-grow
-    grow-requires
-    enum-known-first
+    (λ c. search needs)
+    (λ c κs. search needs)
+    (λ c. search needs)
     returns-2
-    add-next
+    (λ c. search needs)
     loop-holds
-    shared-slice-read-grow-2
-    grow-requires-2
-    enum-known-m
-    add-next-2
-    loop-less
+    (λ c. search needs)
+    (λ c κs. search needs)
+    (λ c. search needs)
+    (λ c. search needs)
+    (λ c. search needs)
     loop-again
-    enum-told
+    (λ c. search needs)
     returns-3
-    enum-told-2
+    (λ c. search needs)
     returns-4
     returns-5)

@@ -10,12 +10,6 @@ use Rattle.text.proofs.put.put_byte.Tie as tie
 stored : (c : tie.Joined1) → c .if1 .out ≡ set (c .before .args .out .now) (c .before .args .at) (c .before .args .byte)
 stored c = ⊎-elim (λ w. w .1) (λ w. w .1 ∙ sym (set-out _ _ _ (w .0 .left))) (c .if1 .came)
 
-slice-write-out : tie.Need-slice-write-out
-slice-write-out c = search needs
-
-add-result : tie.Need-add-result
-add-result c = search needs
-
 same-length : tie.Need-same-length
 same-length c = ap length (stored c) ∙ simp length-set
 
@@ -23,4 +17,4 @@ returns : tie.Need-returns
 returns c = record { bytes = stored c; place = refl }
 
 pub put-byte-spec : {M : Type 1} → statement M
-put-byte-spec = tie.close (tie.spec slice-write-out add-result same-length returns)
+put-byte-spec = tie.close (tie.spec (λ c. search needs) (λ c. search needs) same-length returns)
