@@ -9,13 +9,13 @@ use borrow.Author.Tests.{eq-eqb, ne-eqb}
 use Rattle.answer.specs.Answer.{badBundle}
 use Rattle.bundle.specs.Bundle.{cutOf}
 use Rattle.bundle.specs.declared.Bundle.{Bundle}
-use Rattle.text.specs.Ascii.{ascii, row}
+use Rattle.text.specs.Ascii.{ascii, line}
 use Rattle.text.specs.Decimal.{decimal}
 use Rattle.lister.specs.Listing.{endOf, lineOf, linesOf, restOf}
 
 -- the end of a line that shows units and slots
 abbrev pub shown : Bundle → List ℕ
-shown b = row (b .units ∷ decimal (getD (b .slots) 0 0) ∷ decimal (getD (b .slots) 1 0) ∷ decimal (getD (b .slots) 2 0) ∷ [])
+shown b = line (b .units ∷ decimal (getD (b .slots) 0 0) ∷ decimal (getD (b .slots) 1 0) ∷ decimal (getD (b .slots) 2 0) ∷ [])
 
 pub end-reserved : (b : Bundle) → b .answer ≡ badBundle → endOf b ≡ ascii "reserved\n"
 unfolding endOf

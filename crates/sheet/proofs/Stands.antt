@@ -2,7 +2,7 @@
 -- the same of a decimal, piece by piece. Assumes nothing.
 use mathlib.Core.Path.{_≡_, refl, sym, ap, _∙_}
 use mathlib.Core.List.{List, [], _∷_, _++_, append-assoc}
-use mathlib.Core.Logic.{inl}
+use borrow.Author.Tests.{lt-leb}
 use Prim.Native.Nat.{ℕ, _+_, _-_, _^_, _≤_, _<_}
 use native.Mathlib.Numerals.{add-one}
 use native.Mathlib.Omega.{arith}
@@ -15,7 +15,9 @@ use Rattle.text.specs.Decimal.{decimal}
 use Rattle.text.specs.Number.{numberOf}
 use Rattle.text.specs.declared.number.Number.{Number}
 use Rattle.text.specs.declared.number.Number.the-variants.{Read, Refused}
-use Rattle.text.proofs.RoundTrip.{decimal-read, read-decimal}
+use Rattle.text.specs.Number.{digitsOf}
+use Rattle.text.proofs.Numbers.{number-read, number-back}
+use Rattle.text.proofs.Stands as piece
 use Rattle.sheet.specs.declared.line.Pair.{Pair}
 use Rattle.sheet.specs.declared.line.Line.the-variants as line
 use Rattle.sheet.specs.declared.line.Pair.the-variants as pair
@@ -57,6 +59,7 @@ line-parts r = simp append-assoc
 -- read where it stands
 module _ (text : List ℕ) where
   pub field-back : (at n end next : ℕ) → n < 2 ^ 64 → end < 48 → Stands text at (field n end) next → fieldAt text at end ≡ Read n next
+  unfolding digitsOf
   field-back at n end next b h s =
       let middle = at + length (decimal n) in
       let whole : drop at text ≡ decimal n ++ (end ∷ drop next text) = s .found ∙ append-snoc (decimal n) end (drop next text) in
@@ -64,7 +67,8 @@ module _ (text : List ℕ) where
       let within : middle < length text = omega (arith, ap length rest, length-drop middle text) in
       let there : getD text middle 0 ≡ end = ap (λ (k : ℕ). getD text k 0) (omega arith) ∙ sym (getD-drop middle text 0 0) ∙ ap (λ (l : List ℕ). getD l 0 0) rest in
       let after : middle + 1 ≡ next = omega (arith, s .place, length-append (decimal n) (end ∷ [])) in
-      sym (field-ended text at end n middle (decimal-read text at n (end ∷ drop next text) b (inl h) whole) within there) ∙ ap (Read n) after
+      let none : digitsOf (drop middle text) ≡ [] = rw (rest, lt-leb 48 end h) in
+      sym (field-ended text at end n middle (number-back text at n middle none (record { below = b; piece = piece.stands at (decimal n) (end ∷ drop next text) whole })) within there) ∙ ap (Read n) after
 
   pub halves-back : (at end next : ℕ) (h : Halves) → Words h → end < 48 → Stands text at (halves h end) next → halvesAt text at end ≡ pair.Read h next
   halves-back at end next h w l s =
@@ -104,12 +108,12 @@ pub record LineRead (text : List ℕ) (at : ℕ) (r : Record) (next : ℕ) : Typ
 module _ (text : List ℕ) where
   ended : (at k middle end : ℕ) → numberOf text at ≡ Read k middle → middle < length text → getD text middle 0 ≡ end → FieldRead text at k end (middle + 1)
   ended at k middle end e h d =
-      let i = read-decimal text at k middle e in
+      let i = number-read text at k middle e in
       let rest : drop middle text ≡ end ∷ drop (middle + 1) text = drop-cons text middle 0 h ∙ rw (d, add-one) in
       record {
         stands = record {
-          found = i .found ∙ ap (λ (l : List ℕ). decimal k ++ l) rest ∙ sym (append-snoc (decimal k) end (drop (middle + 1) text));
-          place = omega (arith, i .place, length-append (decimal k) (end ∷ []));
+          found = i .piece .found ∙ ap (λ (l : List ℕ). decimal k ++ l) rest ∙ sym (append-snoc (decimal k) end (drop (middle + 1) text));
+          place = omega (arith, i .piece .place, length-append (decimal k) (end ∷ []));
         };
         below = i .below;
       }

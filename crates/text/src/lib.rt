@@ -3,11 +3,18 @@
 // A `put` function writes at a place of the output and answers the place after what it wrote. A byte
 // for which the output has no place is lost, so a run on an output with none measures the text.
 mod decimal;
+mod fields;
 mod hex;
 mod number;
 mod put;
 mod whole;
 
+pub use fields::Fields;
+pub use fields::NEWLINE;
+pub use fields::TAB;
+pub use fields::begins;
+pub use fields::read_field;
+pub use fields::read_fields;
 pub use hex::Decoded;
 pub use hex::Ending;
 pub use hex::decode;
