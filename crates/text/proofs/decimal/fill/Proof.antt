@@ -1,11 +1,11 @@
 -- `text::decimal::fill` meets its contract. The loop's invariant: the digits after those of `rest` stand from `i` on. Assumes nothing.
-use mathlib.Core.Path.{_∙_}
+use mathlib.Core.Path.{ap, _∙_}
 use Prim.Native.Nat.{_≤_}
 use native.Mathlib.Omega.{arith}
-use lib.ListN.{length-set}
+use lib.ListN.{length, length-set}
+use lib.Seq.{length-sets}
 use borrow.Author.Needs.{needs}
 use Rattle.text.proofs.Numerals.{length-four}
-use Rattle.text.proofs.Writing.{put-length}
 use Rattle.text.proofs.Filling.{Filling, filling-none, filling-four, filling-rest}
 use Rattle.text.proofs.decimal.fill.Statement.{statement}
 use Rattle.text.proofs.decimal.fill.Tie as tie
@@ -56,13 +56,13 @@ fill-few-requires : tie.Need-fill-few-requires Inv-loop μ-loop
 fill-few-requires c κs = let f = c .before .before .loop .inv in (f .place, omega arith)
 
 same-length : tie.Need-same-length Inv-loop μ-loop
-same-length c = put-length (c .before .before .fill-few .ensures) ∙ c .before .before .before .before .before .loop .inv .size
+same-length c = ap length (c .before .before .fill-few .ensures) ∙ simp length-sets (c .before .before .before .before .before .loop .inv .size)
 
 returns : tie.Need-returns Inv-loop μ-loop
 returns c =
     let l = c .before .before .before .before .before .loop in
     let h = c .before .before .before .before .before .before .before .pre in
-    filling-rest (l .inv) (h .0) (h .1) (c .before .before .fill-few .ensures)
+    c .before .before .fill-few .ensures ∙ filling-rest (l .inv) (h .0) (h .1)
 
 pub fill-spec : {M : Type 1} → statement M
 fill-spec =
