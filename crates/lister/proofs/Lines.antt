@@ -28,7 +28,7 @@ end-shown b d = rw (ne-eqb (b .answer) badBundle d)
 pub shown-length : (b : Bundle) → length (shown b) ≡ length (b .units) + suc (length (decimal (getD (b .slots) 0 0)) + suc (length (decimal (getD (b .slots) 1 0)) + suc (length (decimal (getD (b .slots) 2 0)) + 1)))
 shown-length b = simp length-append
 
-pub line-length : (n : ℕ) (b : Bundle) → length (lineOf n b) ≡ length (decimal n) + suc (length (decimal (b .tag)) + suc (length (endOf b)))
+pub line-length : (n : ℕ) (b : Bundle) → length (lineOf n b) ≡ length (decimal n) + suc (length (decimal (b .tag)) + 1) + length (endOf b)
 unfolding lineOf
 line-length n b = simp length-append
 

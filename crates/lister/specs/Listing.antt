@@ -7,8 +7,9 @@ use lib.ListN.{length, getD}
 use Rattle.answer.specs.Answer.{Refusal, badBundle, tooLong}
 use Rattle.bundle.specs.Bundle.{cutOf}
 use Rattle.bundle.specs.declared.Bundle.{Bundle}
-use Rattle.text.specs.Ascii.{ascii, line}
+use Rattle.text.specs.Ascii.{ascii, tab, line}
 use Rattle.text.specs.Decimal.{decimal}
+use Rattle.text.specs.Fields.{fields}
 use Rattle.text.specs.Hex.{hexBytes}
 use Rattle.text.specs.declared.hex.Ending.{Ending}
 use Rattle.text.specs.declared.hex.Ending.the-variants.{Whole, BadHex, TooLong}
@@ -25,7 +26,7 @@ endOf b =
 
 -- the line of bundle n
 unfoldable pub lineOf : ℕ → Bundle → List ℕ
-lineOf n b = decimal n ++ (9 ∷ (decimal (b .tag) ++ (9 ∷ endOf b)))
+lineOf n b = fields (n ∷ b .tag ∷ []) (tab ∷ tab ∷ []) ++ endOf b
 
 -- the lines of the first n bundles of a code
 unfoldable pub linesOf : List ℕ → ℕ → List ℕ

@@ -11,8 +11,8 @@ pub fn answer(of: Six, out: &mut [u8], at: usize) -> usize {
     let reading = read.reading;
     let last = reading.position;
     let to = out::number(out, at, said);
-    let gap = out::byte(out, to, b' ');
-    let end = out::byte(out, gap, position(last));
+    let gap = text::put_byte(out, to, b' ');
+    let end = text::put_byte(out, gap, position(last));
     shown(out, end, reading)
 }
 

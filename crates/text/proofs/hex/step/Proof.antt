@@ -15,7 +15,7 @@ returns-2 c = let a = c .before .before .before .args in front-one (a .room) (a 
 returns-3 : tie.Need-returns-3
 returns-3 c =
     let a = c .before .before .before .before .before .before .before .before .before .args in
-    rw (c .before .before .before .before .value .ensures, c .before .before .value2 .ensures, c .before .ends .ensures) at (c .pair .ensures)
+    rw (c .before .before .before .before .digit-value .ensures, c .before .before .digit-value2 .ensures, c .before .ends .ensures) at (c .pair .ensures)
     ∙ front-two (a .room) (a .text .now) (a .at) (omega arith)
 
 pub step-spec : {M : Type 1} → statement M

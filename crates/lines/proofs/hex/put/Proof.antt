@@ -1,12 +1,12 @@
--- `bytes::put`: the slice keeps its length, and no digit is read past the text.
+-- `hex::put`: the slice keeps its length, and no digit is read past the text.
 use Prim.Native.Nat.{_≤_, _-_}
 use borrow.Author.Needs.{needs}
 use mathlib.Core.Path.{_≡_}
 use lib.ListN.{length}
 use native.Mathlib.Omega.{arith}
 use lib.ListN.{length-set}
-use Rattle.lines.proofs.bytes.put.Statement.{statement}
-use Rattle.lines.proofs.bytes.put.Tie as tie
+use Rattle.lines.proofs.hex.put.Statement.{statement}
+use Rattle.lines.proofs.hex.put.Tie as tie
 
 abbrev Inv-loop : tie.InvT-loop
 Inv-loop s to₀ i₀ to i = (i ≤ length to) × (length to ≡ length to₀)

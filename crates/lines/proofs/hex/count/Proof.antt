@@ -1,10 +1,10 @@
--- `bytes::count`: the place stays within the text.
+-- `hex::count`: the place stays within the text.
 use Prim.Native.Nat.{_≤_, _-_}
 use borrow.Author.Needs.{needs}
 use mathlib.Core.Path.{_≡_}
 use lib.ListN.{length}
-use Rattle.lines.proofs.bytes.count.Statement.{statement}
-use Rattle.lines.proofs.bytes.count.Tie as tie
+use Rattle.lines.proofs.hex.count.Statement.{statement}
+use Rattle.lines.proofs.hex.count.Tie as tie
 
 abbrev Inv-loop : tie.InvT-loop
 Inv-loop s n i₀ i = (i ≤ n) × (n ≡ length s)
