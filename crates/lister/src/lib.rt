@@ -76,7 +76,6 @@ fn fits(code: &[u8], room: usize) -> bool
 
 // Writes the listing at the output's start, as far as there is room, and answers its length.
 fn write(code: &[u8], out: &mut [u8]) -> usize
-    requires { ⌜ length (now code) ≤ longestCode ⌝ }
     ensures { λ r. ⌜ Put (now (out .entry)) 0 (listOf (now (code .entry))) (now (out .exit)) r ⌝ }
 {
     let mut at = text::put_text(out, 0, b"bundle\ttag\tunits\tslot0\tslot1\tslot2\n");

@@ -1,5 +1,6 @@
 -- `lister::list` meets its contract: a case of writing a whole text at each return. Assumes nothing.
 use mathlib.Core.Path.{refl, sym, _∙_}
+use native.Mathlib.Omega.{arith}
 use borrow.Author.Tests.{leb-true, leb-false, eqb-false}
 use Rattle.answer.specs.Answer.{accepted, tooLong}
 use Rattle.text.proofs.Wholes.{whole-refused, whole-no-room, whole-put}
@@ -17,7 +18,7 @@ returns c =
 returns-2 : tie.Need-returns-2
 returns-2 c =
     let a = c .before .before .before .before .before .before .before .before .before .args in
-    whole-put (listRefusals (a .code .now)) _ _ tt (short-listed (a .code .now) (c .before .before .before .before .before .before .if1 .left)) (leb-true _ _ (sym (c .before .before .before .before .before .fits2 .ensures) ∙ c .before .before .before .before .if2 .taken)) (c .before .before .write .ensures)
+    whole-put (listRefusals (a .code .now)) _ _ tt (short-listed (a .code .now) (c .before .before .before .before .before .before .if1 .left)) (omega arith) (leb-true _ _ (sym (c .before .before .before .before .before .fits2 .ensures) ∙ c .before .before .before .before .if2 .taken)) (c .before .before .write .ensures)
 
 returns-3 : tie.Need-returns-3
 returns-3 c =

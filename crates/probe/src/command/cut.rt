@@ -15,9 +15,9 @@ pub fn answer(number: u64, code: &[u8], out: &mut [u8], at: usize) -> usize {
 
 // A space and the units' letters, `-` where there are none.
 fn units(out: &mut [u8], at: usize, of: [u8; 3]) -> usize {
-    let to = out::byte(out, at, b' ');
+    let to = text::put_byte(out, at, b' ');
     if of[0] == 0 {
-        return out::byte(out, to, b'-');
+        return text::put_byte(out, to, b'-');
     }
-    out::text(out, to, &of)
+    text::put_text(out, to, &of)
 }

@@ -16,15 +16,15 @@ pub fn answer(of: Six, out: &mut [u8], at: usize) -> usize {
     let reading = read.reading;
     let last = reading.position;
     let to = out::number(out, at, said);
-    let gap = out::byte(out, to, b' ');
+    let gap = text::put_byte(out, to, b' ');
     let end = position(out, gap, last);
     shown(out, end, reading)
 }
 
 fn position(out: &mut [u8], at: usize, p: Position) -> usize {
     match p {
-        Position::None => out::byte(out, at, b'-'),
-        Position::At(n) => out::decimal(out, at, n as u64),
+        Position::None => text::put_byte(out, at, b'-'),
+        Position::At(n) => text::put_decimal(out, at, n as u64),
     }
 }
 

@@ -1,6 +1,4 @@
 // Bytes as text: two lower-case hexadecimal digits each, and `-` where there are none.
-ghost use Prim.Native.Nat.{_≤_};
-
 pub enum Spelt {
     Of(u64),
     Bad,
@@ -24,7 +22,7 @@ pub fn count(s: &[u8]) -> Spelt {
     }
     let mut i = 0;
     while i < n {
-        if 15 < value(s[i]) {
+        if !is_digit(s[i]) {
             return Spelt::Bad;
         }
         i += 1;
@@ -40,32 +38,12 @@ pub fn put(s: &[u8], to: &mut [u8]) {
         if s.len() <= at + 1 {
             return;
         }
-        to[i] = value(s[at]) % 16 * 16 + value(s[at + 1]) % 16;
+        to[i] = text::digit_value(s[at]) % 16 * 16 + text::digit_value(s[at + 1]) % 16;
         i += 1;
     }
 }
 
-// A digit's value, and 16 for any other byte.
-fn value(b: u8) -> u8
-    ensures { λ r. ⌜ r ≤ 16 ⌝ }
-{
-    if b < 48 {
-        return 16;
-    }
-    if b <= 57 {
-        return b - 48;
-    }
-    if b < 97 {
-        return 16;
-    }
-    if b <= 102 {
-        return b - 87;
-    }
-    16
-}
-
-// The digit of a number's lowest four bits.
-pub fn digit(n: u8) -> u8 {
-    let d = n % 16;
-    if d < 10 { d + 48 } else { d + 87 }
+// A digit, and no capital.
+fn is_digit(c: u8) -> bool {
+    text::digit_value(c) < 16 && (c <= b'9' || b'a' <= c)
 }

@@ -1,4 +1,4 @@
--- `text::hex::value` meets its contract: what the code looks up and what a digit is worth are compared at every byte by one
+-- `text::hex::digit_value` meets its contract: what the code looks up and what a digit is worth are compared at every byte by one
 -- computed check. Assumes nothing.
 use mathlib.Core.Path.{_≡_}
 use mathlib.Core.Bool.{cond}
@@ -10,8 +10,8 @@ use borrow.Author.Needs.{needs}
 use borrow.Author.Tests.{lt-ltb, le-ltb}
 use Rattle.table.proofs.Check.{checked}
 use Rattle.text.specs.Hex.{valueOf}
-use Rattle.text.proofs.hex.value.Statement.{statement}
-use Rattle.text.proofs.hex.value.Tie as tie
+use Rattle.text.proofs.hex.digit_value.Statement.{statement}
+use Rattle.text.proofs.hex.digit_value.Tie as tie
 
 -- the code's table
 abbrev letters : List ℕ
@@ -37,16 +37,10 @@ returns-2 c =
     let s = c .before .before .before in
     rw (le-ltb (s .args .c) 48 (c .before .if1 .left), lt-ltb 102 (s .args .c) (c .if2 .taken)) at (at-byte (s .args .c) (s .fits .c .fits))
 
-cast-result : tie.Need-cast-result
-cast-result c = search needs
-
-element-copy-out-result : tie.Need-element-copy-out-result
-element-copy-out-result c = search needs
-
 returns-3 : tie.Need-returns-3
 returns-3 c =
     let s = c .before .before .before .before in
     rw (le-ltb (s .args .c) 48 (c .before .before .if1 .left), le-ltb 102 (s .args .c) (c .before .if2 .left)) at (at-byte (s .args .c) (s .fits .c .fits))
 
-pub value-spec : {M : Type 1} → statement M
-value-spec = tie.close (tie.spec returns returns-2 cast-result element-copy-out-result returns-3)
+pub digit-value-spec : {M : Type 1} → statement M
+digit-value-spec = tie.close (tie.spec returns returns-2 (λ c. search needs) (λ c. search needs) returns-3)
