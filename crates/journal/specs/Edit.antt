@@ -1,7 +1,7 @@
 -- The calls `edit` and `undo`. Assumes nothing.
 use Prim.Native.Nat.{ℕ, _+_, _*_}
 use mathlib.Core.Bool.{Bool, true, false, not, _&&_}
-use mathlib.Core.List.{List, [], _∷_, _++_, dropLast, getLastD}
+use mathlib.Core.List.{List, [], _∷_, _++_, dropLast}
 use lib.Dec.{eqb, leb, ltb}
 use lib.ListN.{length, take, drop}
 use Rattle.answer.specs.Answer.{Refusal, first, outcome, accepted, exhaustedInput, badValue, full, empty, stale, tooLong, badJournal}
@@ -16,9 +16,10 @@ use Rattle.immediate.specs.Immediate.{openRefusals, written}
 use Rattle.immediate.specs.declared.row.Row.{Row}
 use Rattle.immediate.specs.declared.meaning.Raw.{Raw}
 use Rattle.immediate.specs.declared.meaning.Raw.the-variants.{Is, Bad}
-use Rattle.journal.specs.Journal.{limit, noRecord, standing, journalOf, validOf}
+use Rattle.journal.specs.Journal.{limit, standing, journalOf, viewOf}
 use Rattle.journal.specs.declared.records.Record.{Record}
 use Rattle.journal.specs.declared.records.Journal.{Journal}
+use Rattle.journal.specs.declared.records.View.{View}
 use Rattle.journal.specs.declared.change.Change.{Change}
 
 -- no raw number
@@ -65,13 +66,13 @@ pub record Outcome : Type 0 where
   pub journal : Journal
   pub code : List ℕ
 
--- when there is no room for a record, by whether the journal is valid and how many stand
-abbrev pub roomRefusals : Bool → ℕ → List Refusal
-roomRefusals valid count = (badJournal, not valid) ∷ (full, leb limit count) ∷ []
+-- when there is no room for a record, by what the journal shows
+abbrev pub roomRefusals : View → List Refusal
+roomRefusals view = (badJournal, not (view .valid)) ∷ (full, leb limit (view .count)) ∷ []
 
 -- when an edit is refused
-abbrev pub editRefusals : List ℕ → Bool → ℕ → ℕ → ℕ → ℕ → ℕ → Operand → List Refusal
-editRefusals code valid count k slot family number value = planRefusals code k slot family number value ++ roomRefusals valid count
+abbrev pub editRefusals : List ℕ → View → ℕ → ℕ → ℕ → ℕ → Operand → List Refusal
+editRefusals code view k slot family number value = planRefusals code k slot family number value ++ roomRefusals view
 
 -- the record of an edit
 abbrev pub recordOf : List ℕ → ℕ → ℕ → ℕ → ℕ → Operand → Record
@@ -81,12 +82,11 @@ recordOf code k slot family number value =
 -- what `edit` comes to: one record more
 unfoldable pub editOf : List ℕ → Journal → ℕ → ℕ → ℕ → ℕ → Operand → Outcome
 editOf code journal k slot family number value =
-    let rs = standing journal in
-    let answer = first (editRefusals code (validOf journal) (length rs) k slot family number value) in
+    let answer = first (editRefusals code (viewOf journal) k slot family number value) in
     outcome answer
     (record {
       answer = accepted;
-      journal = journalOf (rs ++ (recordOf code k slot family number value ∷ []));
+      journal = journalOf (standing journal ++ (recordOf code k slot family number value ∷ []));
       code = rewritten code k (editedNumber (numberAt code k) slot family number value);
     })
     (record { answer = answer; journal = journal; code = code })
@@ -95,12 +95,13 @@ editOf code journal k slot family number value =
 abbrev pub sameHalves : Halves → Halves → Bool
 sameHalves a b = eqb (a .low) (b .low) && eqb (a .high) (b .high)
 
--- when undoing is refused, by whether the journal is valid, how many stand and the last of them
-abbrev pub undoRefusals : List ℕ → Bool → ℕ → Record → List Refusal
-undoRefusals code valid count last =
+-- when undoing is refused, by what the journal shows
+abbrev pub undoRefusals : List ℕ → View → List Refusal
+undoRefusals code view =
+    let last = view .last in
     (tooLong, ltb 65536 (length code))
-    ∷ (badJournal, not valid)
-    ∷ (empty, eqb count 0)
+    ∷ (badJournal, not (view .valid))
+    ∷ (empty, eqb (view .count) 0)
     ∷ (exhaustedInput, ltb (length code) (16 * last .bundle + 16))
     ∷ (stale, not (sameHalves (halvesOf (numberAt code (last .bundle))) (last .new)))
     ∷ []
@@ -108,9 +109,9 @@ undoRefusals code valid count last =
 -- what `undo` comes to: the last record's old bundle, and one record less
 unfoldable pub undoOf : List ℕ → Journal → Outcome
 undoOf code journal =
-    let rs = standing journal in
-    let last = getLastD rs noRecord in
-    let answer = first (undoRefusals code (validOf journal) (length rs) last) in
+    let view = viewOf journal in
+    let last = view .last in
+    let answer = first (undoRefusals code view) in
     outcome answer
-    (record { answer = accepted; journal = journalOf (dropLast rs); code = rewritten code (last .bundle) (whole (last .old)) })
+    (record { answer = accepted; journal = journalOf (dropLast (standing journal)); code = rewritten code (last .bundle) (whole (last .old)) })
     (record { answer = answer; journal = journal; code = code })

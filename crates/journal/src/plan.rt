@@ -7,6 +7,7 @@ use crate::change;
 use crate::records::LIMIT;
 use crate::records::NONE;
 use crate::records::Record;
+use crate::records::View;
 use answer::ACCEPTED;
 use answer::BAD_JOURNAL;
 use answer::EMPTY;
@@ -43,22 +44,22 @@ fn refused(answer: u8) -> Plan
 // An edit keeps its record at the first free place.
 pub fn edit_plan(
     code: &[u8],
-    valid: bool,
-    count: u64,
+    view: View,
     bundle: u64,
     slot: u64,
     family: u64,
     number: u64,
     value: Operand,
 ) -> Plan
-    ensures { λ r. ⌜ r ≡ editPlanOf (now (code .entry)) valid count bundle slot family number value ⌝ }
+    ensures { λ r. ⌜ r ≡ editPlanOf (now (code .entry)) view bundle slot family number value ⌝ }
 {
     let change = change::planned(code, bundle, slot, family, number, value);
     let unfit = change.answer;
     if unfit != ACCEPTED {
         return refused(unfit);
     }
-    let answer = room_refusal(valid, count);
+    let count = view.count;
+    let answer = room_refusal(view);
     if answer != ACCEPTED {
         return refused(answer);
     }
@@ -75,28 +76,29 @@ pub fn edit_plan(
 }
 
 // Why no record can be added.
-fn room_refusal(valid: bool, count: u64) -> u8
-    ensures { λ r. ⌜ r ≡ first (roomRefusals valid count) ⌝ }
+fn room_refusal(view: View) -> u8
+    ensures { λ r. ⌜ r ≡ first (roomRefusals view) ⌝ }
 {
-    if !valid {
+    if !view.valid {
         return BAD_JOURNAL;
     }
-    if LIMIT <= count {
+    if LIMIT <= view.count {
         return FULL;
     }
     ACCEPTED
 }
 
 // An undo frees the last record's place.
-pub fn undo_plan(code: &[u8], valid: bool, count: u64, last: Record) -> Plan
-    ensures { λ r. ⌜ r ≡ undoPlanOf (now (code .entry)) valid count last ⌝ }
+pub fn undo_plan(code: &[u8], view: View) -> Plan
+    ensures { λ r. ⌜ r ≡ undoPlanOf (now (code .entry)) view ⌝ }
 {
-    let answer = undo_refusal(code, valid, count, last);
+    let answer = undo_refusal(code, view);
     if answer != ACCEPTED {
         return refused(answer);
     }
+    let last = view.last;
     let halves = last.old;
-    let place = count - 1;
+    let place = view.count - 1;
     Plan {
         answer,
         bundle: last.bundle,
@@ -108,18 +110,19 @@ pub fn undo_plan(code: &[u8], valid: bool, count: u64, last: Record) -> Plan
 }
 
 // Why the last record can't be undone.
-fn undo_refusal(code: &[u8], valid: bool, count: u64, last: Record) -> u8
-    ensures { λ r. ⌜ r ≡ first (undoRefusals (now (code .entry)) valid count last) ⌝ }
+fn undo_refusal(code: &[u8], view: View) -> u8
+    ensures { λ r. ⌜ r ≡ first (undoRefusals (now (code .entry)) view) ⌝ }
 {
     if bundle::MOST < code.len() {
         return TOO_LONG;
     }
-    if !valid {
+    if !view.valid {
         return BAD_JOURNAL;
     }
-    if count == 0 {
+    if view.count == 0 {
         return EMPTY;
     }
+    let last = view.last;
     let bundle = last.bundle;
     if bundle::found(code, bundle) != ACCEPTED {
         return EXHAUSTED_INPUT;

@@ -26,17 +26,17 @@ returns c =
     let a = p .before .before .args in
     let refused = c .before .if1 .taken in
     let plans = planRefusals (now (a .code)) (a .bundle) (a .slot) (a .family) (a .number) (a .value) in
-    c .refused .ensures ∙ refused-is refusedPlan _ _ _ (first-stop plans (roomRefusals (a .valid) (a .count)) (λ e. refused (changes p ∙ e)) ∙ sym (changes p)) refused
+    c .refused .ensures ∙ refused-is refusedPlan _ _ _ (first-stop plans (roomRefusals (a .view)) (λ e. refused (changes p ∙ e)) ∙ sym (changes p)) refused
 
 -- what the journal answers, once the change is accepted
 answers : (c : tie.After-room-refusal) →
     let a = c .before .before .before .before .args in
-    first (editRefusals (now (a .code)) (a .valid) (a .count) (a .bundle) (a .slot) (a .family) (a .number) (a .value)) ≡ c .room-refusal .result
+    first (editRefusals (now (a .code)) (a .view) (a .bundle) (a .slot) (a .family) (a .number) (a .value)) ≡ c .room-refusal .result
 answers c =
     let p = c .before .before in
     let a = p .before .before .args in
     let plans = planRefusals (now (a .code)) (a .bundle) (a .slot) (a .family) (a .number) (a .value) in
-    first-on plans (roomRefusals (a .valid) (a .count)) tt (sym (changes p) ∙ c .before .if1 .left) ∙ sym (c .room-refusal .ensures)
+    first-on plans (roomRefusals (a .view)) tt (sym (changes p) ∙ c .before .if1 .left) ∙ sym (c .room-refusal .ensures)
 
 returns-2 : tie.Need-returns-2
 unfolding editPlanOf
@@ -46,7 +46,7 @@ add-count : tie.Need-add-t16
 add-count c =
     let e = c .before .before in
     let a = e .before .before .before .before .before .args in
-    omega (arith, leb-false limit (a .count) (none-applies (roomRefusals (a .valid) (a .count)) tt (sym (e .before .room-refusal .ensures) ∙ e .if2 .left) .1 .0))
+    omega (arith, leb-false limit (a .view .count) (none-applies (roomRefusals (a .view)) tt (sym (e .before .room-refusal .ensures) ∙ e .if2 .left) .1 .0))
 
 returns-3 : tie.Need-returns-3
 unfolding editPlanOf
@@ -60,9 +60,9 @@ returns-3 c =
       answer = e .if2 .left i;
       bundle = a .bundle;
       halves = change i .new;
-      place = a .count;
+      place = a .view .count;
       kept = record { bundle = a .bundle; old = change i .old; new = change i .new };
-      count = a .count + 1;
+      count = a .view .count + 1;
     })
     ∙ sym (accepts _ _ _ (answers r ∙ e .if2 .left))
 

@@ -19,27 +19,38 @@ returns : tie.Need-returns
 returns c = rw (lt-ltb _ _ (c .if1 .taken))
 
 returns-2 : tie.Need-returns-2
-returns-2 c = rw (le-ltb _ _ (c .before .if1 .left), not-true (c .before .before .before .args .valid) (c .if2 .taken))
+returns-2 c =
+    let e = c .before .before in
+    rw (le-ltb _ _ (e .if1 .left), not-true (e .before .before .args .view .valid) (c .if2 .taken))
 
 returns-3 : tie.Need-returns-3
-returns-3 c = rw (le-ltb _ _ (c .before .before .if1 .left), not-false (c .before .before .before .before .args .valid) (c .before .if2 .left), eq-eqb _ 0 (c .if3 .taken))
+returns-3 c =
+    let e = c .before .before in
+    let d = e .before .before in
+    rw (le-ltb _ _ (d .if1 .left), not-false (d .before .before .args .view .valid) (e .if2 .left), eq-eqb _ 0 (c .if3 .taken))
 
 -- the refusals of the last record, where the others don't apply
 of-last : (c : tie.Else3) →
-    let a = c .before .before .before .before .args in
-    first (undoRefusals (now (a .code)) (a .valid) (a .count) (a .last)) ≡ first (drop 3 (undoRefusals (now (a .code)) (a .valid) (a .count) (a .last)))
+    let a = c .before .before .before .before .before .before .args in
+    first (undoRefusals (now (a .code)) (a .view)) ≡ first (drop 3 (undoRefusals (now (a .code)) (a .view)))
 of-last c =
-    let a = c .before .before .before .before .args in
-    rw (le-ltb _ _ (c .before .before .if1 .left), not-false (a .valid) (c .before .if2 .left), ne-eqb (a .count) 0 (c .if3 .left))
+    let e = c .before .before in
+    let d = e .before .before in
+    let a = d .before .before .args in
+    rw (le-ltb _ _ (d .if1 .left), not-false (a .view .valid) (e .if2 .left), ne-eqb (a .view .count) 0 (c .if3 .left))
 
 returns-4 : tie.Need-returns-4
 returns-4 c =
-    let e = c .before .before in
-    let a = e .before .before .before .before .args in
-    let out = past-the-end (now (a .code)) (a .last .bundle) (e .before .before .if1 .left) (λ q. c .if4 .taken (c .before .found .ensures ∙ q)) in
-    sym (of-last e ∙ rw (lt-ltb (length (now (a .code))) (16 * a .last .bundle + 16) out))
+    let e = c .before .before .before in
+    let d = e .before .before .before .before in
+    let a = d .before .before .args in
+    let out = past-the-end (now (a .code)) (a .view .last .bundle) (d .if1 .left) (λ q. c .if4 .taken (c .before .found .ensures ∙ q)) in
+    sym (of-last e ∙ rw (lt-ltb (length (now (a .code))) (16 * a .view .last .bundle + 16) out))
 
-is-found : (c : tie.Else4) → let a = c .before .before .before .before .before .before .args in foundOf (now (a .code)) (a .last .bundle) ≡ accepted
+abbrev entry : tie.Else4 → tie.Start
+entry c = c .before .before .before .before .before .before .before .before .before
+
+is-found : (c : tie.Else4) → let a = entry c .args in foundOf (now (a .code)) (a .view .last .bundle) ≡ accepted
 is-found c = sym (c .before .found .ensures) ∙ c .if4 .left
 
 read-requires : tie.Need-read-requires
@@ -47,27 +58,27 @@ read-requires c κs = let f = is-found (c .before .before) in ap length (c .find
 
 -- whether the bundle is the record's new one
 same-is : (c : tie.After-same) →
-    let a = c .before .before .before .before .before .before .before .before .before .before .args in
-    c .same .result ≡ sameHalves (halvesOf (numberAt (now (a .code)) (a .last .bundle))) (a .last .new)
+    let a = entry (c .before .before .before .before) .args in
+    c .same .result ≡ sameHalves (halvesOf (numberAt (now (a .code)) (a .view .last .bundle))) (a .view .last .new)
 same-is c =
-    let a = c .before .before .before .before .before .before .before .before .before .before .args in
+    let a = entry (c .before .before .before .before) .args in
     let f = is-found (c .before .before .before .before) in
     c .same .ensures
-    ∙ ap (λ (h : Halves). sameHalves h (a .last .new)) (c .before .read .ensures ∙ ap (λ l. halvesOf (number l)) (c .before .before .find .ensures ∙ found-part _ _ f))
+    ∙ ap (λ (h : Halves). sameHalves h (a .view .last .new)) (c .before .read .ensures ∙ ap (λ l. halvesOf (number l)) (c .before .before .find .ensures ∙ found-part _ _ f))
 
 -- the bundle's end, where it was found
-within : (c : tie.Else4) → let a = c .before .before .before .before .before .before .args in 16 * a .last .bundle + 16 ≤ length (now (a .code))
+within : (c : tie.Else4) → let a = entry c .args in 16 * a .view .last .bundle + 16 ≤ length (now (a .code))
 within c = lies _ _ (is-found c) .within
 
 returns-5 : tie.Need-returns-5
 returns-5 c =
     let f = c .before .before .before .before .before in
-    sym (of-last (f .before .before) ∙ rw (le-ltb _ _ (within f), sym (same-is (c .before)) ∙ not-true _ (c .if5 .taken)))
+    sym (of-last (f .before .before .before) ∙ rw (le-ltb _ _ (within f), sym (same-is (c .before)) ∙ not-true _ (c .if5 .taken)))
 
 returns-6 : tie.Need-returns-6
 returns-6 c =
     let f = c .before .before .before .before .before in
-    sym (of-last (f .before .before) ∙ rw (le-ltb _ _ (within f), sym (same-is (c .before)) ∙ not-false _ (c .if5 .left)))
+    sym (of-last (f .before .before .before) ∙ rw (le-ltb _ _ (within f), sym (same-is (c .before)) ∙ not-false _ (c .if5 .left)))
 
 pub undo-refusal-spec : {M : Type 1} → statement M
 undo-refusal-spec =
