@@ -1,10 +1,16 @@
 //! Times the library's calls, through crates/bench, beside 000's and plain Rust's on the same inputs, and prints a table. Both
 //! sides' answers are compared: a difference ends the run.
 
-mod plain;
+#[allow(dead_code)] // the model has all of 01's calls, and what 000 has too isn't timed
+#[path = "../model/mod.rs"]
+mod model;
 
+use model::immediate::Value;
+use model::journal::{self, Journal};
+use model::random::Random;
+use model::table::{self, Family, Row};
+use model::{sheet, Model};
 use of000::bench as old;
-use plain::{Journal, Value};
 use std::hint::black_box;
 use std::time::Instant;
 
@@ -23,22 +29,6 @@ extern "C" {
 const RUNS: usize = 25;
 const BUNDLES: usize = 4096;
 const FULL: u64 = 64;
-
-/// xorshift64*, so that a run can be repeated.
-struct Random(u64);
-
-impl Random {
-    fn next(&mut self) -> u64 {
-        self.0 ^= self.0 >> 12;
-        self.0 ^= self.0 << 25;
-        self.0 ^= self.0 >> 27;
-        self.0.wrapping_mul(0x2545_f491_4f6c_dd1d)
-    }
-
-    fn word(&mut self) -> u64 {
-        self.next() >> 23
-    }
-}
 
 /// The best time of each side, by turns, a call in nanoseconds; what both answer is compared.
 fn line<T: PartialEq>(what: &str, calls: usize, side: &str, mut ours: impl FnMut() -> T, mut theirs: impl FnMut() -> T) {
@@ -66,7 +56,8 @@ fn code_of(random: &mut Random, tag: u64) -> Vec<u8> {
 }
 
 fn cut(random: &mut Random) {
-    let tags: Vec<u64> = (0..32).filter(|tag| ![6, 7, 20, 21, 26, 27, 30, 31].contains(tag)).collect();
+    let units = table::units();
+    let tags: Vec<u64> = (0..32).filter(|tag| units[*tag as usize].is_some()).collect();
     let mut code = Vec::new();
     for n in 0..BUNDLES {
         code.extend((random.next() & !31 | tags[n % tags.len()]).to_le_bytes());
@@ -76,53 +67,46 @@ fn cut(random: &mut Random) {
 }
 
 fn operands(random: &mut Random) {
-    for (family, forms) in [(b'A', 10), (b'B', 9), (b'F', 16), (b'M', 48), (b'X', 5)] {
-        let count = 48 * 256;
-        let numbers: Vec<u64> = (0..count).map(|i| 1 + i % forms).collect();
-        let words: Vec<u64> = (0..count).map(|_| random.word()).collect();
-        let ls: Vec<u64> = (0..count).map(|_| random.word()).collect();
+    const COUNT: usize = 48 * 256;
+    for Family { letter, numbers, .. } in table::families() {
+        let numbers: Vec<u64> = numbers.cycle().take(COUNT).collect();
+        let words: Vec<u64> = (0..COUNT).map(|_| random.next() >> 23).collect();
+        let ls: Vec<u64> = (0..COUNT).map(|_| random.next() >> 23).collect();
         let bits: Vec<old::Bits> = words.iter().zip(&ls).map(|(word, l)| old::bits(*word, *l)).collect();
-        let what = format!("operands, {} forms", family as char);
+        let what = format!("operands, {} forms", letter as char);
         let ours = || unsafe {
-            bench_operands(family as u64, numbers.as_ptr(), numbers.len(), words.as_ptr(), words.len(), ls.as_ptr(), ls.len())
+            bench_operands(letter as u64, numbers.as_ptr(), numbers.len(), words.as_ptr(), words.len(), ls.as_ptr(), ls.len())
         };
-        line(&what, count as usize, "000", ours, || old::operands(family, &numbers, &bits));
+        line(&what, COUNT, "000", ours, || old::operands(letter, &numbers, &bits));
     }
 }
 
-/// A form of each row of 01's table: a tag and a slot that it fits, and values that it takes as multiples of one step.
-struct Row(&'static str, u64, u64, bool, i64);
+/// A tag and a slot that a family fits: slot 1, which stands in both halves of the bundle, before the others.
+fn fitting(letter: u8) -> (u64, u64) {
+    let family = table::families().into_iter().find(|family| family.letter == letter).unwrap();
+    let units = table::units();
+    let fits = |tag: u64, slot: u64| units[tag as usize].is_some_and(|units| family.units.contains(&units[slot as usize]));
+    (0..32).flat_map(|tag| [1, 2, 0].map(|slot| (tag, slot))).find(|(tag, slot)| fits(*tag, *slot)).unwrap()
+}
 
-const ROWS: [Row; 15] = [
-    Row("A2", 0, 1, false, 0),
-    Row("A3", 0, 1, true, 1),
-    Row("A4", 0, 1, true, 1),
-    Row("A5", 0, 1, true, 1),
-    Row("M3", 0, 0, true, 1),
-    Row("M5", 0, 0, true, 1),
-    Row("M17", 0, 0, true, 1),
-    Row("M20", 0, 0, true, 16),
-    Row("B1", 16, 2, true, 16),
-    Row("F14", 12, 1, true, 16),
-    Row("B9", 16, 2, false, 1),
-    Row("M44", 0, 0, false, 1),
-    Row("X1", 4, 2, false, 1),
-    Row("X2", 4, 2, false, 1),
-    Row("X3", 4, 2, true, 16),
-];
-
-fn immediates(random: &mut Random) {
-    for Row(form, tag, slot, signed, step) in ROWS {
-        let (family, number) = (form.as_bytes()[0] as u64, form[1..].parse().unwrap());
+/// A form of each row of the table, read and written.
+fn immediates(random: &mut Random, model: &Model) {
+    for Row { forms, signed, times, plus, .. } in table::rows() {
+        let (letter, number) = *forms.iter().min().unwrap();
+        let family = letter as u64;
+        let form = format!("{}{number}", letter as char);
+        let (tag, slot) = fitting(letter);
         let code = code_of(random, tag);
-        let reads = || {
-            (0..BUNDLES as u64).fold(0u64, |sum, n| sum.wrapping_add(plain::immediate(&code, n, slot, family, number).1.pattern()))
-        };
+        // plain Rust looks the form's row up at each call, too, and not once before the loop
+        let asked = || black_box(family);
+        let read = |n| model.immediate(&code, n, slot, asked(), number).1.pattern();
+        let reads = || (0..BUNDLES as u64).fold(0u64, |sum, n| sum.wrapping_add(read(n)));
         let ours = || unsafe { bench_immediate(code.as_ptr(), code.len(), slot, family, number) };
         line(&format!("immediate read, {form}"), BUNDLES, "plain Rust", ours, reads);
 
-        // from -4 or 1 steps on, so that M17 and A2 take them too
-        let values: Vec<u64> = (0..BUNDLES as i64).map(|n| if signed { (n % 8 - 4) * step } else { 1 + n % 4 } as u64).collect();
+        // so small that M17 and A2 take them too
+        let numbers = (0..BUNDLES as i64).map(|n| if signed { n % 8 - 4 } else { n % 4 });
+        let values: Vec<u64> = numbers.map(|n| (times * n) as u64 + plus).collect();
         let (mut mine, mut other) = (code.clone(), code);
         let (mut first, mut second) = (Vec::new(), Vec::new());
         let ours = || {
@@ -135,8 +119,8 @@ fn immediates(random: &mut Random) {
         let writes = || {
             for (n, value) in values.iter().enumerate() {
                 let value = if signed { Value::Signed(*value as i64) } else { Value::Unsigned(*value) };
-                if let Ok((_, new)) = plain::planned(&other, n as u64, slot, family, number, value) {
-                    plain::write(&mut other, n as u64, new);
+                if let Ok((_, new)) = model.planned(&other, n as u64, slot, asked(), number, value) {
+                    journal::write(&mut other, n as u64, new);
                 }
             }
             second.clone_from(&other);
@@ -148,22 +132,22 @@ fn immediates(random: &mut Random) {
 }
 
 /// A journal with so many records: slot 2, B1, of the first bundles set to 16.
-fn filled(code: &mut [u8], records: u64) -> Journal {
-    (0..records).fold(Journal::empty(), |journal, n| plain::edit(code, journal, n, 2, b'B' as u64, 1, Value::Signed(16)).1)
+fn filled(model: &Model, code: &mut [u8], records: u64) -> Journal {
+    (0..records).fold(Journal::empty(), |journal, n| model.edit(code, journal, n, 2, b'B' as u64, 1, Value::Signed(16)).1)
 }
 
-fn edits(random: &mut Random) {
+fn edits(random: &mut Random, model: &Model) {
     const TIMES: u64 = 2000;
     let code = code_of(random, 16);
     for standing in [1, FULL] {
         let (mut mine, mut other) = (code.clone(), code.clone());
         let ours = || unsafe { bench_edit(mine.as_mut_ptr(), mine.len(), standing - 1, TIMES) };
         let theirs = || {
-            let mut journal = filled(&mut other, standing - 1);
+            let mut journal = filled(model, &mut other, standing - 1);
             let mut sum = 0;
             for _ in 0..TIMES {
-                let edited = plain::edit(&mut other, journal, 63, 2, b'B' as u64, 1, Value::Signed(32));
-                let undone = plain::undo(&mut other, edited.1);
+                let edited = model.edit(&mut other, journal, 63, 2, b'B' as u64, 1, Value::Signed(32));
+                let undone = journal::undo(&mut other, edited.1);
                 sum += (edited.0 + undone.0) as u64;
                 journal = undone.1;
             }
@@ -174,7 +158,7 @@ fn edits(random: &mut Random) {
     }
 }
 
-fn sheets(random: &mut Random) {
+fn sheets(random: &mut Random, model: &Model) {
     const TIMES: u64 = 200;
     let code = code_of(random, 16);
     let (mut mine, mut other) = (code.clone(), code);
@@ -182,10 +166,10 @@ fn sheets(random: &mut Random) {
     let ours = || unsafe { bench_sheet(mine.as_mut_ptr(), mine.len(), FULL, TIMES, first.as_mut_ptr(), first.len()) };
     let mut length = 0;
     let theirs = || {
-        let journal = filled(&mut other, FULL);
+        let journal = filled(model, &mut other, FULL);
         let mut sum = 0;
         for _ in 0..TIMES {
-            length = plain::sheet(journal, &mut second).1;
+            length = sheet::write(journal, &mut second).1;
             sum += length as u64;
         }
         sum
@@ -197,7 +181,7 @@ fn sheets(random: &mut Random) {
         let mut journal = Journal::empty();
         let mut sum = 0;
         for _ in 0..TIMES {
-            let loaded = plain::load_sheet(journal, text);
+            let loaded = sheet::load(journal, text);
             sum += loaded.0 as u64;
             journal = loaded.1;
         }
@@ -206,21 +190,22 @@ fn sheets(random: &mut Random) {
     line("sheet of 64 records loaded", TIMES as usize, "plain Rust", || unsafe { bench_load(text.as_ptr(), text.len(), TIMES) }, theirs);
 }
 
-fn listing(random: &mut Random) {
+fn listing(random: &mut Random, model: &Model) {
     let text: Vec<u8> = (0..16 * BUNDLES).flat_map(|_| format!("{:02x} ", random.next() as u8).into_bytes()).collect();
     let (mut first, mut second) = (vec![0; 221227], vec![0; 221227]);
     let ours = || unsafe { bench_listing(text.as_ptr(), text.len(), first.as_mut_ptr(), first.len()) as usize };
-    line("listing, a bundle of 65,536 bytes", BUNDLES, "plain Rust", ours, || plain::listing(&text, &mut second).1);
+    line("listing, a bundle of 65,536 bytes", BUNDLES, "plain Rust", ours, || model.listing(&text, &mut second).1);
     assert!(first == second, "the listings differ");
 }
 
 fn main() {
     let mut random = Random(0x9e37_79b9_7f4a_7c15);
+    let model = Model::new();
     println!("| What | ns | other side's ns | other side | ratio |\n|---|---|---|---|---|");
     cut(&mut random);
     operands(&mut random);
-    immediates(&mut random);
-    edits(&mut random);
-    sheets(&mut random);
-    listing(&mut random);
+    immediates(&mut random, &model);
+    edits(&mut random, &model);
+    sheets(&mut random, &model);
+    listing(&mut random, &model);
 }

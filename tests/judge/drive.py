@@ -4,7 +4,7 @@ Each function takes a `Talk`, which keeps the lines with what the model answers 
 """
 import itertools
 
-from model import FORMS, HUGE, PLACES, ROW, UNITS, WORD, Model, operand, sheet
+from model import FITTING, FORMS, HUGE, PLACES, ROWS, UNITS, WORD, Model, operand, sheet
 from standing import Standing
 
 LENGTHS = (0, 1, 15, 16, 17, 31, 32, 33, 48, 100, 65520, 65535, 65536, 65537, 65552, 65600)
@@ -138,8 +138,8 @@ def refused_operands(talk):
     for family in (*range(256), 256 + 65, 256 + 77, (1 << 32) + 77, HUGE - 1):
         for number in (0, 1, 5, 6, 9, 10, 11, 16, 17, 48, 49, 255, 256, 257, 256 + 48, (1 << 32) + 1, HUGE - 1):
             talk(f"operands {family} {number} {talk.random.choice((0, WORD - 1, WORD, HUGE - 1))} {talk.random.choice((0, WORD, HUGE - 1))}")
-    for family, count in FORMS.items():
-        for number in range(1, count + 1):
+    for family, numbers in FORMS.items():
+        for number in numbers:
             for word, l in itertools.product((0, WORD - 1, WORD, WORD + 1, HUGE - 1), repeat=2):
                 talk(f"operands {ord(family)} {number} {word} {l}")
 
@@ -150,26 +150,26 @@ def forms(random):
     """A family and a number: mostly with a row, else a form with none, else no form."""
     kind = random.random()
     if kind < 0.75:
-        name = random.choice(list(ROW))
+        name = random.choice(list(ROWS))
         return ord(name[0]), int(name[1:])
     if kind < 0.9:
         family = random.choice(list(FORMS))
-        return ord(family), random.randrange(1, FORMS[family] + 1)
+        return ord(family), random.choice(FORMS[family])
     return random.choice((*LETTERS, 73, 76, 97, 0, 256 + 77, HUGE - 1)), random.choice((0, 1, 10, 11, 17, 49, 256 + 1, HUGE - 1))
 
 
 def fitting(random, family):
     """A tag and a slot that such a form fits."""
-    letters = "IM" if family == 65 else chr(family) if family < 128 else "M"
+    letters = FITTING.get(chr(family), chr(family)) if family < 128 else "M"
     pairs = [(tag, slot) for tag, units in UNITS.items() for slot in range(3) if units[slot] in letters]
     return random.choice(pairs) if pairs else (random.randrange(32), random.randrange(3))
 
 
 def values(row):
     """Numbers about a row's ends, and far outside."""
-    near = [row.low, row.high, 0, row.step, -row.step, 1, -1, 8, 15, 17, 1 << 20, 1 << 21, 1 << 62, (1 << 63) - 1, -(1 << 63), HUGE - 1, HUGE - 16]
+    near = [row.low, row.high, 0, row.times, -row.times, 1, -1, 8, 15, 17, 1 << 20, 1 << 21, 1 << 62, (1 << 63) - 1, -(1 << 63), HUGE - 1, HUGE - 16]
     for end in (row.low, row.high):
-        near += [end + by for by in (-16, -1, 1, 16, -row.step, row.step)]
+        near += [end + by for by in (-16, -1, 1, 16, -row.times, row.times)]
     return sorted(set(near))
 
 
@@ -188,10 +188,10 @@ OTHERS = ("None", "G0", "G255", "F1", "P6", "B3", "AR64", "CR20", "Mem12", "PSR"
 
 def slots_of_rows():
     """Each form with a row, with each tag and slot that it fits."""
-    for name in ROW:
+    for name in ROWS:
         for tag, units in UNITS.items():
             for slot in range(3):
-                if units[slot] in ("IM" if name[0] == "A" else name[0]):
+                if units[slot] in FITTING[name[0]]:
                     yield name, tag, slot
 
 
@@ -247,12 +247,12 @@ def shown(talk, n=None):
 
 
 def value_for(random, family, number):
-    row = ROW.get(f"{chr(family)}{number}") if family < 128 else None
+    row = ROWS.get(f"{chr(family)}{number}") if family < 128 else None
     if row is None or random.random() < 0.08:
         return random.choice((*OTHERS, "I16", "U16", "I1", "U1", f"I{-(1 << 63)}", f"U{HUGE - 1}"))
     if random.random() < 0.15:
         return random.choice(list(operands_of(row)))
-    value = random.choice((row.low, row.high, row.low + random.randrange(1 << row.width) * row.step))
+    value = random.choice((row.low, row.high, row.low + random.randrange(1 << row.width) * row.times))
     return f"{'I' if row.signed else 'U'}{value}"
 
 
@@ -261,7 +261,7 @@ def row_edits(talk):
     for name, tag, slot in slots_of_rows():
         talk("code 48")
         talk("journal 0")
-        for value in operands_of(ROW[name]):
+        for value in operands_of(ROWS[name]):
             talk.bundle(1, tag)
             talk(f"edit 1 {slot} {ord(name[0])} {name[1:]} {value}")
             talk("get 0 48")
@@ -300,7 +300,7 @@ def step(talk, standing, busy, undoing):
     n = random.choice(busy)
     units = UNITS.get(standing.code[16 * n] % 32, "MII")
     slot = random.randrange(3)
-    names = [name for name in ROW if units[slot] in ("IM" if name[0] == "A" else name[0])] or list(ROW)
+    names = [name for name in ROWS if units[slot] in FITTING[name[0]]] or list(ROWS)
     name = random.choice(names)
     family, number = ord(name[0]), int(name[1:])
     if random.random() < 0.15:

@@ -1,98 +1,61 @@
 """Document 01 and the lines of `probe`, in Python: what each line is to be answered.
 
-Written from the two papers and not from the Rattle. A `Model` answers line by line, as the program does.
+Written from the two papers and not from the Rattle; forms, units and rows are those of ../table. A `Model` answers line by line, as the
+program does.
 """
 import inspect
+import pathlib
 import re
+import sys
 
-UNITS = {
-    **dict.fromkeys(range(0, 4), "MII"), **dict.fromkeys((4, 5), "MLX"), **dict.fromkeys(range(8, 12), "MMI"),
-    **dict.fromkeys((12, 13), "MFI"), **dict.fromkeys((14, 15), "MMF"), **dict.fromkeys((16, 17), "MIB"),
-    **dict.fromkeys((18, 19), "MBB"), **dict.fromkeys((22, 23), "BBB"), **dict.fromkeys((24, 25), "MMB"),
-    **dict.fromkeys((28, 29), "MFB"),
-}
-FORMS = {letter: count for letter, count in (("A", 10), ("B", 9), ("F", 16), ("M", 48), ("X", 5))}
+sys.path.append(str(pathlib.Path(__file__).resolve().parents[1] / "table"))
+import table
+from table import FITTING, FORMS, UNITS
 
-# the immediates: forms, parts (word bits, both ends meant, to value bits; L before those of slot 1), meaning
-ROWS = """
-A2 A10                 27..28>0                                             plus-one
-A3 A8 M30              13..19>0 36>7                                        signed
-A4                     13..19>0 27..32>7 36>13                              signed
-A5                     13..19>0 27..35>7 22..26>16 36>21                    signed
-M3 M8 M15              13..19>0 27>7 36>8                                   signed
-M5 M10                 6..12>0 27>7 36>8                                    signed
-M17                    13..15>0                                             signed
-M20 M21                6..12>0 20..32>7 36>20                               times-16
-M22 M23 B1 B2 B3       13..32>0 36>20                                       times-16
-F14                    6..25>0 36>20                                        times-16
-M37 M48 F15 F16 B9     6..25>0 36>20                                        unsigned
-M44                    6..26>0 31..32>21 36>23                              unsigned
-X1 X5                  6..25>0 36>20 L0..40>21                              unsigned
-X2                     13..19>0 27..35>7 22..26>16 21>21 L0..40>22 36>63    unsigned
-X3 X4                  13..32>0 L2..40>20 36>59                             times-16
-"""
 MOST, WORD, PLACES = 65536, 1 << 41, 64
 HUGE = 1 << 64
 
 
 class Row:
-    """One immediate: where its bits are, and which numbers it holds."""
+    """One immediate: where its bits are, and which values it holds."""
 
-    def __init__(self, parts, meaning):
-        self.parts = []
-        for part in parts:
-            word, first, last, to = re.fullmatch(r"(L?)(\d+)(?:\.\.(\d+))?>(\d+)", part).groups()
-            self.parts.append((1 if word else 0, int(first), int(last or first) - int(first) + 1, int(to)))
-        self.width = sum(width for _, _, width, _ in self.parts)
-        self.meaning = meaning
-        self.signed = meaning in ("signed", "times-16")
-        self.step = 16 if meaning == "times-16" else 1
-        low = -(1 << (self.width - 1)) if self.signed else int(meaning == "plus-one")
-        self.low, self.high = low * self.step, (low + (1 << self.width) - 1) * self.step
+    def __init__(self, parts, signed, times, plus):
+        self.parts, self.signed, self.times, self.plus = parts, signed, times, plus
+        self.width = max(to + width for _, _, width, to in parts)
+        least = -(1 << self.width - 1) if signed else 0
+        self.low, self.high = times * least + plus, times * (least + (1 << self.width) - 1) + plus
 
     def read(self, words):
-        raw = sum((words[which] >> place) % (1 << width) << to for which, place, width, to in self.parts)
-        if self.signed and raw >> (self.width - 1):
-            raw -= 1 << self.width
-        return (raw + (self.meaning == "plus-one")) * self.step
+        number = sum((words[which] >> place) % (1 << width) << to for which, place, width, to in self.parts)
+        if self.signed and number >> self.width - 1:
+            number -= 1 << self.width
+        return self.times * number + self.plus
 
     def takes(self, value):
-        return self.low <= value <= self.high and value % self.step == 0
+        return self.low <= value <= self.high and (value - self.plus) % self.times == 0
 
     def write(self, words, value):
-        raw = (value // self.step - (self.meaning == "plus-one")) % (1 << self.width)
+        number = (value - self.plus) // self.times
         words = list(words)
         for which, place, width, to in self.parts:
             mask = (1 << width) - 1
-            words[which] = words[which] & ~(mask << place) | (raw >> to & mask) << place
+            words[which] = words[which] & ~(mask << place) | (number >> to & mask) << place
         return words
 
 
-def table():
-    rows = {}
-    for line in ROWS.strip().splitlines():
-        words = line.split()
-        parts = [word for word in words if ">" in word]
-        for form in words[: words.index(parts[0])]:
-            rows[form] = Row(parts, words[-1])
-    return rows
-
-
-ROW = table()
+ROWS = {form: Row(*fields) for form, fields in table.ROWS.items()}
 
 
 def is_form(family, number):
-    return 0 <= family < 128 and 1 <= number <= FORMS.get(chr(family), 0)
+    return family < 128 and number in FORMS.get(chr(family), ())
 
 
 def row_of(family, number):
-    return ROW.get(f"{chr(family)}{number}") if is_form(family, number) else None
+    return ROWS.get(f"{chr(family)}{number}") if is_form(family, number) else None
 
 
 def fits(family, units, slot):
-    if family == ord("X"):
-        return units == "MLX" and slot == 2
-    return units[slot] in ("IM" if family == ord("A") else chr(family))
+    return units[slot] in FITTING[chr(family)]
 
 
 class Bundle:
@@ -317,7 +280,7 @@ class Model:
     def on_target(self, n, slot, family, form, address):
         n, slot, family, form, address = map(number, (n, slot, family, form, address))
         row = row_of(family, form)
-        row = row if row and row.step == 16 else None
+        row = row if row and row.times == 16 else None
         reasons, bundle = self.of_slot(n, slot, family, form, row)
         answer = self.refused(reasons + [(6, address % 16 != 0)])
         if answer:

@@ -1,40 +1,24 @@
-"""Words to read each of the 88 forms from, and how to ask the oracle.
+"""What is compared: words to read each of the 88 forms from, and bundles to cut.
 
-Which bits a form's reader looks at is asked of 000 itself: the oracle notes the parts that the reader takes.
+A form is named as in `M48`. A part of its words is (which, start, end), where which is 0 for the word itself and 1 for the L word.
 """
 import pathlib
-import re
-import subprocess
-import tempfile
+import random
+import sys
 
-ROOT = pathlib.Path(__file__).resolve().parents[2]
-GIVEN = ROOT.parent / "shared/docs/src/src/lib.rs"
-ORACLE = ROOT / "target/oracle/oracle"
-FORMS = [(family, number) for family, count in (("A", 10), ("B", 9), ("F", 16), ("M", 48), ("X", 5)) for number in range(1, count + 1)]
+sys.path.append(str(pathlib.Path(__file__).resolve().parents[1] / "table"))
+import table
+
+FORMS = [f"{family}{number}" for family, numbers in table.FORMS.items() for number in numbers]
 BITS = 41
 ONES = (1 << BITS) - 1
 X6 = ((27, 33), (30, 36))
+RANDOM_WORDS = 20000
 
 
-def answers(command, lines):
-    """What a program writes to these lines, as lines."""
-    with tempfile.TemporaryFile() as given, tempfile.TemporaryFile() as written:
-        given.write(b"\n".join(lines) + b"\n")
-        given.seek(0)
-        subprocess.run(command, stdin=given, stdout=written, check=True)
-        written.seek(0)
-        said = written.read().split(b"\n")
-    if said.pop() or len(said) != len(lines):
-        raise SystemExit(f"oracle: {len(lines)} lines were given to {command[0]} and {len(said)} written")
-    return said
-
-
-def build():
-    subprocess.run([ROOT / "tests/oracle/build"], check=True, stdout=subprocess.DEVNULL)
-
-
-def asked(family, number, word, l):
-    return b"%d %d %d %d" % (ord(family), number, word, l)
+def asked(form, word, l):
+    """A reading's line, `F N WORD L`."""
+    return b"%d %d %d %d" % (ord(form[0]), int(form[1:]), word, l)
 
 
 def with_part(background, start, end, value):
@@ -42,25 +26,12 @@ def with_part(background, start, end, value):
     return background & ~(mask << start) | value << start
 
 
-def parts():
-    """The parts (0 for the word and 1 for L, start, end) that each form's reader takes, on some word or other."""
-    words = [0, ONES] + [with_part(back, start, end, value) for back in (0, ONES) for start, end in X6 for value in range(64)]
-    lines = [b"parts " + asked(family, number, word, word) for family, number in FORMS for word in words]
-    said = answers([ORACLE], lines)
-    taken = {form: set() for form in FORMS}
-    for i, line in enumerate(said):
-        for part in line.decode().split():
-            l, start, end = re.fullmatch(r"(L?)(\d+)\.\.(\d+)", part).groups()
-            taken[FORMS[i // len(words)]].add((int(bool(l)), int(start), int(end)))
-    return {form: sorted(found) for form, found in taken.items()}
-
-
-def field_words(taken, random):
+def field_words(taken, chance):
     """Every value of every part, or 1,024 of them, on zeros and on ones; every x6; (word, L)."""
     for back in (0, ONES):
         for which, start, end in [*taken, *((0, *x6) for x6 in X6)]:
             count = 1 << end - start
-            values = range(count) if count <= 1024 else [random.randrange(count) for _ in range(1024)]
+            values = range(count) if count <= 1024 else [chance.randrange(count) for _ in range(1024)]
             for value in values:
                 pair = [back, back]
                 pair[which] = with_part(back, start, end, value)
@@ -75,11 +46,30 @@ def single_bits():
         yield ONES, ONES ^ 1 << bit
 
 
-def words_of(form, taken, random, count):
+def words_of(form, taken, seed):
     """All the words (and L words) that a form is read from. L is any number for a form that doesn't look at it."""
+    chance = random.Random(f"{seed} {form}")
     yield from ((0, 0), (ONES, 0), (0, ONES), (ONES, ONES))
     yield from single_bits()
-    yield from field_words(taken, random)
+    yield from field_words(taken, chance)
     wide = BITS if form[0] == "X" else 64
-    for _ in range(count):
-        yield random.getrandbits(BITS), random.getrandbits(wide)
+    for _ in range(RANDOM_WORDS):
+        yield chance.getrandbits(BITS), chance.getrandbits(wide)
+
+
+def bundles(seed):
+    """Sixteen bytes each, in hex: random ones, each tag with each of them, and ones with a bit or a byte changed."""
+    chance = random.Random(f"{seed} cuts")
+    found = []
+    for _ in range(64):
+        data = chance.getrandbits(128)
+        found += [data & ~31 | tag for tag in range(32)]
+        found += [data ^ 1 << chance.randrange(128) for _ in range(16)]
+        found += [data ^ chance.randrange(1, 256) << 8 * chance.randrange(16) for _ in range(16)]
+    return [data.to_bytes(16, "little").hex().encode() for data in found]
+
+
+def questions(seed, taken):
+    """All that is compared: for each form, by the parts that its reader takes, the lines of its readings; then the bundles of `cuts`."""
+    lines = {form: [asked(form, *pair) for pair in words_of(form, taken[form], seed)] for form in FORMS}
+    return {**lines, "cuts": bundles(seed)}

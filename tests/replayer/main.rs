@@ -1,32 +1,15 @@
 //! A stand-in for the replayer: calls cut, immediate and target of the archive through the Rust module, on boundary and random
-//! inputs, and compares what comes back with a model that was written from document 01.
+//! inputs, and compares what comes back with the model of document 01.
 
 #[path = "../../rust/glindorsc.rs"]
 mod glindorsc;
+#[allow(dead_code)] // the model has all of 01's calls, and the replayer makes three
+#[path = "../model/mod.rs"]
 mod model;
 
-use glindorsc::Place;
-use model::Model;
-
-/// xorshift64*, so that a run can be repeated.
-struct Random(u64);
-
-impl Random {
-    fn next(&mut self) -> u64 {
-        self.0 ^= self.0 >> 12;
-        self.0 ^= self.0 << 25;
-        self.0 ^= self.0 >> 27;
-        self.0.wrapping_mul(0x2545_f491_4f6c_dd1d)
-    }
-
-    fn below(&mut self, n: u64) -> u64 {
-        self.next() % n
-    }
-
-    fn pick(&mut self, from: &[u64]) -> u64 {
-        from[self.below(from.len() as u64) as usize]
-    }
-}
+use glindorsc::{Answered, Bundle, Place};
+use model::random::Random;
+use model::{table, Model};
 
 const WORD: u64 = (1 << 41) - 1;
 
@@ -60,7 +43,9 @@ impl Run {
     }
 
     fn cut(&mut self, code: &[u8], bundle: u64) {
-        self.same("cut", &(code.len(), bundle, Run::shown(code, bundle)), glindorsc::cut(code, bundle), model::cut(code, bundle));
+        let (answer, tag, units, slots) = self.model.cut(code, bundle);
+        let want = Bundle { answer, tag, units, slots };
+        self.same("cut", &(code.len(), bundle, Run::shown(code, bundle)), glindorsc::cut(code, bundle), want);
     }
 
     /// An output of any length: what stands past the seven numbers is kept, and all of a shorter one.
@@ -68,22 +53,25 @@ impl Run {
         let mut out = [0xeeee_eeee_eeee_eeee; 12];
         let mut want = out;
         let answer = glindorsc::cut_into(code, bundle, &mut out[..room]);
-        let cut = model::cut(code, bundle);
+        let (wanted, tag, units, slots) = self.model.cut(code, bundle);
         if room >= 7 {
-            want[0] = cut.tag as u64;
+            want[0] = tag as u64;
             for i in 0..3 {
-                want[1 + i] = cut.units[i] as u64;
-                want[4 + i] = cut.slots[i];
+                want[1 + i] = units[i] as u64;
+                want[4 + i] = slots[i];
             }
         }
-        self.same("cut into", &(code.len(), bundle, room), (answer, out), (if room >= 7 { cut.answer } else { 12 }, want));
+        self.same("cut into", &(code.len(), bundle, room), (answer, out), (if room >= 7 { wanted } else { 12 }, want));
     }
 
     fn form(&mut self, code: &[u8], at: Place, address: u64) {
-        let want = self.model.immediate(code, at);
-        self.same("immediate", &(at, Run::shown(code, at.bundle)), glindorsc::immediate(code, at), want);
-        let want = self.model.target(code, at, address);
-        self.same("target", &(at, address, Run::shown(code, at.bundle)), glindorsc::target(code, at, address), want);
+        let Place { bundle, slot, family, number } = at;
+        let (answer, value) = self.model.immediate(code, bundle, slot, family, number);
+        let want = Answered { answer, number: value.pattern() };
+        self.same("immediate", &(at, Run::shown(code, bundle)), glindorsc::immediate(code, at), want);
+        let (answer, number) = self.model.target(code, bundle, slot, family, number, address);
+        let want = Answered { answer, number };
+        self.same("target", &(at, address, Run::shown(code, bundle)), glindorsc::target(code, at, address), want);
     }
 }
 
@@ -94,7 +82,7 @@ fn bundle_of(tag: u64, slots: [u64; 3]) -> [u8; 16] {
 
 /// Every form of the table in every slot of every tag: zeros, ones, each bit alone, each bit missing, random words.
 fn every_form(run: &mut Run) {
-    let forms: Vec<(u64, u64)> = run.model.forms().collect();
+    let forms: Vec<(u8, u64)> = table::rows().into_iter().flat_map(|row| row.forms).collect();
     let mut words = vec![0, WORD];
     for bit in 0..41 {
         words.push(1 << bit);
@@ -103,7 +91,7 @@ fn every_form(run: &mut Run) {
     for tag in 0..32 {
         for slot in 0..4 {
             for &(family, number) in &forms {
-                let at = Place { bundle: 0, slot, family, number };
+                let at = Place { bundle: 0, slot, family: family as u64, number };
                 for i in 0..words.len() + 200 {
                     let mut slots = [0; 3].map(|_| run.random.next() & WORD);
                     if i < words.len() {

@@ -1,6 +1,7 @@
 // Calls that read: `cut`, `operands`, `immediate`, and the listing.
 use crate::sum;
 use crate::sum::plus;
+use form::Form;
 
 // Every bundle of a code, cut.
 #[no_mangle]
@@ -21,7 +22,11 @@ pub extern "C" fn bench_operands(family: u64, numbers: &[u64], words: &[u64], ls
     let mut sum = 0;
     let mut i = 0;
     while i < words.len() {
-        let read = readers::operands(family, sum::at(numbers, i), words[i], sum::at(ls, i));
+        let form = Form {
+            family,
+            number: sum::at(numbers, i),
+        };
+        let read = readers::operands(form, words[i], sum::at(ls, i));
         let reading = read.reading;
         sum = plus(sum, sum::of_reading(reading));
         i += 1;
@@ -32,11 +37,12 @@ pub extern "C" fn bench_operands(family: u64, numbers: &[u64], words: &[u64], ls
 // The immediate of a form in a slot of every bundle.
 #[no_mangle]
 pub extern "C" fn bench_immediate(code: &[u8], slot: u64, family: u64, number: u64) -> u64 {
+    let form = Form { family, number };
     let count = code.len() / 16;
     let mut sum = 0;
     let mut n = 0;
     while n < count {
-        let read = immediate::immediate(code, n as u64, slot, family, number);
+        let read = immediate::immediate(code, n as u64, slot, form);
         let value = read.value;
         sum = plus(sum, sum::of_operand(value));
         n += 1;

@@ -14,9 +14,9 @@ pub fn at(numbers: &[u64], i: usize) -> u64 {
 }
 
 pub fn of_bundle(cut: Bundle) -> u64 {
-    let units = cut.units;
+    let units = cut.template.units;
     let slots = cut.slots;
-    let mut sum = plus(cut.tag as u64, units[0] as u64);
+    let mut sum = plus(cut.template.tag as u64, units[0] as u64);
     sum = plus(sum, units[1] as u64);
     sum = plus(sum, units[2] as u64);
     sum = plus(sum, slots[0]);
@@ -40,8 +40,7 @@ pub fn of_reading(reading: Reading) -> u64 {
 fn of_position(position: Position) -> u64 {
     match position {
         Position::None => 0,
-        Position::First => 1,
-        Position::Second => 2,
+        Position::At(n) => 1 + n as u64,
     }
 }
 

@@ -1,6 +1,9 @@
 // Calls that write: immediates, `edit` and `undo`, and sheets.
 use crate::sum;
 use crate::sum::plus;
+use form::B;
+use form::Edit;
+use form::Form;
 use journal::Edited;
 use operand::Operand;
 
@@ -23,18 +26,41 @@ pub extern "C" fn bench_write(
     signed: u64,
     values: &[u64],
 ) -> u64 {
+    let form = Form { family, number };
     let count = code.len() / 16;
     let mut sum = 0;
     let mut n = 0;
     while n < count {
         let value = value_of(signed, sum::at(values, n));
-        let plan = journal::planned(code, n as u64, slot, family, number, value);
-        let new = plan.new;
+        let edit = Edit {
+            bundle: n as u64,
+            slot,
+            form,
+            value,
+        };
+        let loaded = bundle::load(code, n as u64);
+        let changed = immediate::change(loaded.halves, edit);
+        let new = changed.bundle;
         bundle::write(&mut code[16 * n..16 * n + 16], new);
-        sum = plus(sum, plan.answer as u64);
+        sum = plus(sum, changed.answer as u64);
         n += 1;
     }
     sum
+}
+
+// Slot 2, B1, of a bundle set to a value.
+fn branch(bundle: u64, to: i64) -> Edit {
+    let form = Form {
+        family: B,
+        number: 1,
+    };
+    let value = Operand::ImmI64(to);
+    Edit {
+        bundle,
+        slot: 2,
+        form,
+        value,
+    }
 }
 
 // The last of so many edits of an empty journal: slot 2, B1, of the first bundles set to 16.
@@ -45,7 +71,7 @@ fn filled(code: &mut [u8], records: u64) -> Edited {
     };
     let mut n = 0;
     while n < records {
-        last = journal::edit(code, last.journal, n, 2, 66, 1, Operand::ImmI64(16));
+        last = journal::edit(code, last.journal, branch(n, 16));
         n += 1;
     }
     last
@@ -58,7 +84,7 @@ pub extern "C" fn bench_edit(code: &mut [u8], standing: u64, times: u64) -> u64 
     let mut sum = 0;
     let mut left = times;
     while 0 < left {
-        last = journal::edit(code, last.journal, 63, 2, 66, 1, Operand::ImmI64(32));
+        last = journal::edit(code, last.journal, branch(63, 32));
         sum = plus(sum, last.answer as u64);
         last = journal::undo(code, last.journal);
         sum = plus(sum, last.answer as u64);

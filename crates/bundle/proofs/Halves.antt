@@ -1,16 +1,14 @@
 -- A bundle's number, its tag and slots, and its two halves say the same: each is the number cut at other bits.
 -- Assumes nothing.
-use mathlib.Core.Path.{_≡_, refl, sym, ap, ap₂, _∙_}
-use mathlib.Core.List.{List, [], _∷_}
+use mathlib.Core.Path.{_≡_, sym, ap, ap₂, _∙_}
+use mathlib.Core.List.{[], _∷_}
 use Prim.Native.Nat.{ℕ, _+_, _*_, _/_, _%_, _<_, _^_}
 use native.Mathlib.Nat.{div-one}
 use native.Mathlib.Omega.{arith}
 use lib.Dec.{lit≤}
-use lib.ListN.{getD}
-use Rattle.bits.specs.Part.{part, above}
+use Rattle.bits.specs.Part.{above}
 use Rattle.bits.proofs.Laws.{part-whole, part-part, part-join, part-top, above-low, above-within, above-high, above-lt}
 use Rattle.bundle.specs.Bundle.{tagOf, slotOf, slotsOf, joined, halvesOf, whole}
-use Rattle.bundle.specs.declared.half.Halves.{Halves}
 
 -- a tag and three slots that fit
 pub record Fitting (tag a b c : ℕ) : Type 0 where
@@ -69,8 +67,11 @@ pub whole-joined : (tag a b c : ℕ) → above 64 (tag + a * 2 ^ 5 + b % 2 ^ 18 
 whole-joined tag a b c = omega arith
 
 -- a half has the tag, both have the slots
-pub tag-of-halves : (n : ℕ) → part n 0 64 % 2 ^ 5 ≡ tagOf n
-tag-of-halves n = ap (λ (x : ℕ). x % 2 ^ 5) (sym (div-one (part n 0 64))) ∙ part-part n 0 64 0 5 (lit≤ tt)
+pub tag-of-halves : (low high : ℕ) → low % 2 ^ 5 ≡ tagOf (above 64 low high)
+tag-of-halves low high = omega arith
+
+pub tag-of-whole : (n : ℕ) → tagOf (whole (halvesOf n)) ≡ tagOf n
+tag-of-whole n = ap tagOf (part-join n 0 64 64) ∙ part-part n 0 128 0 5 (lit≤ tt)
 
 pub slots-of-whole : (n : ℕ) → slotsOf (whole (halvesOf n)) ≡ slotsOf n
 slots-of-whole n =

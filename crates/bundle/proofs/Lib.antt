@@ -3,5 +3,7 @@ pub mod Elements
 pub mod Halves
 pub mod Inverse
 pub mod Laws
+pub mod Loading
 pub mod Lies
+pub mod Seam
 pub mod Unique

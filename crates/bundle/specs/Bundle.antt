@@ -1,16 +1,20 @@
 -- Document 01's section "Bundles": finding, cutting and joining. Assumes nothing.
-use Prim.Native.Nat.{ℕ, _+_, _*_, _%_, _^_}
+use Prim.Native.Nat.{ℕ, _+_, _*_, _^_}
 use mathlib.Core.Bool.{Bool, _||_}
 use mathlib.Core.List.{List, [], _∷_, _++_}
 use lib.Dec.{ltb, leb}
 use lib.ListN.{length, getD, take, drop}
-use Rattle.answer.specs.Answer.{Refusal, first, outcome, accepted, exhaustedInput, badBundle, badWord, tooLong, noRoom}
+use Rattle.answer.specs.Answer.{Refusal, first, outcome, exhaustedInput, badBundle, badWord, tooLong, noRoom}
 use Rattle.bits.specs.Part.{part, above}
 use Rattle.bundle.specs.Bytes.{number, bytes}
-use Rattle.bundle.specs.Template.{none, unitsOf, reserved}
+use Rattle.bundle.specs.Template.{reserved, templateOf, noTemplate}
 use Rattle.bundle.specs.declared.Bundle.{Bundle}
-use Rattle.bundle.specs.declared.Seen.{Seen}
+use Rattle.bundle.specs.declared.Loaded.{Loaded}
 use Rattle.bundle.specs.declared.half.Halves.{Halves}
+
+-- how many bytes a code has at most
+abbrev pub longestCode : ℕ
+longestCode = 65536
 
 -- the sixteen bytes of bundle k
 abbrev pub bundleAt : List ℕ → ℕ → List ℕ
@@ -22,15 +26,15 @@ numberAt code k = number (bundleAt code k)
 
 -- when finding is refused
 abbrev pub findRefusals : List ℕ → ℕ → List Refusal
-findRefusals code k = (tooLong, ltb 65536 (length code)) ∷ (exhaustedInput, ltb (length code) (16 * k + 16)) ∷ []
+findRefusals code k = (tooLong, ltb longestCode (length code)) ∷ (exhaustedInput, ltb (length code) (16 * k + 16)) ∷ []
 
 -- what finding answers
-unfoldable pub foundOf : List ℕ → ℕ → ℕ
-foundOf code k = first (findRefusals code k)
+unfoldable pub findAnswer : List ℕ → ℕ → ℕ
+findAnswer code k = first (findRefusals code k)
 
 -- what finding hands back
 unfoldable pub findOf : List ℕ → ℕ → List ℕ
-findOf code k = outcome (foundOf code k) (bundleAt code k) []
+findOf code k = outcome (findAnswer code k) (bundleAt code k) []
 
 -- the tag of a bundle's number: bits 0 to 4
 abbrev pub tagOf : ℕ → ℕ
@@ -54,35 +58,30 @@ halvesOf n = record { low = part n 0 64; high = part n 64 64 }
 abbrev pub whole : Halves → ℕ
 whole h = above 64 (h .low) (h .high)
 
--- when cutting is refused
-abbrev pub cutRefusals : List ℕ → ℕ → List Refusal
-cutRefusals code k = findRefusals code k ++ (badBundle, reserved (tagOf (numberAt code k))) ∷ []
+-- what loading hands back: a bundle's halves, and those of 0 where none was found
+unfoldable pub loadedOf : List ℕ → ℕ → Loaded
+loadedOf code k = record { answer = findAnswer code k; halves = halvesOf (outcome (findAnswer code k) (numberAt code k) 0) }
 
--- a bundle whose number is n
-abbrev pub bundleOf : ℕ → Bundle
-bundleOf n = record { answer = accepted; tag = tagOf n; units = unitsOf (tagOf n); slots = slotsOf n }
+-- when a bundle is refused, by its number
+abbrev pub bundleRefusals : ℕ → List Refusal
+bundleRefusals n = (badBundle, reserved (tagOf n)) ∷ []
 
--- a refused cut
-abbrev pub refusedOf : ℕ → ℕ → Bundle
-refusedOf answer tag = record { answer = answer; tag = tag; units = none; slots = 0 ∷ 0 ∷ 0 ∷ [] }
+-- a bundle cut, by its number; the slots of a refused one are zeros
+unfoldable pub cutNumber : ℕ → Bundle
+cutNumber n =
+    let answer = first (bundleRefusals n) in
+    record { answer = answer; template = templateOf (tagOf n); slots = slotsOf (outcome answer n 0) }
 
--- what cutting hands back; of a reserved bundle the tag too
+-- what is cut where no bundle was found
+abbrev pub uncut : ℕ → Bundle
+uncut answer = record { answer = answer; template = noTemplate; slots = slotsOf 0 }
+
+-- what cutting hands back
+abbrev pub cutLoaded : Loaded → Bundle
+cutLoaded loaded = outcome (loaded .answer) (cutNumber (whole (loaded .halves))) (uncut (loaded .answer))
+
 unfoldable pub cutOf : List ℕ → ℕ → Bundle
-cutOf code k =
-    let answer = first (cutRefusals code k) in
-    outcome answer (bundleOf (numberAt code k)) (refusedOf answer (outcome (foundOf code k) (tagOf (numberAt code k)) 0))
-
--- a refused look
-abbrev pub unseenOf : ℕ → ℕ → Seen
-unseenOf answer tag = record { answer = answer; tag = tag; units = none; halves = halvesOf 0 }
-
--- a cut bundle with the halves of its number in place of its slots, and of 0 where it was refused
-abbrev pub seenOf : Bundle → ℕ → Seen
-seenOf cut n = record { answer = cut .answer; tag = cut .tag; units = cut .units; halves = halvesOf (outcome (cut .answer) n 0) }
-
--- what a look hands back: what cutting does, with the bundle's halves in place of its slots
-unfoldable pub lookOf : List ℕ → ℕ → Seen
-lookOf code k = seenOf (cutOf code k) (numberAt code k)
+cutOf code k = cutLoaded (loadedOf code k)
 
 -- an answer, and what the output then holds
 pub record Joined : Type 0 where

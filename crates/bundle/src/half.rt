@@ -1,7 +1,10 @@
-// A bundle's sixteen bytes as two 64-bit halves: loaded, written, taken apart and put together.
+// A bundle's sixteen bytes as two 64-bit halves: read, written, taken apart and put together. What lies across the seam at
+// bit 64 is known here alone.
 ghost use mathlib.Core.Path.{_≡_};
-ghost use Prim.Native.Nat.{_<_, _^_};
+ghost use Prim.Native.Nat.{_+_, _≤_, _<_, _^_};
 ghost use lib.ListN.{length, getD};
+ghost use Rattle.bits.specs.Part.{part};
+ghost use Rattle.bits.specs.Part.{put as Part·put};
 ghost use Rattle.bundle.specs.Bytes.{number, bytes};
 ghost use Rattle.bundle.specs.Bundle.{whole, halvesOf, slotsOf, joined};
 
@@ -15,8 +18,8 @@ pub fn read(bundle: &[u8]) -> Halves
     requires { ⌜ length (now bundle) ≡ 16 ⌝ }
     ensures { λ r. ⌜ r ≡ halvesOf (number (now (bundle .entry))) ⌝ }
 {
-    let low = load(&bundle[..8]);
-    let high = load(&bundle[8..]);
+    let low = load_half(&bundle[..8]);
+    let high = load_half(&bundle[8..]);
     Halves { low, high }
 }
 
@@ -26,7 +29,7 @@ fn wide(byte: u8) -> u64
     byte as u64
 }
 
-fn load(half: &[u8]) -> u64
+fn load_half(half: &[u8]) -> u64
     requires { ⌜ length (now half) ≡ 8 ⌝ }
     ensures { λ r. ⌜ r ≡ number (now (half .entry)) ⌝ }
 {
@@ -40,7 +43,7 @@ fn load(half: &[u8]) -> u64
         + (wide(half[7]) << 56)
 }
 
-fn store(half: &mut [u8], word: u64)
+fn store_half(half: &mut [u8], word: u64)
     requires { ⌜ length (now half) ≡ 8 ⌝ }
     ensures { λ _. ⌜ now (half .exit) ≡ bytes 8 word ⌝ }
 {
@@ -59,8 +62,8 @@ pub fn write(bundle: &mut [u8], halves: Halves)
     requires { ⌜ length (now bundle) ≡ 16 ⌝ }
     ensures { λ _. ⌜ now (bundle .exit) ≡ bytes 16 (whole halves) ⌝ }
 {
-    store(&mut bundle[..8], halves.low);
-    store(&mut bundle[8..], halves.high);
+    store_half(&mut bundle[..8], halves.low);
+    store_half(&mut bundle[8..], halves.high);
 }
 
 // The three slots.
@@ -85,5 +88,41 @@ pub fn pack(tag: u64, slots: [u64; 3]) -> Halves
     Halves {
         low: tag + (slots[0] << 5) + (middle % (1 << 18) << 46),
         high: (middle >> 18) + (slots[2] << 23),
+    }
+}
+
+// The 64 bits of a bundle from a place on, across the seam where they lie there.
+pub fn bits_from(halves: Halves, place: u32) -> u64
+    requires { ⌜ (0 < place) × (place < 128) ⌝ }
+    ensures { λ r. ⌜ r ≡ part (whole halves) place 64 ⌝ }
+{
+    if 64 <= place {
+        halves.high >> (place - 64)
+    } else {
+        (halves.low >> place) + (halves.high << (64 - place))
+    }
+}
+
+// The bundle with a value in a part of it.
+pub fn put(halves: Halves, place: u32, width: u32, value: u64) -> Halves
+    requires { ⌜ (place < 128) × (width < 64) × (place + width ≤ 128) ⌝ }
+    ensures { λ r. ⌜ whole r ≡ Part·put (whole halves) place width value ⌝ }
+{
+    let low = halves.low;
+    let high = halves.high;
+    if 64 <= place {
+        let put = bits::put(high, place - 64, width, value);
+        return Halves { low, high: put };
+    }
+    if place + width <= 64 {
+        let put = bits::put(low, place, width, value);
+        return Halves { low: put, high };
+    }
+    let below = 64 - place;
+    let first = bits::put(low, place, below, value);
+    let second = bits::put(high, 0, width - below, value >> below);
+    Halves {
+        low: first,
+        high: second,
     }
 }

@@ -1,22 +1,28 @@
-// Itanium bundles: sixteen bytes are a tag and three slots of 41 bits. Found, cut and joined.
+// Itanium bundles: sixteen bytes are a tag and three slots of 41 bits. Found, loaded, cut and joined.
 mod half;
 mod template;
 
 pub use half::Halves;
+pub use half::bits_from;
+pub use half::put;
 pub use half::read;
 pub use half::write;
+pub use template::Template;
+pub use template::template_of;
+pub use template::unitless;
 ghost use mathlib.Core.Path.{_≡_};
 ghost use Rattle.answer.specs.Answer.{accepted, first};
-ghost use Rattle.bundle.specs.Bundle.{bundleAt, foundOf, findOf, unseenOf, lookOf, cutOf, joinRefusals, joinOf, Joined};
+ghost use Rattle.bundle.specs.Bundle.{bundleAt, findAnswer, findOf, whole, loadedOf, cutNumber, cutOf, joinRefusals, joinOf, Joined};
 use answer::ACCEPTED;
 use answer::BAD_BUNDLE;
 use answer::BAD_WORD;
 use answer::EXHAUSTED_INPUT;
 use answer::NO_ROOM;
 use answer::TOO_LONG;
+use template::NO_TEMPLATE;
 
-// The longest code.
-pub const MOST: usize = 65536;
+// How many bytes a code has at most.
+pub const LONGEST_CODE: usize = 65536;
 
 const WORD: u64 = 1 << 41;
 
@@ -24,7 +30,7 @@ const WORD: u64 = 1 << 41;
 pub fn find(code: &[u8], bundle: u64) -> &[u8]
     ensures { λ r. ⌜ now r ≡ findOf (now (code .entry)) bundle ⌝ }
 {
-    if found(code, bundle) == ACCEPTED {
+    if find_answer(code, bundle) == ACCEPTED {
         sixteen(code, bundle)
     } else {
         &code[..0]
@@ -33,7 +39,7 @@ pub fn find(code: &[u8], bundle: u64) -> &[u8]
 
 // The sixteen bytes of a bundle that was found.
 fn sixteen(code: &[u8], bundle: u64) -> &[u8]
-    requires { ⌜ foundOf (now code) bundle ≡ accepted ⌝ }
+    requires { ⌜ findAnswer (now code) bundle ≡ accepted ⌝ }
     ensures { λ r. ⌜ now r ≡ bundleAt (now (code .entry)) bundle ⌝ }
 {
     let at = bundle as usize * 16;
@@ -41,10 +47,10 @@ fn sixteen(code: &[u8], bundle: u64) -> &[u8]
 }
 
 // What finding answers.
-pub fn found(code: &[u8], bundle: u64) -> u8
-    ensures { λ r. ⌜ r ≡ foundOf (now (code .entry)) bundle ⌝ }
+pub fn find_answer(code: &[u8], bundle: u64) -> u8
+    ensures { λ r. ⌜ r ≡ findAnswer (now (code .entry)) bundle ⌝ }
 {
-    if MOST < code.len() {
+    if LONGEST_CODE < code.len() {
         return TOO_LONG;
     }
     if (code.len() / 16) as u64 <= bundle {
@@ -53,65 +59,62 @@ pub fn found(code: &[u8], bundle: u64) -> u8
     ACCEPTED
 }
 
-pub struct Seen {
+pub struct Loaded {
     pub answer: u8,
-    pub tag: u8,
-    pub units: [u8; 3],
     pub halves: Halves,
 }
 
-fn unseen(answer: u8, tag: u8) -> Seen
-    ensures { λ r. ⌜ r ≡ unseenOf answer tag ⌝ }
+// A bundle's halves, zeros where refused.
+pub fn load(code: &[u8], bundle: u64) -> Loaded
+    ensures { λ r. ⌜ r ≡ loadedOf (now (code .entry)) bundle ⌝ }
 {
-    let halves = Halves { low: 0, high: 0 };
-    Seen {
-        answer,
-        tag,
-        units: [0; 3],
-        halves,
-    }
-}
-
-// A bundle's tag, units and halves.
-pub fn look(code: &[u8], bundle: u64) -> Seen
-    ensures { λ r. ⌜ r ≡ lookOf (now (code .entry)) bundle ⌝ }
-{
-    let answer = found(code, bundle);
+    let answer = find_answer(code, bundle);
     if answer != ACCEPTED {
-        return unseen(answer, 0);
+        let halves = Halves { low: 0, high: 0 };
+        return Loaded { answer, halves };
     }
-    let halves = half::read(sixteen(code, bundle));
-    let tag = (halves.low % 32) as u8;
-    let units = template::units(tag as usize);
-    if units[0] == 0 {
-        return unseen(BAD_BUNDLE, tag);
-    }
-    Seen {
-        answer,
-        tag,
-        units,
-        halves,
-    }
+    let halves = read(sixteen(code, bundle));
+    Loaded { answer, halves }
 }
 
 pub struct Bundle {
     pub answer: u8,
-    pub tag: u8,
-    pub units: [u8; 3],
+    pub template: Template,
     pub slots: [u64; 3],
 }
 
-// A bundle's tag, units and slots. Halves of zeros, where refused, are slots of zeros.
+// A bundle's template and slots.
 pub fn cut(code: &[u8], bundle: u64) -> Bundle
     ensures { λ r. ⌜ r ≡ cutOf (now (code .entry)) bundle ⌝ }
 {
-    let seen = look(code, bundle);
-    let units = seen.units;
-    let slots = half::slots(seen.halves);
+    let loaded = load(code, bundle);
+    let answer = loaded.answer;
+    if answer != ACCEPTED {
+        return Bundle {
+            answer,
+            template: NO_TEMPLATE,
+            slots: [0; 3],
+        };
+    }
+    cut_halves(loaded.halves)
+}
+
+fn cut_halves(halves: Halves) -> Bundle
+    ensures { λ r. ⌜ r ≡ cutNumber (whole halves) ⌝ }
+{
+    let template = template_of(halves);
+    let units = template.units;
+    if unitless(units) {
+        return Bundle {
+            answer: BAD_BUNDLE,
+            template,
+            slots: [0; 3],
+        };
+    }
+    let slots = half::slots(halves);
     Bundle {
-        answer: seen.answer,
-        tag: seen.tag,
-        units,
+        answer: ACCEPTED,
+        template,
         slots,
     }
 }
@@ -123,8 +126,7 @@ fn joinable(tag: u64, slots: [u64; 3], room: usize) -> u8
     if 31 < tag || WORD <= slots[0] || WORD <= slots[1] || WORD <= slots[2] {
         return BAD_WORD;
     }
-    let units = template::units(tag as usize);
-    if units[0] == 0 {
+    if unitless(template::units(tag as usize)) {
         return BAD_BUNDLE;
     }
     if room < 16 {

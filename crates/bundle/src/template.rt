@@ -1,7 +1,32 @@
-// The units of a bundle's slots by its tag, as letters; zeros for a reserved tag.
+// A bundle's template, by its tag: the units of its slots, as letters; zeros for a reserved tag.
 ghost use mathlib.Core.Path.{_≡_};
 ghost use Prim.Native.Nat.{_<_};
-ghost use Rattle.bundle.specs.Template.{unitsOf};
+ghost use Rattle.bundle.specs.Bundle.{tagOf, whole};
+ghost use Rattle.bundle.specs.Template.{unitsOf, templateOf};
+ghost use Rattle.bundle.specs.Template.{unitless as Template·unitless};
+use crate::half::Halves;
+
+pub struct Template {
+    pub tag: u8,
+    pub units: [u8; 3],
+}
+
+pub const NO_TEMPLATE: Template = Template {
+    tag: 0,
+    units: [0; 3],
+};
+
+// The template of a bundle.
+pub fn template_of(halves: Halves) -> Template
+    ensures { λ r. ⌜ r ≡ templateOf (tagOf (whole halves)) ⌝ }
+{
+    let tag = halves.low % 32;
+    let units = units(tag as usize);
+    Template {
+        tag: tag as u8,
+        units,
+    }
+}
 
 pub fn units(tag: usize) -> [u8; 3]
     requires { ⌜ tag < 32 ⌝ }
@@ -22,4 +47,11 @@ pub fn units(tag: usize) -> [u8; 3]
         14 => [b'M', b'F', b'B'],
         _ => [0; 3],
     }
+}
+
+// Whether they are those of a reserved tag.
+pub fn unitless(units: [u8; 3]) -> bool
+    ensures { λ r. ⌜ r ≡ Template·unitless units ⌝ }
+{
+    units[0] == 0
 }

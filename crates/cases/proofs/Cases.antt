@@ -10,16 +10,18 @@ use Rattle.answer.specs.Answer.{accepted, badForm}
 use Rattle.bits.specs.Parts.{gather}
 use Rattle.bundle.specs.Bytes.{number, bytes}
 use Rattle.bundle.specs.Template.{unitsOf}
-use Rattle.bundle.specs.Bundle.{joined}
-use Rattle.operand.specs.Reading.{listed, caseOf}
+use Rattle.bundle.specs.Bundle.{joined, findAnswer}
+use Rattle.operand.specs.Reading.{listed, positionOf}
 use Rattle.operand.specs.declared.Operand.{Operand}
 use Rattle.operand.specs.declared.Operand.the-variants.{None, GPRegister, FloatRegister, ImmI64, ImmU64, Memory}
 use Rattle.operand.specs.declared.Reading.{Reading}
-use Rattle.readers.specs.Call.{operandsOf, isForm, isBad}
-use Rattle.immediate.specs.Row.{Form, a, b, m, x, lines, rowsOf, rowOf}
-use Rattle.immediate.specs.Immediate.{immediateOf, targetOf}
-use Rattle.immediate.specs.declared.Value.{Value}
-use Rattle.immediate.specs.declared.Place.{Place}
+use Rattle.form.specs.Form.{a, b, m, x, isForm}
+use Rattle.form.specs.declared.Form.{Form}
+use Rattle.readers.specs.Call.{operandsOf, isBad}
+use Rattle.row.specs.Row.{lines, rowOf}
+use Rattle.immediate.specs.Immediate.{immediateIn, immediateOf, targetIn, targetOf}
+use Rattle.immediate.specs.declared.outcome.Immediate.{Immediate}
+use Rattle.immediate.specs.declared.outcome.Target.{Target}
 
 abbrev each : {A B : Type 0} → (A → B) → List A → List B
 each f [] = []
@@ -28,7 +30,7 @@ each f (c ∷ cs) = f c ∷ each f cs
 -- what 000 shows, and what the manual reads
 pub record Case : Type 0 where
   pub shown : Reading
-  pub read : Value
+  pub read : Immediate
 
 -- a bundle that has the word in slots 0 and 2, and L in slot 1
 abbrev bundle : ℕ → ℕ → ℕ → List ℕ
@@ -36,7 +38,7 @@ bundle tag word l = bytes 16 (joined tag (word ∷ l ∷ word ∷ []))
 
 abbrev at : ℕ → ℕ → Form → ℕ → ℕ → Case
 at tag slot form word l =
-    record { shown = operandsOf (form .0) (form .1) word l .reading; read = immediateOf (bundle tag word l) 0 slot (form .0) (form .1) }
+    record { shown = operandsOf form word l .reading; read = immediateOf (bundle tag word l) 0 slot form }
 
 -- in slot 2 of an MII, an MIB and an MLX, and in slot 0 of an MMI
 abbrev inI : Form → ℕ → Case
@@ -53,10 +55,10 @@ inM form word = at 8 0 form word 0
 
 -- operands and values
 abbrev writes : List Operand → Reading
-writes = listed (caseOf (some 0))
+writes = listed (positionOf (some 0))
 
 abbrev shows : List Operand → Reading
-shows = listed (caseOf none)
+shows = listed (positionOf none)
 
 abbrev r0 : Operand
 r0 = GPRegister (record { 0 = 0 })
@@ -102,9 +104,9 @@ stated =
     ∷ []
 
 -- the displacement 32 is B1's with 2 in bits 13 to 32
-abbrev pub wrapped : Place
-wrapped = targetOf (bundle 16 (2 ^ 14) 0) 0 2 66 1 (2 ^ 64 - 16)
+abbrev pub wrapped : Target
+wrapped = targetOf (bundle 16 (2 ^ 14) 0) 0 2 (b 1) (2 ^ 64 - 16)
 
-pub cases : _≡_ {A = List Case × Place} (each (λ c. c .0) stated, wrapped) (each (λ c. c .1) stated, record { answer = accepted; address = 16 })
-unfolding operandsOf isForm isBad immediateOf targetOf rowOf rowsOf lines unitsOf number bytes gather
+pub cases : _≡_ {A = List Case × Target} (each (λ c. c .0) stated, wrapped) (each (λ c. c .1) stated, record { answer = accepted; address = 16 })
+unfolding operandsOf isForm isBad findAnswer immediateOf immediateIn targetOf targetIn rowOf lines unitsOf number bytes gather
 cases = refl

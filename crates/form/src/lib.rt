@@ -1,68 +1,48 @@
-// 000's `two_op` .. `four_op`, and its pair of five, where one operand is an `ImmI64`: the second in `_imm2`, and so on.
+// An instruction's form, as A4 or X2, and an edit: another value for the immediate of a form in a slot.
 ghost use mathlib.Core.Path.{_≡_};
-ghost use mathlib.Core.List.{[], _∷_};
-ghost use Rattle.operand.specs.Reading.{listed};
-ghost use Rattle.form.specs.Field.{immediate, Small};
+ghost use Rattle.form.specs.Form.{isForm, lastOf};
 use operand::Operand;
-use operand::Position;
-use operand::Reading;
 
-// An immediate with a sign: the number of the bits below the sign, and what the sign counts, which is taken from it.
-pub struct Signed(pub u64, pub u64);
+// A family is its letter's byte.
+pub const A: u64 = b'A' as u64;
 
-fn operand_of(s: Signed) -> Operand
-    requires { ⌜ Small s ⌝ }
-    ensures { λ r. ⌜ r ≡ immediate s ⌝ }
-{
-    let value = s.0 as i64 - s.1 as i64;
-    Operand::ImmI64(value)
+pub const B: u64 = b'B' as u64;
+
+pub const F: u64 = b'F' as u64;
+
+pub const M: u64 = b'M' as u64;
+
+pub const X: u64 = b'X' as u64;
+
+pub struct Form {
+    pub family: u64,
+    pub number: u64,
 }
 
-pub fn two_op_imm2(dest: Position, op1: Operand, s: Signed) -> Reading
-    requires { ⌜ Small s ⌝ }
-    ensures { λ r. ⌜ r ≡ listed dest (op1 ∷ immediate s ∷ []) ⌝ }
-{
-    operand::two_op(dest, op1, operand_of(s))
+pub struct Edit {
+    pub bundle: u64,
+    pub slot: u64,
+    pub form: Form,
+    pub value: Operand,
 }
 
-pub fn three_op_imm2(dest: Position, op1: Operand, s: Signed, op3: Operand) -> Reading
-    requires { ⌜ Small s ⌝ }
-    ensures { λ r. ⌜ r ≡ listed dest (op1 ∷ immediate s ∷ op3 ∷ []) ⌝ }
+pub fn is_form(form: Form) -> bool
+    ensures { λ r. ⌜ r ≡ isForm form ⌝ }
 {
-    operand::three_op(dest, op1, operand_of(s), op3)
+    let number = form.number;
+    let last = last_of(form.family);
+    0 < number && number <= last
 }
 
-pub fn three_op_imm3(dest: Position, op1: Operand, op2: Operand, s: Signed) -> Reading
-    requires { ⌜ Small s ⌝ }
-    ensures { λ r. ⌜ r ≡ listed dest (op1 ∷ op2 ∷ immediate s ∷ []) ⌝ }
+fn last_of(family: u64) -> u64
+    ensures { λ r. ⌜ r ≡ lastOf family ⌝ }
 {
-    operand::three_op(dest, op1, op2, operand_of(s))
-}
-
-pub fn four_op_imm1(dest: Position, s: Signed, op2: Operand, op3: Operand, op4: Operand) -> Reading
-    requires { ⌜ Small s ⌝ }
-    ensures { λ r. ⌜ r ≡ listed dest (immediate s ∷ op2 ∷ op3 ∷ op4 ∷ []) ⌝ }
-{
-    operand::four_op(dest, operand_of(s), op2, op3, op4)
-}
-
-pub fn four_op_imm3(dest: Position, op1: Operand, op2: Operand, s: Signed, op4: Operand) -> Reading
-    requires { ⌜ Small s ⌝ }
-    ensures { λ r. ⌜ r ≡ listed dest (op1 ∷ op2 ∷ immediate s ∷ op4 ∷ []) ⌝ }
-{
-    operand::four_op(dest, op1, op2, operand_of(s), op4)
-}
-
-pub fn five_op_imm2(
-    dest: Position,
-    op1: Operand,
-    s: Signed,
-    op3: Operand,
-    op4: Operand,
-    op5: Operand,
-) -> Reading
-    requires { ⌜ Small s ⌝ }
-    ensures { λ r. ⌜ r ≡ listed dest (op1 ∷ immediate s ∷ op3 ∷ op4 ∷ op5 ∷ []) ⌝ }
-{
-    operand::five_op(dest, op1, operand_of(s), op3, op4, op5)
+    match family {
+        A => 10,
+        B => 9,
+        F => 16,
+        M => 48,
+        X => 5,
+        _ => 0,
+    }
 }

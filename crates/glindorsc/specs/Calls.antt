@@ -7,6 +7,7 @@ use lib.ListN.{length, drop}
 use Rattle.answer.specs.Answer.{noRoom}
 use Rattle.bundle.specs.Bundle.{cutOf}
 use Rattle.bundle.specs.declared.Bundle.{Bundle}
+use Rattle.form.specs.declared.Form.{Form}
 use Rattle.operand.specs.Kind.{ofI64, ofU64}
 use Rattle.operand.specs.Pattern.{patternOf}
 use Rattle.operand.specs.declared.Operand.{Operand}
@@ -19,7 +20,7 @@ pub record Filled : Type 0 where
 
 -- a cut bundle's seven numbers: the tag, the units, the slots
 abbrev pub numbersOf : Bundle → List ℕ
-numbersOf b = b .tag ∷ (b .units ++ b .slots)
+numbersOf b = b .template .tag ∷ (b .template .units ++ b .slots)
 
 -- a cut, refused or not, fills the first seven places of the output; an output of fewer places is refused and kept
 unfoldable pub cutCall : List ℕ → ℕ → List ℕ → Filled
@@ -36,12 +37,12 @@ pub record Answered : Type 0 where
 abbrev pub patternIn : Operand → ℕ
 patternIn o = ofI64 o patternOf (ofU64 o (λ v. v) 0)
 
-unfoldable pub immediateCall : List ℕ → ℕ → ℕ → ℕ → ℕ → Answered
-immediateCall code k slot family number =
-    let read = immediateOf code k slot family number in
+unfoldable pub immediateCall : List ℕ → ℕ → ℕ → Form → Answered
+immediateCall code k slot form =
+    let read = immediateOf code k slot form in
     record { answer = read .answer; number = patternIn (read .value) }
 
-unfoldable pub targetCall : List ℕ → ℕ → ℕ → ℕ → ℕ → ℕ → Answered
-targetCall code k slot family number address =
-    let place = targetOf code k slot family number address in
-    record { answer = place .answer; number = place .address }
+unfoldable pub targetCall : List ℕ → ℕ → ℕ → Form → ℕ → Answered
+targetCall code k slot form address =
+    let reached = targetOf code k slot form address in
+    record { answer = reached .answer; number = reached .address }

@@ -2,6 +2,7 @@
 ghost use mathlib.Core.Path.{_≡_};
 ghost use Rattle.glindorsc.specs.Calls.{Answered, Filled, patternIn, cutCall, immediateCall, targetCall};
 use answer::NO_ROOM;
+use form::Form;
 use operand::Operand;
 
 // Cuts a bundle. The output's first seven numbers become the tag, the three units and the three slots; an output
@@ -14,9 +15,9 @@ pub extern "C" fn glindorsc_cut(code: &[u8], bundle: u64, out: &mut [u64]) -> u8
         return NO_ROOM;
     }
     let cut = bundle::cut(code, bundle);
-    let units = cut.units;
+    let units = cut.template.units;
     let slots = cut.slots;
-    out[0] = cut.tag as u64;
+    out[0] = cut.template.tag as u64;
     out[1] = wide(units[0]);
     out[2] = wide(units[1]);
     out[3] = wide(units[2]);
@@ -42,9 +43,9 @@ pub extern "C" fn glindorsc_immediate(
     number: u64,
     value: &mut u64,
 ) -> u8
-    ensures { λ r. ⌜ _≡_ {A = Answered} (record { answer = r; number = now (value .exit) }) (immediateCall (now (code .entry)) bundle slot family number) ⌝ }
+    ensures { λ r. ⌜ _≡_ {A = Answered} (record { answer = r; number = now (value .exit) }) (immediateCall (now (code .entry)) bundle slot (record { family = family; number = number })) ⌝ }
 {
-    let read = immediate::immediate(code, bundle, slot, family, number);
+    let read = immediate::immediate(code, bundle, slot, Form { family, number });
     let operand = read.value;
     *value = pattern_in(operand);
     read.answer
@@ -72,9 +73,9 @@ pub extern "C" fn glindorsc_target(
     address: u64,
     target: &mut u64,
 ) -> u8
-    ensures { λ r. ⌜ _≡_ {A = Answered} (record { answer = r; number = now (target .exit) }) (targetCall (now (code .entry)) bundle slot family number address) ⌝ }
+    ensures { λ r. ⌜ _≡_ {A = Answered} (record { answer = r; number = now (target .exit) }) (targetCall (now (code .entry)) bundle slot (record { family = family; number = number }) address) ⌝ }
 {
-    let place = immediate::target(code, bundle, slot, family, number, address);
-    *target = place.address;
-    place.answer
+    let reached = immediate::target(code, bundle, slot, Form { family, number }, address);
+    *target = reached.address;
+    reached.answer
 }

@@ -1,92 +1,94 @@
--- What opening a bundle comes to, case by case: the list of refusals goes on after those of the cut. Assumes nothing.
+-- When a form's row is read or changed in a slot of a bundle: none of the refusals applies, so the row is sound there. Assumes nothing.
 use mathlib.Core.Path.{_≡_, refl, sym, ap, _∙_}
-use mathlib.Core.Bool.{true, false, cond, not, _||_}
-use mathlib.Core.List.{List, [], _∷_}
-use Prim.Native.Nat.{ℕ, _<_, suc-le-suc}
-use borrow.Author.Tests.{ltb-false, not-false}
-use lib.Dec.{T, ltb}
-use Rattle.answer.specs.Answer.{Refusal, accepted, badForm, badSlot, first}
+use mathlib.Core.Bool.{true, false, not, _||_}
+use mathlib.Core.List.{List}
+use Prim.Native.Nat.{ℕ, _<_, _^_, suc-le-suc}
+use borrow.Author.Tests.{ltb-false, not-false, eqb-true, eq-eqb, ne-eqb}
+use lib.Dec.{T, ltb, eqb}
+use Rattle.answer.specs.Answer.{Refusal, accepted, badValue, first}
 use Rattle.answer.proofs.Laws.{none-applies, first-on, first-stop, accepts, refuses, answered}
-use Rattle.bundle.specs.Bundle.{numberAt, cutRefusals, halvesOf, whole}
-use Rattle.bundle.proofs.Bytes.{Bytes}
-use Rattle.bundle.proofs.Halves.{whole-halves}
-use Rattle.bundle.proofs.Laws.{or-false, cut-found, number-at-lt}
-use Rattle.immediate.specs.Immediate.{Sound, isNone, fits, unitAt, openRefusals, closedOf, openedOf}
-use Rattle.immediate.specs.declared.opening.Opened.{Opened}
-use Rattle.immediate.specs.declared.row.Row.{Row}
-use Rattle.immediate.proofs.Rows.{good, sound}
+use Rattle.bits.specs.Part.{bit}
+use Rattle.bits.specs.Parts.{apartFrom}
+use Rattle.bundle.specs.Bundle.{bundleRefusals, halvesOf}
+use Rattle.bundle.proofs.Laws.{or-false}
+use Rattle.form.specs.declared.Form.{Form}
+use Rattle.form.specs.declared.Edit.{Edit}
+use Rattle.row.specs.Row.{isNone, rowOf}
+use Rattle.row.specs.Meaning.{Is}
+use Rattle.immediate.specs.Sound.{Sound}
+use Rattle.immediate.specs.Immediate.{fits, unitAt, readRefusals, rawFor, valueRefusals, changeRefusals, valueIn, partsOf, changedNumber, noChange, changedOf}
+use Rattle.row.specs.declared.Row.{Row}
+use Rattle.immediate.specs.declared.outcome.Changed.{Changed}
+use Rattle.row.proofs.Rows.{good, row-good}
+use Rattle.immediate.proofs.Sound.{sound}
+use Rattle.immediate.proofs.Written.{read-written, written-lt, bit-kept}
 
-module _ (code : List ℕ) (k slot family : ℕ) (row : Row) where
-  after : List Refusal
-  after = (badForm, isNone row) ∷ (badSlot, ltb 2 slot || not (fits family (unitAt code k slot))) ∷ []
-
-  -- what opening answers
-  pub open-refused : (first (openRefusals code k slot family row) ≡ accepted → ⊥) → openedOf code k slot family row ≡ closedOf (first (openRefusals code k slot family row))
-  unfolding openedOf
-  open-refused d = refuses (first (openRefusals code k slot family row)) _ _ d
-
-  pub open-done : first (openRefusals code k slot family row) ≡ accepted → openedOf code k slot family row ≡ record { answer = accepted; halves = halvesOf (numberAt code k) }
-  unfolding openedOf
-  open-done e = accepts (first (openRefusals code k slot family row)) _ _ e
-
-  pub closed-by : (a : ℕ) → first (openRefusals code k slot family row) ≡ a → (a ≡ accepted → ⊥) → closedOf a ≡ openedOf code k slot family row
-  closed-by a e d = ap closedOf (sym e) ∙ sym (open-refused (λ q. d (sym e ∙ q)))
-
-  -- the refusals after the cut's
-  pub open-not-cut : (first (cutRefusals code k) ≡ accepted → ⊥) → first (openRefusals code k slot family row) ≡ first (cutRefusals code k)
-  unfolding after
-  open-not-cut d = first-stop (cutRefusals code k) after d
-
-  pub open-cut : first (cutRefusals code k) ≡ accepted
-      → first (openRefusals code k slot family row) ≡ cond (isNone row) badForm (cond (ltb 2 slot || not (fits family (unitAt code k slot))) badSlot accepted)
-  unfolding after
-  open-cut e = first-on (cutRefusals code k) after tt e
-
-  pub open-answer : openedOf code k slot family row .answer ≡ first (openRefusals code k slot family row)
-  unfolding openedOf
-  open-answer =
-      answered (λ (o : Opened). o .answer) (first (openRefusals code k slot family row)) (record { answer = accepted; halves = halvesOf (numberAt code k) }) _ refl refl
-
--- an opened bundle was cut, the row is one, and the form fits the slot
-pub record Open (code : List ℕ) (k slot family : ℕ) (row : Row) : Type 0 where
-  pub cut : first (cutRefusals code k) ≡ accepted
+-- the row is one, and the form fits the slot
+pub record Stands (n slot : ℕ) (form : Form) (row : Row) : Type 0 where
+  pub cut : first (bundleRefusals n) ≡ accepted
   pub some : isNone row ≡ false
   pub in-bundle : slot < 3
-  pub fit : fits family (unitAt code k slot) ≡ true
+  pub fit : fits form (unitAt n slot) ≡ true
 
-pub opened : (code : List ℕ) (k slot family : ℕ) (row : Row) → first (openRefusals code k slot family row) ≡ accepted → Open code k slot family row
-opened code k slot family row e =
-    let n = none-applies (openRefusals code k slot family row) tt e in
-    let s = or-false (ltb 2 slot) (not (fits family (unitAt code k slot))) (n .1 .1 .1 .1 .0) in
-    record {
-      cut = rw (n .0, n .1 .0, n .1 .1 .0);
-      some = n .1 .1 .1 .0;
-      in-bundle = suc-le-suc (ltb-false 2 slot (s .0));
-      fit = not-false _ (s .1);
-    }
+pub stands : (n slot : ℕ) (form : Form) (row : Row) → first (readRefusals n slot form row) ≡ accepted → Stands n slot form row
+stands n slot form row e =
+    let none = none-applies (readRefusals n slot form row) tt e in
+    let s = or-false (ltb 2 slot) (not (fits form (unitAt n slot))) (none .1 .1 .0) in
+    record { cut = rw (none .0); some = none .1 .0; in-bundle = suc-le-suc (ltb-false 2 slot (s .0)); fit = not-false _ (s .1) }
 
-pub open-sound : (code : List ℕ) (k slot family : ℕ) (row : Row) → T (good family row) → first (openRefusals code k slot family row) ≡ accepted → Sound slot row
-open-sound code k slot family row g e =
-    let o = opened code k slot family row e in
-    sound family row g (o .some) code k slot (o .in-bundle) (o .fit)
+pub read-sound : (n slot : ℕ) (form : Form) (row : Row) → T (good (form .family) row) → first (readRefusals n slot form row) ≡ accepted → Sound slot row
+read-sound n slot form row g e = let s = stands n slot form row e in sound form row g (s .some) n slot (s .in-bundle) (s .fit)
 
--- the bundle that was opened
-pub open-whole : (code : List ℕ) (k slot family : ℕ) (row : Row) → first (openRefusals code k slot family row) ≡ accepted → Bytes code → whole (openedOf code k slot family row .halves) ≡ numberAt code k
-open-whole code k slot family row e b = ap (λ (o : Opened). whole (o .halves)) (open-done code k slot family row e) ∙ whole-halves (numberAt code k) (number-at-lt code k (cut-found code k (opened code k slot family row e .cut)) b)
+-- what changing a bundle comes to, case by case
+module _ (n : ℕ) (e : Edit) where
+  abbrev row : Row
+  row = rowOf (e .form)
 
--- what was opened for a good row: its answer, and where it accepts, a sound row and the bundle's number
-pub record Opening (code : List ℕ) (k slot family : ℕ) (row : Row) (o : Opened) : Type 0 where
-  pub answer : o .answer ≡ first (openRefusals code k slot family row)
-  pub sound : o .answer ≡ accepted → Sound slot row
-  pub number : o .answer ≡ accepted → whole (o .halves) ≡ numberAt code k
+  abbrev reading : List Refusal
+  reading = readRefusals n (e .slot) (e .form) row
 
-pub opening : (code : List ℕ) (k slot family : ℕ) {row r : Row} {o : Opened} → T (good family row) → Bytes code → r ≡ row → o ≡ openedOf code k slot family r
-    → Opening code k slot family row o
-opening code k slot family {row} {r} {o} g b e f =
-    let is = f ∙ ap (openedOf code k slot family) e in
-    let says = ap (λ (x : Opened). x .answer) is ∙ open-answer code k slot family row in
-    record {
-      answer = says;
-      sound = λ a. open-sound code k slot family row g (sym says ∙ a);
-      number = λ a. ap (λ (x : Opened). whole (x .halves)) is ∙ open-whole code k slot family row (sym says ∙ a) b;
-    }
+  pub unchanged-by : (a : ℕ) → first (changeRefusals n e) ≡ a → (a ≡ accepted → ⊥) → noChange a ≡ changedOf n e
+  unfolding changedOf
+  unchanged-by a q d = ap noChange (sym q) ∙ sym (refuses (first (changeRefusals n e)) _ _ (λ p. d (sym q ∙ p)))
+
+  pub changed-answer : changedOf n e .answer ≡ first (changeRefusals n e)
+  unfolding changedOf
+  changed-answer = answered (λ (c : Changed). c .answer) (first (changeRefusals n e)) _ _ refl refl
+
+  pub changed-taken : first (changeRefusals n e) ≡ accepted → changedOf n e ≡ record { answer = accepted; bundle = halvesOf (changedNumber n e) }
+  unfolding changedOf
+  changed-taken q = accepts _ _ _ q
+
+  pub not-read : (first reading ≡ accepted → ⊥) → first (changeRefusals n e) ≡ first reading
+  not-read d = first-stop reading (valueRefusals row (e .value)) d
+
+  module _ (read : first reading ≡ accepted) where
+    pub no-raw : (rawFor row (e .value) .answer ≡ accepted → ⊥) → first (changeRefusals n e) ≡ badValue
+    no-raw d = first-on reading (valueRefusals row (e .value)) tt read ∙ rw (ne-eqb _ accepted d)
+
+    pub changed-done : rawFor row (e .value) .answer ≡ accepted → changedOf n e ≡ record { answer = accepted; bundle = halvesOf (changedNumber n e) }
+    changed-done q = changed-taken (first-on reading (valueRefusals row (e .value)) tt read ∙ rw (eq-eqb _ accepted q))
+
+-- an edit that a bundle takes: its row stands in its slot, and its value has a raw number
+module _ (n : ℕ) (e : Edit) (taken : first (changeRefusals n e) ≡ accepted) where
+  pub change-read : first (readRefusals n (e .slot) (e .form) (rowOf (e .form))) ≡ accepted
+  change-read = let none = none-applies (changeRefusals n e) tt taken in rw (none .0, none .1 .0, none .1 .1 .0)
+
+  pub change-sound : Sound (e .slot) (rowOf (e .form))
+  change-sound = read-sound n (e .slot) (e .form) (rowOf (e .form)) (row-good (e .form)) change-read
+
+  change-raw : rawFor (rowOf (e .form)) (e .value) ≡ Is (rawFor (rowOf (e .form)) (e .value) .raw)
+  change-raw =
+      let answer = eqb-true (rawFor (rowOf (e .form)) (e .value) .answer) accepted (not-false _ (none-applies (changeRefusals n e) tt taken .1 .1 .1 .0)) in
+      λ i. record { answer = answer i; raw = rawFor (rowOf (e .form)) (e .value) .raw }
+
+  -- the changed bundle reads as the edit's value, and is a number below 2 ^ 128
+  pub changed-value : valueIn (rowOf (e .form)) (e .slot) (changedNumber n e) ≡ e .value
+  changed-value = read-written (e .slot) (rowOf (e .form)) change-sound n _ (e .value) change-raw
+
+  pub changed-lt : n < 2 ^ 128 → changedNumber n e < 2 ^ 128
+  changed-lt h = written-lt (e .slot) (rowOf (e .form)) change-sound n _ h
+
+-- no bit outside the edit's parts changes
+pub changed-bit : (n : ℕ) (e : Edit) (i : ℕ) → T (apartFrom (i, 1) (partsOf e)) → bit (changedNumber n e) i ≡ bit n i
+changed-bit n e i t = bit-kept (e .slot) (rowOf (e .form)) n _ i t

@@ -1,8 +1,5 @@
 pub mod Elsewhere
-pub mod Inverse
-pub mod Kind
 pub mod Laws
-pub mod Rows
+pub mod Sound
 pub mod Unique
-pub mod Units
 pub mod Written

@@ -1,97 +1,123 @@
--- The calls `immediate` and `target`. Assumes nothing.
-use Prim.Native.Nat.{ℕ, _+_, _%_, _≤_, _<_, _^_}
+-- Immediates of a bundle: read, changed, and the targets that they make. A bundle is its number n; a call on a code is `find`'s refusals and
+-- then those of the bundle. Assumes nothing.
+use Prim.Native.Nat.{ℕ, _+_, _%_, _^_}
 use mathlib.Core.Bool.{Bool, true, false, cond, not, _||_}
 use mathlib.Core.List.{List, [], _∷_, _++_}
-use lib.Dec.{T, eqb, ltb}
+use lib.Dec.{eqb, ltb}
 use lib.IntN.{ℤ}
 use lib.ListN.{getD}
 use Rattle.answer.specs.Answer.{Refusal, first, outcome, accepted, badForm, badSlot, badValue}
-use Rattle.bits.specs.Parts.{gather, scatter, separate}
+use Rattle.bits.specs.Parts.{Parts, gather, scatter}
 use Rattle.bundle.specs.Template.{M, I, unitsOf}
-use Rattle.bundle.specs.Bundle.{numberAt, tagOf, cutRefusals, halvesOf}
-use Rattle.field.specs.Field.{placed, bitsOf, readable}
+use Rattle.bundle.specs.Bundle.{numberAt, tagOf, findAnswer, bundleRefusals, halvesOf}
+use Rattle.form.specs.Form.{A}
+use Rattle.form.specs.declared.Form.{Form}
+use Rattle.form.specs.declared.Edit.{Edit}
+use Rattle.parts.specs.Placed.{placed, widthOf}
 use Rattle.operand.specs.Pattern.{patternOf}
 use Rattle.operand.specs.declared.Operand.{Operand}
 use Rattle.operand.specs.declared.Operand.the-variants.{None as NoOperand}
-use Rattle.immediate.specs.Row.{A, rowOf, noRow}
-use Rattle.immediate.specs.Meaning.{Fitting, valueOf, signedOf}
-use Rattle.immediate.specs.declared.row.Meaning.{Meaning}
-use Rattle.immediate.specs.declared.row.Meaning.the-variants.{None, Unsigned, Signed}
-use Rattle.immediate.specs.declared.row.Row.{Row}
-use Rattle.immediate.specs.declared.opening.Opened.{Opened}
-use Rattle.immediate.specs.declared.Value.{Value}
-use Rattle.immediate.specs.declared.Place.{Place}
-
--- no row
-abbrev pub means : Meaning → Bool
-means None = false
-means (Unsigned plus) = true
-means (Signed unit) = true
-
-abbrev pub isNone : Row → Bool
-isNone row = not (means (row .meaning))
+use Rattle.row.specs.Row.{isNone, rowOf, targetRowOf}
+use Rattle.row.specs.Meaning.{valueOf, signedOf, rawOf}
+use Rattle.row.specs.declared.Row.{Row}
+use Rattle.row.specs.declared.value.Raw.{Raw}
+use Rattle.immediate.specs.declared.outcome.Immediate.{Immediate}
+use Rattle.immediate.specs.declared.outcome.Target.{Target}
+use Rattle.immediate.specs.declared.outcome.Changed.{Changed}
 
 -- a form fits a slot of its family's unit; an A form one of I or M
-abbrev pub fits : ℕ → ℕ → Bool
-fits family unit = cond (eqb family A) (eqb unit I || eqb unit M) (eqb family unit)
+abbrev pub fits : Form → ℕ → Bool
+fits form unit = cond (eqb (form .family) A) (eqb unit I || eqb unit M) (eqb (form .family) unit)
 
--- the unit of a slot of bundle k
-abbrev pub unitAt : List ℕ → ℕ → ℕ → ℕ
-unitAt code k slot = getD (unitsOf (tagOf (numberAt code k))) slot 0
+-- the unit of a bundle's slot
+abbrev pub unitAt : ℕ → ℕ → ℕ
+unitAt n slot = getD (unitsOf (tagOf n)) slot 0
 
--- when opening a bundle at a slot for a form's row is refused
-abbrev pub openRefusals : List ℕ → ℕ → ℕ → ℕ → Row → List Refusal
-openRefusals code k slot family row =
-    cutRefusals code k ++ (badForm, isNone row) ∷ (badSlot, ltb 2 slot || not (fits family (unitAt code k slot))) ∷ []
+-- when a bundle is refused for a row: 2, 3
+abbrev pub rowRefusals : ℕ → Row → List Refusal
+rowRefusals n row = bundleRefusals n ++ (badForm, isNone row) ∷ []
 
-abbrev pub closedOf : ℕ → Opened
-closedOf answer = record { answer = answer; halves = record { low = 0; high = 0 } }
+-- when a form doesn't stand in a slot: 5
+abbrev pub slotRefusals : ℕ → ℕ → Form → List Refusal
+slotRefusals n slot form = (badSlot, ltb 2 slot || not (fits form (unitAt n slot))) ∷ []
 
--- what opening hands back: the bundle
-unfoldable pub openedOf : List ℕ → ℕ → ℕ → ℕ → Row → Opened
-openedOf code k slot family row =
-    let answer = first (openRefusals code k slot family row) in
-    outcome answer (record { answer = accepted; halves = halvesOf (numberAt code k) }) (closedOf answer)
+-- when reading a form's row in a slot is refused
+abbrev pub readRefusals : ℕ → ℕ → Form → Row → List Refusal
+readRefusals n slot form row = rowRefusals n row ++ slotRefusals n slot form
 
--- the value that a row reads in a slot of a bundle
+-- the value that a row reads in a slot
 abbrev pub valueIn : Row → ℕ → ℕ → Operand
-valueIn row slot n = valueOf (row .meaning) (bitsOf (row .parts)) (gather n (placed slot (row .parts)))
+valueIn row slot n = valueOf (row .meaning) (widthOf (row .parts)) (gather n (placed slot (row .parts)))
+
+-- a refused reading
+abbrev pub noImmediate : ℕ → Immediate
+noImmediate answer = record { answer = answer; value = NoOperand }
+
+-- the immediate of a form in a slot of a bundle
+unfoldable pub immediateIn : ℕ → ℕ → Form → Immediate
+immediateIn n slot form =
+    let answer = first (readRefusals n slot form (rowOf form)) in
+    outcome answer (record { answer = accepted; value = valueIn (rowOf form) slot n }) (noImmediate answer)
+
+-- what `immediate` hands back: refused as `find` is, and then as the bundle's reading
+unfoldable pub immediateOf : List ℕ → ℕ → ℕ → Form → Immediate
+immediateOf code k slot form = outcome (findAnswer code k) (immediateIn (numberAt code k) slot form) (noImmediate (findAnswer code k))
+
+-- the raw number that a row has for a value, or refusal 6
+abbrev pub rawFor : Row → Operand → Raw
+rawFor row value = rawOf (row .meaning) (widthOf (row .parts)) value
+
+-- when a value has no raw number: 6
+abbrev pub valueRefusals : Row → Operand → List Refusal
+valueRefusals row value = (badValue, not (eqb (rawFor row value .answer) accepted)) ∷ []
+
+-- when an edit of a bundle is refused: 2, 3, then 5, then 6
+abbrev pub changeRefusals : ℕ → Edit → List Refusal
+changeRefusals n e =
+    rowRefusals n (rowOf (e .form)) ++ slotRefusals n (e .slot) (e .form) ++ valueRefusals (rowOf (e .form)) (e .value)
 
 -- the bundle with a raw number in a row's parts
-abbrev pub written : Row → ℕ → ℕ → ℕ → ℕ
-written row slot n raw = scatter n (placed slot (row .parts)) raw
+abbrev pub withRaw : Row → ℕ → ℕ → ℕ → ℕ
+withRaw row slot n raw = scatter n (placed slot (row .parts)) raw
 
--- what `immediate` hands back
-unfoldable pub immediateOf : List ℕ → ℕ → ℕ → ℕ → ℕ → Value
-immediateOf code k slot family number =
-    let row = rowOf family number in
-    let answer = first (openRefusals code k slot family row) in
-    record { answer = answer; value = outcome answer (valueIn row slot (numberAt code k)) NoOperand }
+-- the parts of an edit's immediate in its bundle
+abbrev pub partsOf : Edit → Parts
+partsOf e = placed (e .slot) (rowOf (e .form) .parts)
 
--- the row, where its values are times 16 with a sign
-abbrev pub onlyTimes16 : Meaning → Row → Row
-onlyTimes16 None row = noRow
-onlyTimes16 (Unsigned plus) row = noRow
-onlyTimes16 (Signed unit) row = cond (eqb unit 16) row noRow
+-- the bundle with an edit's value in its immediate
+abbrev pub changedNumber : ℕ → Edit → ℕ
+changedNumber n e = withRaw (rowOf (e .form)) (e .slot) n (rawFor (rowOf (e .form)) (e .value) .raw)
 
-abbrev pub onlyTarget : Row → Row
-onlyTarget row = onlyTimes16 (row .meaning) row
+-- a refused change
+abbrev pub noChange : ℕ → Changed
+noChange answer = record { answer = answer; bundle = halvesOf 0 }
 
--- the displacement that such a row reads
+-- what changing a bundle hands back: the bundle after an edit
+unfoldable pub changedOf : ℕ → Edit → Changed
+changedOf n e =
+    let answer = first (changeRefusals n e) in
+    outcome answer (record { answer = accepted; bundle = halvesOf (changedNumber n e) }) (noChange answer)
+
+-- the displacement that a row of a target reads
 abbrev pub displacementIn : Row → ℕ → ℕ → ℤ
-displacementIn row slot n = signedOf 16 (bitsOf (row .parts)) (gather n (placed slot (row .parts)))
+displacementIn row slot n = signedOf 16 (widthOf (row .parts)) (gather n (placed slot (row .parts)))
 
--- what `target` hands back: the address plus the displacement's pattern, which wraps at 2 ^ 64
-unfoldable pub targetOf : List ℕ → ℕ → ℕ → ℕ → ℕ → ℕ → Place
-targetOf code k slot family number address =
-    let row = onlyTarget (rowOf family number) in
-    let answer = first (openRefusals code k slot family row ++ (badValue, not (eqb (address % 16) 0)) ∷ []) in
-    record { answer = answer; address = outcome answer ((address + patternOf (displacementIn row slot (numberAt code k))) % 2 ^ 64) 0 }
+-- when a target is refused: as reading is, then for an address that is no multiple of 16
+abbrev pub targetRefusals : ℕ → ℕ → Form → ℕ → List Refusal
+targetRefusals n slot form address = readRefusals n slot form (targetRowOf form) ++ (badValue, not (eqb (address % 16) 0)) ∷ []
 
--- a row that can be read and written in a slot: its parts lie in the bundle, no two meet, and its values are of 64 bits
-pub record Sound (slot : ℕ) (row : Row) : Type 0 where
-  pub in-bundle : slot < 3
-  pub reads : T (readable slot (row .parts))
-  pub apart : T (separate (placed slot (row .parts)))
-  pub bits : bitsOf (row .parts) ≤ 64
-  pub fitting : Fitting (row .meaning) (bitsOf (row .parts))
+-- a refused target
+abbrev pub noTarget : ℕ → Target
+noTarget answer = record { answer = answer; address = 0 }
+
+-- the target of a form in a slot of the bundle at an address: the address plus the displacement's pattern, which wraps at 2 ^ 64
+unfoldable pub targetIn : ℕ → ℕ → Form → ℕ → Target
+targetIn n slot form address =
+    let answer = first (targetRefusals n slot form address) in
+    outcome answer
+    (record { answer = accepted; address = (address + patternOf (displacementIn (targetRowOf form) slot n)) % 2 ^ 64 })
+    (noTarget answer)
+
+-- what `target` hands back: refused as `find` is, and then as the bundle's target
+unfoldable pub targetOf : List ℕ → ℕ → ℕ → Form → ℕ → Target
+targetOf code k slot form address = outcome (findAnswer code k) (targetIn (numberAt code k) slot form address) (noTarget (findAnswer code k))

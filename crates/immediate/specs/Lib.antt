@@ -1,3 +1,2 @@
 pub mod Immediate
-pub mod Meaning
-pub mod Row
+pub mod Sound

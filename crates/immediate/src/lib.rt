@@ -1,105 +1,146 @@
-// The immediates of a bundle's forms, read by the manual, and the targets that they make.
-mod meaning;
-mod opening;
-mod row;
+// The immediates of a bundle's forms, read and changed by the manual, and the targets that they make.
+mod fit;
+mod outcome;
 
-pub use meaning::Raw;
-pub use meaning::raw_of;
-pub use opening::Opened;
-pub use opening::open;
-pub use row::Meaning;
-pub use row::Row;
-pub use row::row_of;
-pub use row::width;
+pub use outcome::Changed;
+pub use outcome::Immediate;
+pub use outcome::Target;
 ghost use mathlib.Core.Path.{_≡_};
 ghost use Rattle.bundle.specs.Bundle.{whole};
 ghost use Rattle.operand.specs.Pattern.{patternOf};
-ghost use Rattle.immediate.specs.Immediate.{Sound, valueIn, immediateOf, onlyTarget, displacementIn, targetOf};
+ghost use Rattle.immediate.specs.Immediate.{valueIn, noImmediate, immediateIn, immediateOf, noChange, changedOf, displacementIn, noTarget, targetIn, targetOf};
+ghost use Rattle.immediate.specs.Sound.{Sound};
 use answer::ACCEPTED;
 use answer::BAD_VALUE;
 use bundle::Halves;
+use form::Edit;
+use form::Form;
 use operand::Operand;
+use row::Meaning;
+use row::Row;
 
-pub struct Value {
-    pub answer: u8,
-    pub value: Operand,
+// The immediate of a form in a slot of a code's bundle.
+pub fn immediate(code: &[u8], bundle: u64, slot: u64, form: Form) -> Immediate
+    ensures { λ r. ⌜ r ≡ immediateOf (now (code .entry)) bundle slot form ⌝ }
+{
+    let loaded = bundle::load(code, bundle);
+    let answer = loaded.answer;
+    if answer != ACCEPTED {
+        return no_immediate(answer);
+    }
+    immediate_in(loaded.halves, slot, form)
 }
 
-// The immediate of a form in a slot.
-pub fn immediate(code: &[u8], bundle: u64, slot: u64, family: u64, number: u64) -> Value
-    ensures { λ r. ⌜ r ≡ immediateOf (now (code .entry)) bundle slot family number ⌝ }
+fn no_immediate(answer: u8) -> Immediate
+    ensures { λ r. ⌜ r ≡ noImmediate answer ⌝ }
 {
-    let row = row_of(family, number);
-    let opened = open(code, bundle, slot, family, row);
-    let answer = opened.answer;
-    if answer != ACCEPTED {
-        return Value {
-            answer,
-            value: Operand::None,
-        };
+    Immediate {
+        answer,
+        value: Operand::None,
     }
-    let value = read(row, opened.halves, slot as u32);
-    Value { answer, value }
+}
+
+// The immediate of a form in a slot of a bundle.
+pub fn immediate_in(bundle: Halves, slot: u64, form: Form) -> Immediate
+    ensures { λ r. ⌜ r ≡ immediateIn (whole bundle) slot form ⌝ }
+{
+    let row = row::row_of(form);
+    let answer = fit::read_answer(bundle, slot, form, row);
+    if answer != ACCEPTED {
+        return no_immediate(answer);
+    }
+    let value = value_in(row, slot as u32, bundle);
+    Immediate { answer, value }
 }
 
 // What a row reads in a slot of a bundle.
-fn read(row: Row, halves: Halves, slot: u32) -> Operand
+fn value_in(row: Row, slot: u32, bundle: Halves) -> Operand
     requires { ⌜ Sound slot row ⌝ }
-    ensures { λ r. ⌜ r ≡ valueIn row slot (whole halves) ⌝ }
+    ensures { λ r. ⌜ r ≡ valueIn row slot (whole bundle) ⌝ }
 {
     let meaning = row.meaning;
     let parts = row.parts;
-    meaning::value_of(
+    row::value_of(
         meaning,
         row::width(parts),
-        field::gather(halves, slot, parts),
+        parts::gather(bundle, slot, parts),
     )
 }
 
-pub struct Place {
-    pub answer: u8,
-    pub address: u64,
+// The bundle with an edit's value in its immediate.
+pub fn change(bundle: Halves, edit: Edit) -> Changed
+    ensures { λ r. ⌜ r ≡ changedOf (whole bundle) edit ⌝ }
+{
+    let form = edit.form;
+    let value = edit.value;
+    let row = row::row_of(form);
+    let answer = fit::read_answer(bundle, edit.slot, form, row);
+    if answer != ACCEPTED {
+        return unchanged(answer);
+    }
+    let meaning = row.meaning;
+    let parts = row.parts;
+    let raw = row::raw_of(meaning, row::width(parts), value);
+    let refusal = raw.answer;
+    if refusal != ACCEPTED {
+        return unchanged(refusal);
+    }
+    let changed = parts::scatter(bundle, edit.slot as u32, parts, raw.raw);
+    Changed {
+        answer,
+        bundle: changed,
+    }
 }
 
-// The target of a form in a slot of the bundle at an address.
-pub fn target(code: &[u8], bundle: u64, slot: u64, family: u64, number: u64, address: u64) -> Place
-    ensures { λ r. ⌜ r ≡ targetOf (now (code .entry)) bundle slot family number address ⌝ }
+fn unchanged(answer: u8) -> Changed
+    ensures { λ r. ⌜ r ≡ noChange answer ⌝ }
 {
-    let row = only_target(row_of(family, number));
-    let opened = open(code, bundle, slot, family, row);
-    let answer = opened.answer;
+    let bundle = Halves { low: 0, high: 0 };
+    Changed { answer, bundle }
+}
+
+// The target of a form in a slot of a code's bundle, which stands at an address.
+pub fn target(code: &[u8], bundle: u64, slot: u64, form: Form, address: u64) -> Target
+    ensures { λ r. ⌜ r ≡ targetOf (now (code .entry)) bundle slot form address ⌝ }
+{
+    let loaded = bundle::load(code, bundle);
+    let answer = loaded.answer;
     if answer != ACCEPTED {
-        return Place { answer, address: 0 };
+        return no_target(answer);
+    }
+    target_in(loaded.halves, slot, form, address)
+}
+
+fn no_target(answer: u8) -> Target
+    ensures { λ r. ⌜ r ≡ noTarget answer ⌝ }
+{
+    Target { answer, address: 0 }
+}
+
+// The target of a form in a slot of a bundle, which stands at an address.
+fn target_in(bundle: Halves, slot: u64, form: Form, address: u64) -> Target
+    ensures { λ r. ⌜ r ≡ targetIn (whole bundle) slot form address ⌝ }
+{
+    let row = row::only_times16(row::row_of(form));
+    let answer = fit::read_answer(bundle, slot, form, row);
+    if answer != ACCEPTED {
+        return no_target(answer);
     }
     if address % 16 != 0 {
-        return Place {
-            answer: BAD_VALUE,
-            address: 0,
-        };
+        return no_target(BAD_VALUE);
     }
-    let displacement = displacement(row, opened.halves, slot as u32);
-    Place {
+    let displacement = displacement_in(row, slot as u32, bundle);
+    Target {
         answer,
         address: std::num::wrapping_add_u64(address, displacement),
     }
 }
 
 // The pattern of the displacement that a row reads in a slot of a bundle.
-fn displacement(row: Row, halves: Halves, slot: u32) -> u64
+fn displacement_in(row: Row, slot: u32, bundle: Halves) -> u64
     requires { ⌜ Sound slot row × (row .meaning ≡ Meaning.Signed 16) ⌝ }
-    ensures { λ r. ⌜ r ≡ patternOf (displacementIn row slot (whole halves)) ⌝ }
+    ensures { λ r. ⌜ r ≡ patternOf (displacementIn row slot (whole bundle)) ⌝ }
 {
     let parts = row.parts;
-    meaning::displacement(16, row::width(parts), field::gather(halves, slot, parts))
-}
-
-// A row whose values are times 16, with a sign.
-fn only_target(row: Row) -> Row
-    ensures { λ r. ⌜ r ≡ onlyTarget row ⌝ }
-{
-    let meaning = row.meaning;
-    match meaning {
-        Meaning::Signed(unit) => if unit == 16 { row } else { row::NO_ROW },
-        _ => row::NO_ROW,
-    }
+    row::displacement(16, row::width(parts), parts::gather(bundle, slot, parts))
 }

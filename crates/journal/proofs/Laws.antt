@@ -1,5 +1,5 @@
--- What a change of a bundle, a plan, an edit and an undo come to, case by case. A list of refusals goes on after those of opening the
--- bundle; and a plan carried out is the call, by the laws of the journal's view. Assumes nothing.
+-- A plan carried out is the call: its refusals are the call's, and what it writes is what the call comes to, by the laws of the journal's
+-- view. Assumes nothing.
 use mathlib.Core.Path.{_≡_, refl, sym, ap, ap₂, _∙_, subst}
 use mathlib.Core.Bool.{Bool, true, false, cond, not}
 use mathlib.Core.List.{List, [], _∷_, _++_}
@@ -8,88 +8,23 @@ use native.Mathlib.Decide.{ℕ-discrete}
 use borrow.Author.Tests.{leb-false, ltb-false, eqb-true, eqb-false, not-false}
 use lib.Dec.{T, eqb}
 use lib.ListN.{length}
-use Rattle.answer.specs.Answer.{Refusal, accepted, badValue, first, outcome}
-use Rattle.answer.proofs.Laws.{numbered, none-applies, first-on, first-stop, accepts, refuses, answered}
-use Rattle.bundle.specs.Bundle.{foundOf, numberAt, halvesOf, whole}
+use Rattle.answer.specs.Answer.{Refusal, accepted, first, outcome}
+use Rattle.answer.proofs.Laws.{numbered, none-applies, first-on, first-stop, accepts, refuses}
+use Rattle.bundle.specs.Bundle.{findRefusals, findAnswer, numberAt, whole}
 use Rattle.bundle.proofs.Bytes.{Bytes}
 use Rattle.bundle.proofs.Halves.{whole-halves}
-use Rattle.bundle.proofs.Laws.{cut-found, number-at-lt}
+use Rattle.bundle.proofs.Laws.{number-at-lt}
 use Rattle.bundle.proofs.Lies.{found-when}
-use Rattle.operand.specs.declared.Operand.{Operand}
-use Rattle.immediate.specs.Row.{rowOf}
-use Rattle.immediate.specs.Immediate.{Sound, openRefusals}
-use Rattle.immediate.proofs.Rows.{row-good}
-use Rattle.immediate.proofs.Laws.{opened, open-sound}
-use Rattle.immediate.proofs.Written.{written-lt}
-use Rattle.immediate.specs.declared.meaning.Raw.{Raw}
-use Rattle.immediate.specs.declared.meaning.Raw.the-variants.{Is, Bad}
-use Rattle.journal.specs.Edit.{Outcome, isBad, rawIn, rawFor, editedNumber, planRefusals, planOf, noHalves, rewritten, recordOf, roomRefusals, editRefusals, editOf, undoRefusals, undoOf}
+use Rattle.form.specs.declared.Edit.{Edit}
+use Rattle.immediate.specs.Immediate.{changeRefusals, changedNumber}
+use Rattle.immediate.proofs.Laws.{changed-lt}
+use Rattle.journal.specs.Edit.{Outcome, codeRefusals, rewritten, made, recordOf, roomRefusals, editRefusals, editOf, undoRefusals, undoOf}
 use Rattle.journal.specs.Journal.{limit, standing, journalOf, viewOf, withRecord}
 use Rattle.journal.specs.Plan.{refusedPlan, editPlanOf, undoPlanOf, carriedOut}
-use Rattle.journal.specs.declared.change.Change.{Change}
 use Rattle.journal.specs.declared.plan.Plan.{Plan}
 use Rattle.journal.specs.declared.records.Journal.{Journal}
 use Rattle.journal.specs.declared.records.View.{View}
 use Rattle.journal.proofs.Standing.{view-pushes, view-pops}
-
-module _ (code : List ℕ) (k slot family number : ℕ) (value : Operand) where
-  opening : List Refusal
-  opening = openRefusals code k slot family (rowOf family number)
-
-  valued : List Refusal
-  valued = (badValue, isBad (rawFor (rowOf family number) value)) ∷ []
-
-  pub refused-by : (a : ℕ) → first (planRefusals code k slot family number value) ≡ a → (a ≡ accepted → ⊥)
-      → record { answer = a; old = noHalves; new = noHalves } ≡ planOf code k slot family number value
-  unfolding planOf
-  refused-by a e d = ap (λ (x : ℕ). record { answer = x; old = noHalves; new = noHalves }) (sym e) ∙ sym (refuses (first (planRefusals code k slot family number value)) _ _ (λ q. d (sym e ∙ q)))
-
-  pub plan-done : first (planRefusals code k slot family number value) ≡ accepted
-      → planOf code k slot family number value ≡ record { answer = accepted; old = halvesOf (numberAt code k); new = halvesOf (editedNumber (numberAt code k) slot family number value) }
-  unfolding planOf
-  plan-done e = accepts (first (planRefusals code k slot family number value)) _ _ e
-
-  pub plan-not-open : (first (openRefusals code k slot family (rowOf family number)) ≡ accepted → ⊥)
-      → first (planRefusals code k slot family number value) ≡ first (openRefusals code k slot family (rowOf family number))
-  unfolding opening valued
-  plan-not-open d = first-stop opening valued d
-
-  module _ (opened : first (openRefusals code k slot family (rowOf family number)) ≡ accepted) where
-    pub plan-bad : rawFor (rowOf family number) value ≡ Bad → first (planRefusals code k slot family number value) ≡ badValue
-    unfolding opening valued
-    plan-bad e = first-on opening valued tt opened ∙ ap (λ (r : Raw). cond (isBad r) badValue accepted) e
-
-    pub plan-good : (raw : ℕ) → rawFor (rowOf family number) value ≡ Is raw → first (planRefusals code k slot family number value) ≡ accepted
-    unfolding opening valued
-    plan-good raw e = first-on opening valued tt opened ∙ ap (λ (r : Raw). cond (isBad r) badValue accepted) e
-
-  pub plan-answer : planOf code k slot family number value .answer ≡ first (planRefusals code k slot family number value)
-  unfolding planOf
-  plan-answer = answered (λ (p : Change). p .answer) (first (planRefusals code k slot family number value)) _ _ refl refl
-
-  -- a plan that is accepted is of a bundle that lies in the code
-  pub plan-opened : first (planRefusals code k slot family number value) ≡ accepted → first (openRefusals code k slot family (rowOf family number)) ≡ accepted
-  plan-opened e = let n = none-applies (planRefusals code k slot family number value) tt e in rw (n .0, n .1 .0, n .1 .1 .0, n .1 .1 .1 .0, n .1 .1 .1 .1 .0)
-
-  pub plan-found : first (planRefusals code k slot family number value) ≡ accepted → foundOf code k ≡ accepted
-  plan-found e = cut-found code k (opened code k slot family (rowOf family number) (plan-opened e) .cut)
-
-  pub plan-sound : first (planRefusals code k slot family number value) ≡ accepted → Sound slot (rowOf family number)
-  plan-sound e = open-sound code k slot family (rowOf family number) (row-good family number) (plan-opened e)
-
-  -- and its value has a raw number
-  pub plan-raw : first (planRefusals code k slot family number value) ≡ accepted → rawFor (rowOf family number) value ≡ Is (rawIn (rawFor (rowOf family number) value))
-  plan-raw e = let n = none-applies (planRefusals code k slot family number value) tt e in some (rawFor (rowOf family number) value) (n .1 .1 .1 .1 .1 .0)
-    where
-      some : (r : Raw) → isBad r ≡ false → r ≡ Is (rawIn r)
-      some (Is raw) h = refl
-      some Bad h = absurd (subst T h tt)
-
-  -- an edited bundle is a number below 2 ^ 128
-  pub edited-lt : first (planRefusals code k slot family number value) ≡ accepted → Bytes code → editedNumber (numberAt code k) slot family number value < 2 ^ 128
-  edited-lt e b =
-      written-lt slot (rowOf family number) (plan-sound e) (numberAt code k) _
-      (number-at-lt code k (plan-found e) b)
 
 -- an outcome that is refused, whatever would be done
 pub refused-is {ℓ} : {A : Type ℓ} (refused : ℕ → A) (done : A) (a b : ℕ) → b ≡ a → (a ≡ accepted → ⊥) → refused a ≡ outcome b done (refused b)
@@ -114,10 +49,10 @@ module _ (code : List ℕ) (plan : Plan) (a : ℕ) where
   Decided = outcome a plan (refusedPlan a)
 
   -- its bundle is in the code where it is accepted
-  decided-found : (a ≡ accepted → foundOf code (plan .bundle) ≡ accepted) → Decided .answer ≡ accepted → foundOf code (Decided .bundle) ≡ accepted
+  decided-found : (a ≡ accepted → findAnswer code (plan .bundle) ≡ accepted) → Decided .answer ≡ accepted → findAnswer code (Decided .bundle) ≡ accepted
   decided-found f = go (eqb a accepted) refl
     where
-      go : (t : Bool) → eqb a accepted ≡ t → cond t plan (refusedPlan a) .answer ≡ accepted → foundOf code (cond t plan (refusedPlan a) .bundle) ≡ accepted
+      go : (t : Bool) → eqb a accepted ≡ t → cond t plan (refusedPlan a) .answer ≡ accepted → findAnswer code (cond t plan (refusedPlan a) .bundle) ≡ accepted
       go true e q = f (eqb-true a accepted e)
       go false e q = absurd (eqb-false a accepted e q)
 
@@ -135,31 +70,39 @@ module _ (code : List ℕ) (plan : Plan) (a : ℕ) where
       go true q = let p = f (eqb-true a accepted q) in accepts (plan .answer) _ _ h ∙ (λ i. record { answer = accepted; journal = p .0 i; code = p .1 i })
       go false q = refuses a _ _ (eqb-false a accepted q)
 
+-- an edit that the code takes: its bundle is there, takes it, and stays a number below 2 ^ 128
+module _ (code : List ℕ) (e : Edit) (taken : first (codeRefusals code e) ≡ accepted) where
+  pub taken-found : findAnswer code (e .bundle) ≡ accepted
+  unfolding findAnswer
+  taken-found = parts-accept (findRefusals code (e .bundle)) (changeRefusals (numberAt code (e .bundle)) e) tt taken .0
+
+  pub taken-changes : first (changeRefusals (numberAt code (e .bundle)) e) ≡ accepted
+  taken-changes = parts-accept (findRefusals code (e .bundle)) (changeRefusals (numberAt code (e .bundle)) e) tt taken .1
+
+  pub taken-lt : Bytes code → changedNumber (numberAt code (e .bundle)) e < 2 ^ 128
+  taken-lt b = changed-lt (numberAt code (e .bundle)) e taken-changes (number-at-lt code (e .bundle) taken-found b)
+
 -- an edit's plan carried out is the edit
-module _ (code : List ℕ) (k slot family number : ℕ) (value : Operand) where
-  plans : List Refusal
-  plans = planRefusals code k slot family number value
-
-  pub edit-found : (view : View) → editPlanOf code view k slot family number value .answer ≡ accepted → foundOf code (editPlanOf code view k slot family number value .bundle) ≡ accepted
-  unfolding editPlanOf plans
+module _ (code : List ℕ) (e : Edit) where
+  pub edit-found : (view : View) → editPlanOf code view e .answer ≡ accepted → findAnswer code (editPlanOf code view e .bundle) ≡ accepted
+  unfolding editPlanOf
   edit-found view =
-      decided-found code _ (first (editRefusals code view k slot family number value))
-      (λ e. plan-found code k slot family number value (parts-accept plans (roomRefusals view) tt e .0))
+      decided-found code _ (first (editRefusals code view e)) (λ a. taken-found code e (parts-accept (codeRefusals code e) (roomRefusals view) tt a .0))
 
-  pub edit-carried : Bytes code → (j : Journal) → carriedOut code j (editPlanOf code (viewOf j) k slot family number value) ≡ editOf code j k slot family number value
-  unfolding editPlanOf editOf plans
+  pub edit-carried : Bytes code → (j : Journal) → carriedOut code j (editPlanOf code (viewOf j) e) ≡ editOf code j e
+  unfolding editPlanOf editOf made
   edit-carried b j =
-      decided-carried code _ (first (editRefusals code (viewOf j) k slot family number value)) j _ _ refl
-      (λ e.
-      let p = parts-accept plans (roomRefusals (viewOf j)) tt e in
+      decided-carried code _ (first (editRefusals code (viewOf j) e)) j _ _ refl
+      (λ a.
+      let p = parts-accept (codeRefusals code e) (roomRefusals (viewOf j)) tt a in
       let n = none-applies (roomRefusals (viewOf j)) tt (p .1) in (
-        view-pushes j (not-false _ (n .0)) (recordOf code k slot family number value) (leb-false limit (viewOf j .count) (n .1 .0)),
-        ap (rewritten code k) (whole-halves _ (edited-lt code k slot family number value (p .0) b)),
+        view-pushes j (not-false _ (n .0)) (recordOf code e) (leb-false limit (viewOf j .count) (n .1 .0)),
+        ap (rewritten code (e .bundle)) (whole-halves _ (taken-lt code e (p .0) b)),
       ))
 
 -- an undo's plan carried out is the undo
 module _ (code : List ℕ) where
-  pub undo-found : (view : View) → undoPlanOf code view .answer ≡ accepted → foundOf code (undoPlanOf code view .bundle) ≡ accepted
+  pub undo-found : (view : View) → undoPlanOf code view .answer ≡ accepted → findAnswer code (undoPlanOf code view .bundle) ≡ accepted
   unfolding undoPlanOf
   undo-found view =
       decided-found code _ (first (undoRefusals code view))

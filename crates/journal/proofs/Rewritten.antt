@@ -9,7 +9,7 @@ use lib.ListN.{length, take, drop, getD, take-append-drop, length-append}
 use lib.Seq.{length-take-le, take-at, drop-at, drop-drop, length-front}
 use lib.Pow.{pow-pos}
 use Rattle.bundle.specs.Bytes.{number, bytes}
-use Rattle.bundle.specs.Bundle.{numberAt, bundleAt, foundOf}
+use Rattle.bundle.specs.Bundle.{numberAt, bundleAt, findAnswer}
 use Rattle.answer.specs.Answer.{accepted}
 use Rattle.bundle.proofs.Bytes.{Bytes, length-bytes, number-bytes, bytes-number, bytes-take, bytes-drop}
 use Rattle.bundle.proofs.Lies.{Lies, found-when}

@@ -14,37 +14,37 @@ use lib.Seq.{drop-drop, drop-length}
 use Rattle.answer.specs.Answer.{Refusal, accepted, full, empty, first, outcome}
 use Rattle.answer.proofs.Laws.{none-applies, accepts, refuses}
 use Rattle.bits.specs.Part.{bit}
-use Rattle.bits.proofs.Parts.{scatter-bit}
-use Rattle.bundle.specs.Bundle.{numberAt, halvesOf, whole}
+use Rattle.bundle.specs.Bundle.{longestCode, numberAt, halvesOf, whole}
 use Rattle.bundle.specs.declared.half.Halves.{Halves}
 use Rattle.bundle.proofs.Bytes.{Bytes}
 use Rattle.bundle.proofs.Halves.{whole-halves}
 use Rattle.bundle.proofs.Laws.{number-at-lt}
 use Rattle.bundle.proofs.Lies.{Lies, lies, found-when}
-use Rattle.immediate.specs.Row.{rowOf}
-use Rattle.immediate.specs.Immediate.{valueIn}
-use Rattle.immediate.proofs.Written.{read-written}
+use Rattle.form.specs.declared.Edit.{Edit}
+use Rattle.row.specs.Row.{rowOf}
+use Rattle.immediate.specs.Immediate.{valueIn, changedNumber}
+use Rattle.immediate.proofs.Laws.{changed-value, changed-bit}
 use Rattle.journal.specs.Journal.{limit, highest, noRecord, mayStand, all, standing, journalOf, validOf, viewOf}
-use Rattle.journal.specs.Edit.{Outcome, rewritten, sameHalves, editedNumber, planRefusals, roomRefusals, editRefusals, editOf, undoRefusals, undoOf, recordOf}
-use Rattle.journal.specs.Demand3.{Edit, Call, edit, undo, step, run, made, madeAll, unfit, answerTo, taken, after, standingEdits, recordsOf, expected, partsOf, SetsOnlyItsBits, thenUndo, Holds, Demand3}
+use Rattle.journal.specs.Edit.{Outcome, codeRefusals, rewritten, made, sameHalves, roomRefusals, editOf, undoRefusals, undoOf, recordOf}
+use Rattle.journal.specs.Demand3.{Call, edit, undo, step, run, madeAll, answerTo, taken, after, standingEdits, recordsOf, expected, SetsOnlyItsBits, thenUndo, Holds, Demand3}
 use Rattle.journal.specs.declared.records.Record.{Record}
 use Rattle.journal.specs.declared.records.Journal.{Journal}
-use Rattle.journal.proofs.Laws.{plan-found, plan-sound, plan-raw, edited-lt, parts-accept, first-past}
+use Rattle.journal.proofs.Laws.{taken-found, taken-changes, taken-lt, parts-accept, first-past}
 use Rattle.journal.proofs.Rewritten.{rewritten-before, rewritten-past, rewritten-number, rewritten-length, rewritten-twice, rewritten-bytes, rewritten-own}
 use Rattle.journal.proofs.Standing.{journal-stands, journal-valid, journal-shows, all-append, drop-last-snoc, last-snoc}
 
 -- the code takes the edit
 abbrev Fits : List ℕ → Edit → Type 0
-Fits code e = first (unfit code e) ≡ accepted
+Fits code e = first (codeRefusals code e) ≡ accepted
 
 -- the number that an edit makes of its bundle
 abbrev newNumber : List ℕ → Edit → ℕ
-newNumber code e = editedNumber (numberAt code (e .bundle)) (e .slot) (e .family) (e .number) (e .value)
+newNumber code e = changedNumber (numberAt code (e .bundle)) e
 
 -- one edit that the code takes
 module _ (code : List ℕ) (e : Edit) (fits : Fits code e) where
   in-code : Lies code (e .bundle)
-  in-code = lies code (e .bundle) (plan-found code (e .bundle) (e .slot) (e .family) (e .number) (e .value) fits)
+  in-code = lies code (e .bundle) (taken-found code e fits)
 
   low : leb (e .bundle) highest ≡ true
   low = le-leb (e .bundle) highest (omega (arith, in-code .short, in-code .within))
@@ -54,7 +54,7 @@ module _ (code : List ℕ) (e : Edit) (fits : Fits code e) where
   made-length = rewritten-length code (e .bundle) in-code (newNumber code e)
 
   made-lies : Lies (made code e) (e .bundle)
-  made-lies = record { short = subst (λ (n : ℕ). n ≤ 65536) (sym made-length) (in-code .short); within = subst (λ (n : ℕ). 16 * e .bundle + 16 ≤ n) (sym made-length) (in-code .within) }
+  made-lies = record { short = subst (λ (n : ℕ). n ≤ longestCode) (sym made-length) (in-code .short); within = subst (λ (n : ℕ). 16 * e .bundle + 16 ≤ n) (sym made-length) (in-code .within) }
 
   module _ (b : Bytes code) where
     made-bytes : Bytes (made code e)
@@ -65,7 +65,7 @@ module _ (code : List ℕ) (e : Edit) (fits : Fits code e) where
     unfolding made
     made-number =
         rewritten-number code (e .bundle) in-code (newNumber code e)
-        (edited-lt code (e .bundle) (e .slot) (e .family) (e .number) (e .value) fits b)
+        (taken-lt code e fits b)
 
     -- the old bundle written back
     unmade : rewritten (made code e) (e .bundle) (whole (halvesOf (numberAt code (e .bundle)))) ≡ code
@@ -79,12 +79,9 @@ module _ (code : List ℕ) (e : Edit) (fits : Fits code e) where
     unfolding made
     only-its-bits =
         record {
-          value =
-              ap (valueIn (rowOf (e .family) (e .number)) (e .slot)) made-number
-              ∙ read-written (e .slot) (rowOf (e .family) (e .number)) (plan-sound code (e .bundle) (e .slot) (e .family) (e .number) (e .value) fits) (numberAt code (e .bundle)) _ (e .value)
-              (plan-raw code (e .bundle) (e .slot) (e .family) (e .number) (e .value) fits);
+          value = ap (valueIn (rowOf (e .form)) (e .slot)) made-number ∙ changed-value (numberAt code (e .bundle)) e (taken-changes code e fits);
           before = rewritten-before code (e .bundle) in-code (newNumber code e);
-          bits = λ i t. ap (λ (n : ℕ). bit n i) made-number ∙ scatter-bit (numberAt code (e .bundle)) i (partsOf e) _ t;
+          bits = λ i t. ap (λ (n : ℕ). bit n i) made-number ∙ changed-bit (numberAt code (e .bundle)) e i t;
           past = rewritten-past code (e .bundle) in-code (newNumber code e);
         }
 
@@ -100,13 +97,13 @@ module _ (code : List ℕ) (rs : List Record) (valid : validOf (journalOf rs) �
 
   -- an edit
   module _ (e : Edit) where
-    edit-of : (a : ℕ) → first (unfit code e ++ (full, leb limit (length rs)) ∷ []) ≡ a
-        → editOf code (journalOf rs) (e .bundle) (e .slot) (e .family) (e .number) (e .value)
+    edit-of : (a : ℕ) → first (codeRefusals code e ++ (full, leb limit (length rs)) ∷ []) ≡ a
+        → editOf code (journalOf rs) e
         ≡ outcome a
-        (record { answer = accepted; journal = journalOf (rs ++ (recordOf code (e .bundle) (e .slot) (e .family) (e .number) (e .value) ∷ [])); code = made code e })
+        (record { answer = accepted; journal = journalOf (rs ++ (recordOf code e ∷ [])); code = made code e })
         (record { answer = a; journal = journalOf rs; code = code })
     unfolding editOf made
-    edit-of a q = rw (shown, journal-stands, first-past (unfit code e) (roomRefusals (record { valid = true; count = length rs; last = getLastD rs noRecord })) ((full, leb limit (length rs)) ∷ []) refl, q)
+    edit-of a q = rw (shown, journal-stands, first-past (codeRefusals code e) (roomRefusals (record { valid = true; count = length rs; last = getLastD rs noRecord })) ((full, leb limit (length rs)) ∷ []) refl, q)
 
   -- undoing a last record
   undo-of : (last : Record) (a : ℕ) → getLastD rs noRecord ≡ last → first (undoRefusals code (record { valid = true; count = length rs; last = last })) ≡ a
@@ -118,7 +115,7 @@ module _ (code : List ℕ) (rs : List Record) (valid : validOf (journalOf rs) �
 same-halves : (h : Halves) → sameHalves h h ≡ true
 same-halves h = ap₂ (λ (a b : Bool). a && b) (eq-eqb (h .low) (h .low) refl) (eq-eqb (h .high) (h .high) refl)
 
-module _ (code : List ℕ) (b : Bytes code) (short : length code ≤ 65536) where
+module _ (code : List ℕ) (b : Bytes code) (short : length code ≤ longestCode) where
   all-bytes : (es : List Edit) → Stands code es → Bytes (madeAll code es)
   all-bytes [] s = b
   all-bytes (e ∷ es) s = made-bytes (madeAll code es) e (s .0) (all-bytes es (s .2))
@@ -157,12 +154,12 @@ module _ (code : List ℕ) (b : Bytes code) (short : length code ≤ 65536) wher
       -- an edit that is taken fits, and there is a place for its record
       taken-fits : answerTo code es (edit e) ≡ accepted → Fits (madeAll code es) e × (length es < limit)
       taken-fits a =
-          let p = parts-accept (unfit (madeAll code es) e) ((full, leb limit (length es)) ∷ []) tt a in
+          let p = parts-accept (codeRefusals (madeAll code es) e) ((full, leb limit (length es)) ∷ []) tt a in
           (p .0, leb-false limit (length es) (none-applies ((full, leb limit (length es)) ∷ []) tt (p .1) .0))
 
-      edit-as-expected : editOf (madeAll code es) (journalOf (recordsOf code es)) (e .bundle) (e .slot) (e .family) (e .number) (e .value) ≡ expected code es (edit e)
+      edit-as-expected : editOf (madeAll code es) (journalOf (recordsOf code es)) e ≡ expected code es (edit e)
       edit-as-expected =
-          edit-of (madeAll code es) (recordsOf code es) (valid es s) e (answerTo code es (edit e)) (ap (λ (n : ℕ). first (unfit (madeAll code es) e ++ (full, leb limit n) ∷ [])) (records-length es))
+          edit-of (madeAll code es) (recordsOf code es) (valid es s) e (answerTo code es (edit e)) (ap (λ (n : ℕ). first (codeRefusals (madeAll code es) e ++ (full, leb limit n) ∷ [])) (records-length es))
           ∙ now-stands (answerTo code es (edit e)) (e ∷ es) es
 
       edit-stands : Stands code (after code es (edit e))
@@ -182,14 +179,14 @@ module _ (code : List ℕ) (b : Bytes code) (short : length code ≤ 65536) wher
 
   -- the last record is of a bundle that stands as it says
   last-stands : (e : Edit) (es : List Edit) → Stands code (e ∷ es)
-      → first (undoRefusals (madeAll code (e ∷ es)) (record { valid = true; count = length (recordsOf code (e ∷ es)); last = recordOf (madeAll code es) (e .bundle) (e .slot) (e .family) (e .number) (e .value) })) ≡ accepted
+      → first (undoRefusals (madeAll code (e ∷ es)) (record { valid = true; count = length (recordsOf code (e ∷ es)); last = recordOf (madeAll code es) e })) ≡ accepted
   last-stands e es s =
       let l = made-lies (madeAll code es) e (s .0) in
       let new = ap (λ (n : ℕ). sameHalves (halvesOf n) (halvesOf (newNumber (madeAll code es) e))) (made-number (madeAll code es) e (s .0) (all-bytes es (s .2))) ∙ same-halves (halvesOf (newNumber (madeAll code es) e)) in
-      rw (le-ltb 65536 _ (l .short), records-length (e ∷ es), eqb·suc-zero (length es), le-ltb _ (16 * e .bundle + 16) (l .within), new)
+      rw (le-ltb longestCode _ (l .short), records-length (e ∷ es), eqb·suc-zero (length es), le-ltb _ (16 * e .bundle + 16) (l .within), new)
 
   undo-as-expected : (es : List Edit) → Stands code es → undoOf (madeAll code es) (journalOf (recordsOf code es)) ≡ expected code es undo
-  undo-as-expected [] s = undo-of code [] (valid [] tt) (getLastD [] noRecord) empty refl (rw (le-ltb 65536 (length code) short))
+  undo-as-expected [] s = undo-of code [] (valid [] tt) (getLastD [] noRecord) empty refl (rw (le-ltb longestCode (length code) short))
   undo-as-expected (e ∷ es) s =
       let now-standing = sym (undo-after (e ∷ es)) in
       let journal = ap journalOf (drop-last-snoc (recordsOf code es) _) ∙ ap (λ (ds : List Edit). journalOf (recordsOf code ds)) now-standing in
@@ -207,7 +204,7 @@ module _ (code : List ℕ) (b : Bytes code) (short : length code ≤ 65536) wher
 
   as-expected : (es : List Edit) → Stands code es → (o : Outcome) → o .code ≡ madeAll code es → o .journal ≡ journalOf (recordsOf code es) → (call : Call) → step o call ≡ expected code es call
   as-expected es s o c j (edit e) =
-      ap₂ (λ (code : List ℕ) (journal : Journal). editOf code journal (e .bundle) (e .slot) (e .family) (e .number) (e .value)) c j ∙ edit-as-expected es s e
+      ap₂ (λ (code : List ℕ) (journal : Journal). editOf code journal e) c j ∙ edit-as-expected es s e
   as-expected es s o c j undo = ap₂ undoOf c j ∙ undo-as-expected es s
 
   all-stand : (calls : List Call) → Stands code (standingEdits code calls)

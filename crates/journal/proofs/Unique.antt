@@ -4,13 +4,13 @@ use mathlib.Core.Path.{_≡_}
 use mathlib.Core.List.{List}
 use Prim.Native.Nat.{ℕ}
 use Rattle.answer.proofs.Laws.{one-outcome}
-use Rattle.operand.specs.declared.Operand.{Operand}
+use Rattle.form.specs.declared.Edit.{Edit}
 use Rattle.journal.specs.Edit.{Outcome, editOf, undoOf}
 use Rattle.journal.specs.declared.records.Journal.{Journal}
 
-pub edit-unique : (code : List ℕ) (journal : Journal) (bundle slot family number : ℕ) (value : Operand) {r s : Outcome}
-    → r ≡ editOf code journal bundle slot family number value → s ≡ editOf code journal bundle slot family number value → r ≡ s
-edit-unique code journal bundle slot family number value = one-outcome
+pub edit-unique : (code : List ℕ) (journal : Journal) (e : Edit) {r s : Outcome}
+    → r ≡ editOf code journal e → s ≡ editOf code journal e → r ≡ s
+edit-unique code journal e = one-outcome
 
 pub undo-unique : (code : List ℕ) (journal : Journal) {r s : Outcome} → r ≡ undoOf code journal → s ≡ undoOf code journal → r ≡ s
 undo-unique code journal = one-outcome

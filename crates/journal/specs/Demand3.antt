@@ -6,25 +6,16 @@ use mathlib.Core.Path.{_≡_}
 use mathlib.Core.List.{List, [], _∷_, _++_}
 use lib.Dec.{T, leb, eqb}
 use lib.ListN.{length, getD, take, drop, replicate}
-use Rattle.answer.specs.Answer.{Refusal, first, outcome, accepted, empty, full}
+use Rattle.answer.specs.Answer.{first, outcome, accepted, empty, full}
 use Rattle.bits.specs.Part.{bit}
-use Rattle.bits.specs.Parts.{Parts, apartFrom}
-use Rattle.bundle.specs.Bundle.{numberAt}
-use Rattle.field.specs.Field.{placed}
-use Rattle.operand.specs.declared.Operand.{Operand}
-use Rattle.immediate.specs.Row.{rowOf}
-use Rattle.immediate.specs.Immediate.{valueIn}
+use Rattle.bits.specs.Parts.{apartFrom}
+use Rattle.bundle.specs.Bundle.{longestCode, numberAt}
+use Rattle.form.specs.declared.Edit.{Edit}
+use Rattle.row.specs.Row.{rowOf}
+use Rattle.immediate.specs.Immediate.{valueIn, partsOf}
 use Rattle.journal.specs.Journal.{limit, journalOf}
-use Rattle.journal.specs.Edit.{Outcome, rewritten, editedNumber, planRefusals, recordOf, editOf, undoOf}
+use Rattle.journal.specs.Edit.{Outcome, codeRefusals, made, recordOf, editOf, undoOf}
 use Rattle.journal.specs.declared.records.Record.{Record}
-
--- what an edit is asked to do
-pub record Edit : Type 0 where
-  pub bundle : ℕ
-  pub slot : ℕ
-  pub family : ℕ
-  pub number : ℕ
-  pub value : Operand
 
 pub data Call : Type 0 where
   edit : Edit → Call
@@ -32,7 +23,7 @@ pub data Call : Type 0 where
 
 -- one call, given the code and the journal that the last handed back
 abbrev pub step : Outcome → Call → Outcome
-step s (edit e) = editOf (s .code) (s .journal) (e .bundle) (e .slot) (e .family) (e .number) (e .value)
+step s (edit e) = editOf (s .code) (s .journal) e
 step s undo = undoOf (s .code) (s .journal)
 
 -- a run from a first code and an empty journal; the last call stands first, so what is said of every run is said of every prefix
@@ -40,23 +31,14 @@ abbrev pub run : List ℕ → List Call → Outcome
 run code [] = record { answer = accepted; journal = journalOf []; code = code }
 run code (call ∷ calls) = step (run code calls) call
 
--- the code with one edit made
-unfoldable pub made : List ℕ → Edit → List ℕ
-made code e =
-    rewritten code (e .bundle) (editedNumber (numberAt code (e .bundle)) (e .slot) (e .family) (e .number) (e .value))
-
 -- the code with edits made in order; the last stands first
 abbrev pub madeAll : List ℕ → List Edit → List ℕ
 madeAll code [] = code
 madeAll code (e ∷ es) = made (madeAll code es) e
 
--- why the code itself refuses an edit
-abbrev pub unfit : List ℕ → Edit → List Refusal
-unfit code e = planRefusals code (e .bundle) (e .slot) (e .family) (e .number) (e .value)
-
 -- what a call answers while these edits stand
 abbrev pub answerTo : List ℕ → List Edit → Call → ℕ
-answerTo code es (edit e) = first (unfit (madeAll code es) e ++ (full, leb limit (length es)) ∷ [])
+answerTo code es (edit e) = first (codeRefusals (madeAll code es) e ++ (full, leb limit (length es)) ∷ [])
 answerTo code es undo = first ((empty, eqb (length es) 0) ∷ [])
 
 -- the standing edits after a call that is taken
@@ -77,8 +59,7 @@ standingEdits code (call ∷ calls) = after code (standingEdits code calls) call
 -- the standing edits' records, the oldest first
 abbrev pub recordsOf : List ℕ → List Edit → List Record
 recordsOf code [] = []
-recordsOf code (e ∷ es) =
-    recordsOf code es ++ (recordOf (madeAll code es) (e .bundle) (e .slot) (e .family) (e .number) (e .value) ∷ [])
+recordsOf code (e ∷ es) = recordsOf code es ++ (recordOf (madeAll code es) e ∷ [])
 
 -- what there is after a call
 abbrev pub expected : List ℕ → List Edit → Call → Outcome
@@ -89,13 +70,9 @@ expected code es call =
       code = madeAll code (after code es call);
     }
 
--- the parts of an edit's immediate in its bundle
-abbrev pub partsOf : Edit → Parts
-partsOf e = placed (e .slot) (rowOf (e .family) (e .number) .parts)
-
 -- an edit sets the bits of its one immediate and no other
 pub record SetsOnlyItsBits (code : List ℕ) (e : Edit) : Type 0 where
-  pub value : valueIn (rowOf (e .family) (e .number)) (e .slot) (numberAt (made code e) (e .bundle)) ≡ e .value
+  pub value : valueIn (rowOf (e .form)) (e .slot) (numberAt (made code e) (e .bundle)) ≡ e .value
   pub before : take (16 * e .bundle) (made code e) ≡ take (16 * e .bundle) code
   pub bits : (i : ℕ) → T (apartFrom (i, 1) (partsOf e)) → bit (numberAt (made code e) (e .bundle)) i ≡ bit (numberAt code (e .bundle)) i
   pub past : drop (16 * e .bundle + 16) (made code e) ≡ drop (16 * e .bundle + 16) code
@@ -115,6 +92,6 @@ pub record Holds (code : List ℕ) (calls : List Call) : Type 0 where
   pub undo-refused : (run code (undo ∷ calls) .answer ≡ accepted → ⊥) → standingEdits code calls ≡ []
   pub undone : run code (thenUndo (length (standingEdits code calls)) calls) .code ≡ code
 
--- of every code of at most 65,536 bytes and every run
+-- of every code of at most `longestCode` bytes and every run
 abbrev pub Demand3 : Type 0
-Demand3 = (code : List ℕ) → ((i : ℕ) → getD code i 0 < 2 ^ 8) → length code ≤ 65536 → (calls : List Call) → Holds code calls
+Demand3 = (code : List ℕ) → ((i : ℕ) → getD code i 0 < 2 ^ 8) → length code ≤ longestCode → (calls : List Call) → Holds code calls

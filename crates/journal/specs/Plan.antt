@@ -3,24 +3,24 @@
 use Prim.Native.Nat.{ℕ, _+_, _-_}
 use mathlib.Core.List.{List}
 use Rattle.answer.specs.Answer.{first, outcome, accepted}
-use Rattle.bundle.specs.Bundle.{whole}
-use Rattle.operand.specs.declared.Operand.{Operand}
+use Rattle.bundle.specs.Bundle.{halvesOf, whole}
+use Rattle.form.specs.declared.Edit.{Edit}
 use Rattle.journal.specs.Journal.{noRecord, withRecord}
-use Rattle.journal.specs.Edit.{Outcome, noHalves, rewritten, recordOf, editRefusals, undoRefusals}
+use Rattle.journal.specs.Edit.{Outcome, rewritten, recordOf, editRefusals, undoRefusals}
 use Rattle.journal.specs.declared.records.Journal.{Journal}
 use Rattle.journal.specs.declared.records.View.{View}
 use Rattle.journal.specs.declared.plan.Plan.{Plan}
 
 -- a refused plan: zeros but for its answer
 abbrev pub refusedPlan : ℕ → Plan
-refusedPlan answer = record { answer = answer; bundle = 0; halves = noHalves; place = 0; kept = noRecord; count = 0 }
+refusedPlan answer = record { answer = answer; bundle = 0; halves = halvesOf 0; place = 0; kept = noRecord; count = 0 }
 
 -- an edit keeps its record at the first free place
-unfoldable pub editPlanOf : List ℕ → View → ℕ → ℕ → ℕ → ℕ → Operand → Plan
-editPlanOf code view k slot family number value =
-    let answer = first (editRefusals code view k slot family number value) in
-    let r = recordOf code k slot family number value in
-    outcome answer (record { answer = accepted; bundle = k; halves = r .new; place = view .count; kept = r; count = view .count + 1 }) (refusedPlan answer)
+unfoldable pub editPlanOf : List ℕ → View → Edit → Plan
+editPlanOf code view e =
+    let answer = first (editRefusals code view e) in
+    let r = recordOf code e in
+    outcome answer (record { answer = accepted; bundle = e .bundle; halves = r .new; place = view .count; kept = r; count = view .count + 1 }) (refusedPlan answer)
 
 -- an undo frees the last record's place
 unfoldable pub undoPlanOf : List ℕ → View → Plan

@@ -1,10 +1,7 @@
 // Edits of one immediate each, the journal of those that stand, and undoing the last.
-mod change;
 mod plan;
 mod records;
 
-pub use change::Change;
-pub use change::planned;
 pub use records::Edited;
 pub use records::Journal;
 pub use records::LIMIT;
@@ -19,27 +16,19 @@ pub use records::view_of;
 pub use records::with_record;
 ghost use mathlib.Core.Path.{_≡_};
 ghost use Rattle.answer.specs.Answer.{accepted};
-ghost use Rattle.bundle.specs.Bundle.{foundOf, whole};
+ghost use Rattle.bundle.specs.Bundle.{findAnswer, whole};
 ghost use Rattle.journal.specs.Edit.{Outcome, rewritten, editOf, undoOf};
 ghost use Rattle.journal.specs.Plan.{carriedOut};
 use answer::ACCEPTED;
 use bundle::Halves;
-use operand::Operand;
+use form::Edit;
 use plan::Plan;
 
-// Writes a value into a form's immediate, and records the bundle before and after.
-pub fn edit(
-    code: &mut [u8],
-    journal: Journal,
-    bundle: u64,
-    slot: u64,
-    family: u64,
-    number: u64,
-    value: Operand,
-) -> Edited
-    ensures { λ r. ⌜ _≡_ {A = Outcome} (record { answer = r .answer; journal = r .journal; code = now (code .exit) }) (editOf (now (code .entry)) journal bundle slot family number value) ⌝ }
+// Makes an edit, and records its bundle before and after.
+pub fn edit(code: &mut [u8], journal: Journal, edit: Edit) -> Edited
+    ensures { λ r. ⌜ _≡_ {A = Outcome} (record { answer = r .answer; journal = r .journal; code = now (code .exit) }) (editOf (now (code .entry)) journal edit) ⌝ }
 {
-    let plan = plan::edit_plan(code, view_of(journal), bundle, slot, family, number, value);
+    let plan = plan::edit_plan(code, view_of(journal), edit);
     carry_out(code, journal, plan)
 }
 
@@ -53,7 +42,7 @@ pub fn undo(code: &mut [u8], journal: Journal) -> Edited
 
 // Writes a plan's bundle and keeps its record, where it was accepted.
 fn carry_out(code: &mut [u8], journal: Journal, plan: Plan) -> Edited
-    requires { ⌜ (plan .answer ≡ accepted → foundOf (now code) (plan .bundle) ≡ accepted) ⌝ }
+    requires { ⌜ (plan .answer ≡ accepted → findAnswer (now code) (plan .bundle) ≡ accepted) ⌝ }
     ensures { λ r. ⌜ _≡_ {A = Outcome} (record { answer = r .answer; journal = r .journal; code = now (code .exit) }) (carriedOut (now (code .entry)) journal plan) ⌝ }
 {
     let answer = plan.answer;
@@ -69,7 +58,7 @@ fn carry_out(code: &mut [u8], journal: Journal, plan: Plan) -> Edited
 
 // Lends a bundle's sixteen bytes on to be written.
 fn rewrite(code: &mut [u8], bundle: u64, halves: Halves)
-    requires { ⌜ foundOf (now code) bundle ≡ accepted ⌝ }
+    requires { ⌜ findAnswer (now code) bundle ≡ accepted ⌝ }
     ensures { λ _. ⌜ now (code .exit) ≡ rewritten (now (code .entry)) bundle (whole halves) ⌝ }
 {
     let at = bundle as usize * 16;

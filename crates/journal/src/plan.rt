@@ -3,7 +3,6 @@ ghost use mathlib.Core.Path.{_≡_};
 ghost use Rattle.answer.specs.Answer.{first};
 ghost use Rattle.journal.specs.Edit.{sameHalves, roomRefusals, undoRefusals};
 ghost use Rattle.journal.specs.Plan.{refusedPlan, editPlanOf, undoPlanOf};
-use crate::change;
 use crate::records::LIMIT;
 use crate::records::NONE;
 use crate::records::Record;
@@ -16,7 +15,7 @@ use answer::FULL;
 use answer::STALE;
 use answer::TOO_LONG;
 use bundle::Halves;
-use operand::Operand;
+use form::Edit;
 
 // The answer, the bundle to write, the record to keep and its place, and how many records stand then.
 pub struct Plan {
@@ -42,19 +41,18 @@ fn refused(answer: u8) -> Plan
 }
 
 // An edit keeps its record at the first free place.
-pub fn edit_plan(
-    code: &[u8],
-    view: View,
-    bundle: u64,
-    slot: u64,
-    family: u64,
-    number: u64,
-    value: Operand,
-) -> Plan
-    ensures { λ r. ⌜ r ≡ editPlanOf (now (code .entry)) view bundle slot family number value ⌝ }
+pub fn edit_plan(code: &[u8], view: View, edit: Edit) -> Plan
+    ensures { λ r. ⌜ r ≡ editPlanOf (now (code .entry)) view edit ⌝ }
 {
-    let change = change::planned(code, bundle, slot, family, number, value);
-    let unfit = change.answer;
+    let bundle = edit.bundle;
+    let loaded = bundle::load(code, bundle);
+    let missing = loaded.answer;
+    if missing != ACCEPTED {
+        return refused(missing);
+    }
+    let old = loaded.halves;
+    let changed = immediate::change(old, edit);
+    let unfit = changed.answer;
     if unfit != ACCEPTED {
         return refused(unfit);
     }
@@ -63,8 +61,7 @@ pub fn edit_plan(
     if answer != ACCEPTED {
         return refused(answer);
     }
-    let old = change.old;
-    let new = change.new;
+    let new = changed.bundle;
     Plan {
         answer,
         bundle,
@@ -104,7 +101,7 @@ pub fn undo_plan(code: &[u8], view: View) -> Plan
         bundle: last.bundle,
         halves,
         place,
-        kept: NONE,
+        kept: NONE, // the place is free again
         count: place,
     }
 }
@@ -113,7 +110,7 @@ pub fn undo_plan(code: &[u8], view: View) -> Plan
 fn undo_refusal(code: &[u8], view: View) -> u8
     ensures { λ r. ⌜ r ≡ first (undoRefusals (now (code .entry)) view) ⌝ }
 {
-    if bundle::MOST < code.len() {
+    if bundle::LONGEST_CODE < code.len() {
         return TOO_LONG;
     }
     if !view.valid {
@@ -123,12 +120,13 @@ fn undo_refusal(code: &[u8], view: View) -> u8
         return EMPTY;
     }
     let last = view.last;
-    let bundle = last.bundle;
-    if bundle::found(code, bundle) != ACCEPTED {
+    let loaded = bundle::load(code, last.bundle);
+    if loaded.answer != ACCEPTED {
         return EXHAUSTED_INPUT;
     }
+    let present = loaded.halves;
     let new = last.new;
-    if !same(bundle::read(bundle::find(code, bundle)), new) {
+    if !same(present, new) {
         return STALE;
     }
     ACCEPTED

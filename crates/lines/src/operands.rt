@@ -1,5 +1,4 @@
 // Operands as text, written after a space and read: a name, and after some of them a number.
-use crate::out;
 use crate::part;
 use operand::ApplicationRegister;
 use operand::BranchRegister;
@@ -10,6 +9,9 @@ use operand::IndirectionReg;
 use operand::Operand;
 use operand::PredicateRegister;
 use text::Number;
+use text::put_byte;
+use text::put_decimal;
+use text::put_text;
 
 const NAMES: [u8; 140] =
     *b"None PSR PSR_l PSR_um PR IP I U G F P B AR CR Mem Ind:Cpuid: Ind:Dbr: Ind:Dtr: Ind:Ibr: Ind:Itr: Ind:Msr: Ind:Pkr: Ind:Pmc: Ind:Pmd: Ind:Rr:";
@@ -39,23 +41,23 @@ pub enum Whole {
 
 pub fn write(out: &mut [u8], at: usize, o: Operand) -> usize {
     let n = named(o);
-    let gap = out::byte(out, at, b' ');
-    let to = out::text(out, gap, part::word(&NAMES, n.place));
+    let gap = put_byte(out, at, b' ');
+    let to = put_text(out, gap, part::word(&NAMES, n.place));
     if n.place < SIGNED {
         return to;
     }
     if n.place == SIGNED {
         return integer(out, to, n.number);
     }
-    out::decimal(out, to, n.number)
+    put_decimal(out, to, n.number)
 }
 
 fn integer(out: &mut [u8], at: usize, pattern: u64) -> usize {
     if pattern < HALF {
-        return out::decimal(out, at, pattern);
+        return put_decimal(out, at, pattern);
     }
-    let to = out::byte(out, at, b'-');
-    out::decimal(out, to, u64::MAX - pattern + 1)
+    let to = put_byte(out, at, b'-');
+    put_decimal(out, to, u64::MAX - pattern + 1)
 }
 
 fn named(o: Operand) -> Text {

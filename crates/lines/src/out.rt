@@ -1,37 +1,14 @@
 // What is to be written, in a buffer with a position. Each function answers the position after what it
 // put; what has no room is dropped.
-use crate::bytes;
 use crate::part;
-
-pub fn byte(out: &mut [u8], at: usize, b: u8) -> usize {
-    if at < out.len() {
-        out[at] = b;
-        at + 1
-    } else {
-        at
-    }
-}
-
-pub fn text(out: &mut [u8], at: usize, s: &[u8]) -> usize {
-    let mut to = at;
-    let mut i = 0;
-    while i < s.len() {
-        to = byte(out, to, s[i]);
-        i += 1;
-    }
-    to
-}
-
-pub fn decimal(out: &mut [u8], at: usize, n: u64) -> usize {
-    let mut digits = [0u8; 20];
-    let k = io::decimal(n, &mut digits);
-    text(out, at, &digits[..k])
-}
+use text::put_byte;
+use text::put_decimal;
+use text::put_hex;
 
 // A space and a number.
 pub fn number(out: &mut [u8], at: usize, n: u64) -> usize {
-    let to = byte(out, at, b' ');
-    decimal(out, to, n)
+    let to = put_byte(out, at, b' ');
+    put_decimal(out, to, n)
 }
 
 pub fn numbers(out: &mut [u8], at: usize, of: &[u64]) -> usize {
@@ -46,18 +23,11 @@ pub fn numbers(out: &mut [u8], at: usize, of: &[u64]) -> usize {
 
 // A space and bytes.
 pub fn hex(out: &mut [u8], at: usize, s: &[u8]) -> usize {
-    let mut to = byte(out, at, b' ');
+    let to = put_byte(out, at, b' ');
     if s.len() == 0 {
-        return byte(out, to, b'-');
+        return put_byte(out, to, b'-');
     }
-    let mut i = 0;
-    while i < s.len() {
-        let b = s[i];
-        to = byte(out, to, bytes::digit(b / 16));
-        to = byte(out, to, bytes::digit(b));
-        i += 1;
-    }
-    to
+    put_hex(out, to, s)
 }
 
 // A space and the first `count` bytes.

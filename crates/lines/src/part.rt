@@ -25,14 +25,7 @@ pub fn end(s: &[u8], at: u64, count: u64) -> u64 {
 pub fn first(s: &[u8], from: usize, b: u8) -> usize
     ensures { λ r. ⌜ r ≤ length (now (s .entry)) ⌝ }
 {
-    let mut i = within(s, from);
-    while i < s.len() {
-        if s[i] == b {
-            return i;
-        }
-        i += 1;
-    }
-    i
+    bytes::scan::find(s, within(s, from), s.len(), b)
 }
 
 pub fn fill(s: &mut [u8], b: u8) {

@@ -1,7 +1,5 @@
 -- How long a listing can be: a number below 10 ^ k has at most k digits, so a bundle's line has at most 54 bytes, and a code
 -- of at most 65,536 bytes has at most 4,096 of them. Assumes nothing.
-use mathlib.Core.Path.{_≡_, refl}
-use mathlib.Core.Bool.{Bool, true, false}
 use mathlib.Core.List.{List, _++_}
 use Prim.Native.Nat.{ℕ, zero, suc, _*_, _/_, _%_, _^_, _≤_, _<_}
 use native.Mathlib.Omega.{arith}
@@ -11,9 +9,9 @@ use lib.ListN.{length, getD, length-append}
 use Rattle.answer.specs.Answer.{accepted, badBundle}
 use Rattle.table.proofs.Check.{checked}
 use Rattle.bits.proofs.Laws.{part-lt}
-use Rattle.bundle.specs.Bundle.{foundOf, cutOf, bundleOf, refusedOf, numberAt, tagOf}
-use Rattle.bundle.specs.Template.{unitsOf, reserved}
-use Rattle.bundle.proofs.Laws.{cut-not-found, cut-reserved, cut-done}
+use Rattle.bundle.specs.Bundle.{longestCode, findAnswer, cutNumber, cutOf, numberAt, tagOf}
+use Rattle.bundle.specs.Template.{unitsOf}
+use Rattle.bundle.proofs.Laws.{cut-found, cut-not-found}
 use Rattle.bundle.specs.declared.Bundle.{Bundle}
 use Rattle.text.specs.Decimal.{decimal}
 use Rattle.text.proofs.Numerals.{decimal-length}
@@ -21,8 +19,8 @@ use Rattle.lister.specs.Listing.{header, endOf, lineOf, linesOf, restOf,
 use Rattle.lister.proofs.Lines.{end-reserved, end-shown, shown-length, line-length, rest-length}
 
 record Small (b : Bundle) : Type 0 where
-  tag : b .tag < 2 ^ 5
-  units : length (b .units) ≤ 3
+  tag : b .template .tag < 2 ^ 5
+  units : length (b .template .units) ≤ 3
   slot0 : getD (b .slots) 0 0 < 2 ^ 41
   slot1 : getD (b .slots) 1 0 < 2 ^ 41
   slot2 : getD (b .slots) 2 0 < 2 ^ 41
@@ -31,31 +29,22 @@ units-three : (tag : ℕ) → tag < 2 ^ 5 → length (unitsOf tag) ≤ 3
 unfolding unitsOf
 units-three tag h = leb→le _ 3 (checked (λ t. leb (length (unitsOf t)) 3) 32 tt tag h)
 
-bundle-small : (n : ℕ) → Small (bundleOf n)
-bundle-small n =
+number-small : (n : ℕ) → Small (cutNumber n)
+unfolding cutNumber
+number-small n =
     record {
       tag = part-lt n 0 5;
       units = units-three (tagOf n) (part-lt n 0 5);
-      slot0 = part-lt n 5 41;
-      slot1 = part-lt n 46 41;
-      slot2 = part-lt n 87 41;
+      slot0 = part-lt _ 5 41;
+      slot1 = part-lt _ 46 41;
+      slot2 = part-lt _ 87 41;
     }
-
-refused-small : (answer tag : ℕ) → tag < 2 ^ 5 → Small (refusedOf answer tag)
-refused-small answer tag h = record { tag = h; units = lit≤ tt; slot0 = lit< tt; slot1 = lit< tt; slot2 = lit< tt }
-
-by-test : {P : Type 0} (t : Bool) → (t ≡ true → P) → (t ≡ false → P) → P
-by-test true f g = f refl
-by-test false f g = g refl
 
 cut-small : (code : List ℕ) (k : ℕ) → Small (cutOf code k)
 cut-small code k =
-    let tag = tagOf (numberAt code k) in
-    elim (ℕ-discrete (foundOf code k) accepted) [
-      | yes f ↦
-          by-test (reserved tag) (λ r. rw (cut-reserved code k f r) (refused-small badBundle tag (part-lt (numberAt code k) 0 5)))
-          (λ r. rw (cut-done code k f r) (bundle-small (numberAt code k)))
-      | no d ↦ rw (cut-not-found code k d) (refused-small (foundOf code k) 0 (lit< tt))
+    elim (ℕ-discrete (findAnswer code k) accepted) [
+      | yes found ↦ rw (cut-found code k found) (number-small (numberAt code k))
+      | no d ↦ rw (cut-not-found code k d) (record { tag = lit< tt; units = lit≤ tt; slot0 = lit< tt; slot1 = lit< tt; slot2 = lit< tt })
     ]
 
 digits13 : (n : ℕ) → n < 2 ^ 41 → length (decimal n) ≤ 13
@@ -74,7 +63,7 @@ pub line-most : (code : List ℕ) (n : ℕ) → n < 4096 → length (lineOf n (c
 line-most code n h =
     let s = cut-small code n in
     rw (line-length n (cutOf code n))
-    (omega (arith, decimal-length 3 n (omega arith), decimal-length 1 (cutOf code n .tag) (omega (arith, s .tag)), end-most (cutOf code n) s))
+    (omega (arith, decimal-length 3 n (omega arith), decimal-length 1 (cutOf code n .template .tag) (omega (arith, s .tag)), end-most (cutOf code n) s))
 
 pub lines-most : (code : List ℕ) (n : ℕ) → n ≤ 4096 → length (linesOf code n) ≤ 54 * n
 unfolding linesOf
@@ -88,7 +77,7 @@ unfolding restOf
 rest-most zero h = lit≤ tt
 rest-most (suc k) h = rw (rest-length (suc k) (omega arith)) (omega (arith, decimal-length 1 (suc k) (omega arith)))
 
-pub list-most : (code : List ℕ) → length code ≤ 65536 → length (listOf code) ≤ 221227
+pub list-most : (code : List ℕ) → length code ≤ longestCode → length (listOf code) ≤ 221227
 unfolding listOf
 list-most code h =
     rw (length-append header (linesOf code (length code / 16) ++ restOf (length code % 16)), length-append (linesOf code (length code / 16)) (restOf (length code % 16)))

@@ -2,25 +2,25 @@
 use mathlib.Core.Path.{_≡_, ap}
 use mathlib.Core.List.{List}
 use Prim.Native.Nat.{ℕ, _≤_, _<_}
-use lib.ListN.{length, take}
+use lib.ListN.{length}
 use borrow.Author.Tests.{lt-ltb, le-ltb}
 use Rattle.answer.specs.Answer.{first, accepted, tooLong}
+use Rattle.bundle.specs.Bundle.{longestCode}
 use Rattle.text.specs.Hex.{hexBytes}
 use Rattle.text.specs.declared.hex.Ending.{Ending}
-use Rattle.text.proofs.Enough.{enough}
-use Rattle.lister.specs.Listing.{listRefusals, listed, listingOf}
+use Rattle.text.proofs.Enough.{decisive, enough}
+use Rattle.lister.specs.Listing.{listRefusals, listed, listingOf, Decides}
 
-pub short-listed : (code : List ℕ) → length code ≤ 65536 → first (listRefusals code) ≡ accepted
-short-listed code h = rw (le-ltb 65536 (length code) h)
+pub short-listed : (code : List ℕ) → length code ≤ longestCode → first (listRefusals code) ≡ accepted
+short-listed code h = rw (le-ltb longestCode (length code) h)
 
-pub long-refused : (code : List ℕ) → 65536 < length code → first (listRefusals code) ≡ tooLong
-long-refused code h = rw (lt-ltb 65536 (length code) h)
+pub long-refused : (code : List ℕ) → longestCode < length code → first (listRefusals code) ≡ tooLong
+long-refused code h = rw (lt-ltb longestCode (length code) h)
 
-pub listing-is : (text : List ℕ) (e : Ending) → hexBytes 65536 text .1 ≡ e → listingOf text ≡ listed (hexBytes 65536 text .0) e
+pub listing-is : (text : List ℕ) (e : Ending) → hexBytes longestCode text .1 ≡ e → listingOf text ≡ listed (hexBytes longestCode text .0) e
 unfolding listingOf
-listing-is text e h = ap (listed (hexBytes 65536 text .0)) h
+listing-is text e h = ap (listed (hexBytes longestCode text .0)) h
 
--- the characters that decide a text's listing
-pub listing-enough : (text : List ℕ) → listingOf (take 196610 text) ≡ listingOf text
+pub listing-enough : (text : List ℕ) → Decides (decisive longestCode) text
 unfolding listingOf
-listing-enough text = rw (enough 65536 text)
+listing-enough text = record { same = rw (enough longestCode text) }

@@ -1,31 +1,33 @@
 -- The listing of document 01: a header, a line for each bundle, and how many bytes are left over. Assumes nothing.
+use mathlib.Core.Path.{_≡_}
 use Prim.Native.Nat.{ℕ, zero, suc, _/_, _%_}
 use mathlib.Core.Bool.{cond}
 use mathlib.Core.List.{List, [], _∷_, _++_}
 use lib.Dec.{eqb, ltb}
-use lib.ListN.{length, getD}
+use lib.ListN.{length, getD, take}
 use Rattle.answer.specs.Answer.{Refusal, badBundle, tooLong}
-use Rattle.bundle.specs.Bundle.{cutOf}
+use Rattle.bundle.specs.Bundle.{longestCode, cutOf}
 use Rattle.bundle.specs.declared.Bundle.{Bundle}
-use Rattle.text.specs.Ascii.{ascii, row}
+use Rattle.text.specs.Ascii.{ascii, tab, line}
 use Rattle.text.specs.Decimal.{decimal}
+use Rattle.text.specs.Fields.{fields}
 use Rattle.text.specs.Hex.{hexBytes}
 use Rattle.text.specs.declared.hex.Ending.{Ending}
 use Rattle.text.specs.declared.hex.Ending.the-variants.{Whole, BadHex, TooLong}
 
 -- the first line
 abbrev pub header : List ℕ
-header = row (ascii "bundle" ∷ ascii "tag" ∷ ascii "units" ∷ ascii "slot0" ∷ ascii "slot1" ∷ ascii "slot2" ∷ [])
+header = line (ascii "bundle" ∷ ascii "tag" ∷ ascii "units" ∷ ascii "slot0" ∷ ascii "slot1" ∷ ascii "slot2" ∷ [])
 
 -- the end of a bundle's line, after its number and its tag
 unfoldable pub endOf : Bundle → List ℕ
 endOf b =
-    cond (eqb (b .answer) badBundle) (row (ascii "reserved" ∷ []))
-    (row (b .units ∷ decimal (getD (b .slots) 0 0) ∷ decimal (getD (b .slots) 1 0) ∷ decimal (getD (b .slots) 2 0) ∷ []))
+    cond (eqb (b .answer) badBundle) (line (ascii "reserved" ∷ []))
+    (line (b .template .units ∷ decimal (getD (b .slots) 0 0) ∷ decimal (getD (b .slots) 1 0) ∷ decimal (getD (b .slots) 2 0) ∷ []))
 
 -- the line of bundle n
 unfoldable pub lineOf : ℕ → Bundle → List ℕ
-lineOf n b = decimal n ++ (9 ∷ (decimal (b .tag) ++ (9 ∷ endOf b)))
+lineOf n b = fields (n ∷ b .template .tag ∷ []) (tab ∷ tab ∷ []) ++ endOf b
 
 -- the lines of the first n bundles of a code
 unfoldable pub linesOf : List ℕ → ℕ → List ℕ
@@ -35,7 +37,7 @@ linesOf code (suc n) = linesOf code n ++ lineOf n (cutOf code n)
 -- the line of the bytes left over, where there are any
 unfoldable pub restOf : ℕ → List ℕ
 restOf zero = []
-restOf (suc k) = row (ascii "rest" ∷ decimal (suc k) ∷ [])
+restOf (suc k) = line (ascii "rest" ∷ decimal (suc k) ∷ [])
 
 -- the listing of a code
 unfoldable pub listOf : List ℕ → List ℕ
@@ -43,14 +45,18 @@ listOf code = header ++ (linesOf code (length code / 16) ++ restOf (length code 
 
 -- which code isn't listed
 abbrev pub listRefusals : List ℕ → List Refusal
-listRefusals code = (tooLong, ltb 65536 (length code)) ∷ []
+listRefusals code = (tooLong, ltb longestCode (length code)) ∷ []
 
 -- the listing of the bytes that a text gives, or the one line of its fault
 abbrev pub listed : List ℕ → Ending → List ℕ
 listed code Whole = listOf code
-listed code BadHex = row (ascii "badhex" ∷ [])
-listed code TooLong = row (ascii "toolong" ∷ [])
+listed code BadHex = line (ascii "badhex" ∷ [])
+listed code TooLong = line (ascii "toolong" ∷ [])
 
 -- the listing of a text
 unfoldable pub listingOf : List ℕ → List ℕ
-listingOf text = listed (hexBytes 65536 text .0) (hexBytes 65536 text .1)
+listingOf text = listed (hexBytes longestCode text .0) (hexBytes longestCode text .1)
+
+-- its first n characters decide it
+pub record Decides (n : ℕ) (text : List ℕ) : Type 0 where
+  pub same : listingOf (take n text) ≡ listingOf text

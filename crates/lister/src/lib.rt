@@ -6,19 +6,19 @@ ghost use mathlib.Core.List.{[]};
 ghost use Prim.Native.Nat.{_≤_};
 ghost use lib.Dec.{leb};
 ghost use lib.ListN.{length};
+ghost use Rattle.bundle.specs.Bundle.{longestCode};
 ghost use Rattle.text.specs.Put.{Put};
 ghost use Rattle.text.specs.Whole.{wroteOf};
-ghost use Rattle.lister.specs.Listing.{listOf, listRefusals, listingOf};
+ghost use Rattle.lister.specs.Listing.{listOf, listRefusals, listingOf, Decides};
 use answer::ACCEPTED;
 use answer::NO_ROOM;
 use answer::TOO_LONG;
-use bundle::MOST;
+use bundle::LONGEST_CODE;
 use text::Ending;
 use text::Written;
 
-// So many characters of a text decide its listing: three for each byte, and two digits of one byte more
-// (the law `listing-enough`).
-pub const ENOUGH: usize = 3 * MOST + 2;
+// So many characters of a text decide its listing: three for each byte, and two digits of one byte more.
+pub const ENOUGH: usize = 3 * LONGEST_CODE + 2;
 
 // No listing is longer.
 pub const CAPACITY: usize = 221227;
@@ -26,8 +26,9 @@ pub const CAPACITY: usize = 221227;
 // The listing of the bytes that a text gives in hex.
 pub fn listing(text: &[u8], out: &mut [u8]) -> Written
     ensures { λ r. ⌜ (r, now (out .exit)) ≡ wroteOf [] (listingOf (now (text .entry))) (now (out .entry)) ⌝ }
+    ensures enough { λ _. do ⌜ Decides (← ⟦ENOUGH⟧ .entry) (now (text .entry)) ⌝ }
 {
-    let mut code = [0u8; MOST];
+    let mut code = [0u8; LONGEST_CODE];
     let decoded = text::decode(text, &mut code);
     let count = decoded.count;
     let ending = decoded.ending;
@@ -42,7 +43,7 @@ pub fn listing(text: &[u8], out: &mut [u8]) -> Written
 pub fn list(code: &[u8], out: &mut [u8]) -> Written
     ensures { λ r. ⌜ (r, now (out .exit)) ≡ wroteOf (listRefusals (now (code .entry))) (listOf (now (code .entry))) (now (out .entry)) ⌝ }
 {
-    if MOST < code.len() {
+    if LONGEST_CODE < code.len() {
         return Written {
             answer: TOO_LONG,
             length: 0,
@@ -63,19 +64,18 @@ pub fn list(code: &[u8], out: &mut [u8]) -> Written
 
 // Whether the listing has at most `room` bytes. It is measured only where room may be short.
 fn fits(code: &[u8], room: usize) -> bool
-    requires { ⌜ length (now code) ≤ 65536 ⌝ }
+    requires { ⌜ length (now code) ≤ longestCode ⌝ }
     ensures { λ r. ⌜ r ≡ leb (length (listOf (now (code .entry)))) room ⌝ }
 {
     if CAPACITY <= room {
         return true;
     }
-    let mut none = [0u8; 0];
-    write(code, &mut none) <= room
+    let mut empty = [0u8; 0];
+    write(code, &mut empty) <= room
 }
 
 // Writes the listing at the output's start, as far as there is room, and answers its length.
 fn write(code: &[u8], out: &mut [u8]) -> usize
-    requires { ⌜ length (now code) ≤ 65536 ⌝ }
     ensures { λ r. ⌜ Put (now (out .entry)) 0 (listOf (now (code .entry))) (now (out .exit)) r ⌝ }
 {
     let mut at = text::put_text(out, 0, b"bundle\ttag\tunits\tslot0\tslot1\tslot2\n");

@@ -6,21 +6,14 @@ use mathlib.Core.Option.{Option, none, some}
 use Rattle.operand.specs.declared.Operand.{Operand}
 use Rattle.operand.specs.declared.Operand.the-variants.{None as NoOperand}
 use Rattle.operand.specs.declared.Position.{Position}
-use Rattle.operand.specs.declared.Position.the-variants.{None as NoPosition, First, Second}
+use Rattle.operand.specs.declared.Position.the-variants.{None as NoPosition, At}
 use Rattle.operand.specs.declared.Shown.{Shown}
 use Rattle.operand.specs.declared.Reading.{Reading}
 
--- document 01's position, 0, 1 or none, for each case of the enum
-abbrev pub positionOf : Position → Option ℕ
-positionOf NoPosition = none
-positionOf First = some 0
-positionOf Second = some 1
-
--- the case of the enum for a position: `caseOf (positionOf p)` is `p`
-abbrev pub caseOf : Option ℕ → Position
-caseOf none = NoPosition
-caseOf (some zero) = First
-caseOf (some (suc n)) = Second
+-- document 01's position, none or an operand's number, as the enum has it
+abbrev pub positionOf : Option ℕ → Position
+positionOf none = NoPosition
+positionOf (some n) = At n
 
 abbrev pub shown : Operand → Shown
 shown o = record { 0 = o }
@@ -37,8 +30,8 @@ listed p os = record { position = p; operands = padded 5 os }
 
 -- no position, five `None`
 abbrev pub unread : Reading
-unread = listed (caseOf none) []
+unread = listed (positionOf none) []
 
 -- 000's `one_op`: position 0, or none
 abbrev pub one : Bool → Operand → Reading
-one dest o = listed (caseOf (cond dest (some 0) none)) (o ∷ [])
+one dest o = listed (positionOf (cond dest (some 0) none)) (o ∷ [])

@@ -32,50 +32,6 @@ pub enum IndirectionReg {
 
 pub struct ApplicationRegister(pub u8);
 
-impl ApplicationRegister {
-    pub const KR0: ApplicationRegister = ApplicationRegister(0);
-
-    pub const KR1: ApplicationRegister = ApplicationRegister(1);
-
-    pub const KR2: ApplicationRegister = ApplicationRegister(2);
-
-    pub const KR3: ApplicationRegister = ApplicationRegister(3);
-
-    pub const KR4: ApplicationRegister = ApplicationRegister(4);
-
-    pub const KR5: ApplicationRegister = ApplicationRegister(5);
-
-    pub const KR6: ApplicationRegister = ApplicationRegister(6);
-
-    pub const KR7: ApplicationRegister = ApplicationRegister(7);
-
-    pub const RSC: ApplicationRegister = ApplicationRegister(16);
-
-    pub const BSP: ApplicationRegister = ApplicationRegister(17);
-
-    pub const BSPSTORE: ApplicationRegister = ApplicationRegister(18);
-
-    pub const RNAT: ApplicationRegister = ApplicationRegister(19);
-
-    pub const CSD: ApplicationRegister = ApplicationRegister(25);
-
-    pub const CCV: ApplicationRegister = ApplicationRegister(32);
-
-    pub const UNAT: ApplicationRegister = ApplicationRegister(36);
-
-    pub const FPSR: ApplicationRegister = ApplicationRegister(40);
-
-    pub const ITC: ApplicationRegister = ApplicationRegister(44);
-
-    pub const RUC: ApplicationRegister = ApplicationRegister(45);
-
-    pub const PFS: ApplicationRegister = ApplicationRegister(64);
-
-    pub const LC: ApplicationRegister = ApplicationRegister(65);
-
-    pub const EC: ApplicationRegister = ApplicationRegister(66);
-}
-
 pub enum Operand {
     None,
     GPRegister(GPRegister),
@@ -95,11 +51,10 @@ pub enum Operand {
     Indirection(IndirectionReg, GPRegister),
 }
 
-// The last operand that the instruction writes, 000's `Option<u8>`: none, 0 or 1.
+// The last operand that the instruction writes: 000's `Option<u8>`.
 pub enum Position {
     None,
-    First,
-    Second,
+    At(u8),
 }
 
 pub struct Shown(pub Operand);
@@ -120,7 +75,7 @@ pub fn one_op(dest: bool, op: Operand) -> Reading
     ensures { λ r. ⌜ r ≡ one dest op ⌝ }
 {
     if dest {
-        two_op(Position::First, op, Operand::None)
+        two_op(Position::At(0), op, Operand::None)
     } else {
         two_op(Position::None, op, Operand::None)
     }

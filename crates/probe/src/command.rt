@@ -148,7 +148,7 @@ fn takes_text(command: u64) -> bool {
 }
 
 fn word(out: &mut [u8], at: usize, command: u64) -> usize {
-    out::text(out, at, part::word(&WORDS, command))
+    text::put_text(out, at, part::word(&WORDS, command))
 }
 
 fn called(

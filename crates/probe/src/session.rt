@@ -1,7 +1,6 @@
 // The run over standard input: read in blocks, answered line by line, written in blocks.
 ghost use Prim.Native.Nat.{_≤_};
 use crate::command;
-use lines::out;
 use lines::part;
 
 // The longest line that is answered.
@@ -139,9 +138,9 @@ fn line(text: &[u8], code: &mut [u8], kept: &mut [u64], out: &mut [u8], s: State
 // A line that wrote nothing doesn't read.
 fn ended(out: &mut [u8], from: usize, to: usize) -> usize {
     if to <= from {
-        return out::text(out, from, b"error\n");
+        return text::put_text(out, from, b"error\n");
     }
-    out::byte(out, to, b'\n')
+    text::put_byte(out, to, b'\n')
 }
 
 // Writes the output where it could have no room for another answer, and answers where it stands then.

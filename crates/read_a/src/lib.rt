@@ -1,10 +1,7 @@
 // `read_a_operands`: an arm of 000's `match` a function, in its order.
 ghost use mathlib.Core.Path.{_≡_};
-ghost use Rattle.form.specs.Field.{readingOf};
+ghost use Rattle.reading.specs.Line.{readingOf};
 ghost use Rattle.read_a.specs.Table.{aForms};
-use form::Signed;
-use form::four_op_imm3;
-use form::three_op_imm2;
 use operand::GPRegister;
 use operand::Operand;
 use operand::Position;
@@ -13,6 +10,9 @@ use operand::Reading;
 use operand::four_op;
 use operand::no_op;
 use operand::three_op;
+use reading::Difference;
+use reading::four_op_imm3;
+use reading::three_op_imm2;
 
 fn read_a1_a9(word: u64) -> Reading
     ensures { λ r. ⌜ r ≡ readingOf aForms 1 word 0 ⌝ }
@@ -21,7 +21,7 @@ fn read_a1_a9(word: u64) -> Reading
     let r2 = ((word >> 13) % 128) as u8;
     let r3 = ((word >> 20) % 128) as u8;
     three_op(
-        Position::First,
+        Position::At(0),
         Operand::GPRegister(GPRegister(r1)),
         Operand::GPRegister(GPRegister(r2)),
         Operand::GPRegister(GPRegister(r3)),
@@ -36,7 +36,7 @@ fn read_a2(word: u64) -> Reading
     let r3 = ((word >> 20) % 128) as u8;
     let ct = (word >> 27) % 4 + 1;
     four_op(
-        Position::First,
+        Position::At(0),
         Operand::GPRegister(GPRegister(r1)),
         Operand::GPRegister(GPRegister(r2)),
         Operand::ImmU64(ct),
@@ -51,9 +51,9 @@ fn read_a3(word: u64) -> Reading
     let r3 = ((word >> 20) % 128) as u8;
     let immb = (word >> 13) % 128;
     let s = (word >> 36) % 2;
-    let imm = Signed(immb, (1 << 7) * s);
+    let imm = Difference(immb, (1 << 7) * s);
     three_op_imm2(
-        Position::First,
+        Position::At(0),
         Operand::GPRegister(GPRegister(r1)),
         imm,
         Operand::GPRegister(GPRegister(r3)),
@@ -68,9 +68,9 @@ fn read_a4(word: u64) -> Reading
     let immb = (word >> 13) % 128;
     let immd = (word >> 27) % 64;
     let s = (word >> 36) % 2;
-    let imm = Signed(immb + (1 << 7) * immd, (1 << 13) * s);
+    let imm = Difference(immb + (1 << 7) * immd, (1 << 13) * s);
     three_op_imm2(
-        Position::First,
+        Position::At(0),
         Operand::GPRegister(GPRegister(r1)),
         imm,
         Operand::GPRegister(GPRegister(r3)),
@@ -86,9 +86,9 @@ fn read_a5(word: u64) -> Reading
     let immc = (word >> 22) % 32;
     let immd = (word >> 27) % 512;
     let s = (word >> 36) % 2;
-    let imm = Signed(immb + (1 << 7) * (immd + (1 << 9) * immc), (1 << 21) * s);
+    let imm = Difference(immb + (1 << 7) * (immd + (1 << 9) * immc), (1 << 21) * s);
     three_op_imm2(
-        Position::First,
+        Position::At(0),
         Operand::GPRegister(GPRegister(r1)),
         imm,
         Operand::GPRegister(GPRegister(r3)),
@@ -103,7 +103,7 @@ fn read_a6(word: u64) -> Reading
     let r3 = ((word >> 20) % 128) as u8;
     let p2 = ((word >> 27) % 64) as u8;
     four_op(
-        Position::Second,
+        Position::At(1),
         Operand::PredicateRegister(PredicateRegister(p1)),
         Operand::PredicateRegister(PredicateRegister(p2)),
         Operand::GPRegister(GPRegister(r2)),
@@ -118,7 +118,7 @@ fn read_a7(word: u64) -> Reading
     let r3 = ((word >> 20) % 128) as u8;
     let p2 = ((word >> 27) % 64) as u8;
     four_op(
-        Position::Second,
+        Position::At(1),
         Operand::PredicateRegister(PredicateRegister(p1)),
         Operand::PredicateRegister(PredicateRegister(p2)),
         Operand::GPRegister(GPRegister(0)),
@@ -132,11 +132,11 @@ fn read_a8(word: u64) -> Reading
     let p1 = ((word >> 6) % 64) as u8;
     let imm7b = (word >> 13) % 128;
     let s = (word >> 36) % 2;
-    let imm = Signed(imm7b, (1 << 7) * s);
+    let imm = Difference(imm7b, (1 << 7) * s);
     let r3 = ((word >> 20) % 128) as u8;
     let p2 = ((word >> 27) % 64) as u8;
     four_op_imm3(
-        Position::Second,
+        Position::At(1),
         Operand::PredicateRegister(PredicateRegister(p1)),
         Operand::PredicateRegister(PredicateRegister(p2)),
         imm,
@@ -152,7 +152,7 @@ fn read_a10(word: u64) -> Reading
     let r3 = ((word >> 20) % 128) as u8;
     let ct = (word >> 27) % 4 + 1;
     four_op(
-        Position::First,
+        Position::At(0),
         Operand::GPRegister(GPRegister(r1)),
         Operand::GPRegister(GPRegister(r2)),
         Operand::GPRegister(GPRegister(r3)),

@@ -1,10 +1,7 @@
 // `read_b_operands`: an arm of 000's `match` a function, in its order.
 ghost use mathlib.Core.Path.{_≡_};
-ghost use Rattle.form.specs.Field.{readingOf};
+ghost use Rattle.reading.specs.Line.{readingOf};
 ghost use Rattle.read_b.specs.Table.{bForms};
-use form::Signed;
-use form::five_op_imm2;
-use form::four_op_imm1;
 use operand::BranchRegister;
 use operand::Operand;
 use operand::Position;
@@ -13,13 +10,16 @@ use operand::five_op;
 use operand::four_op;
 use operand::no_op;
 use operand::one_op;
+use reading::Difference;
+use reading::five_op_imm2;
+use reading::four_op_imm1;
 
 fn read_b1_b2(word: u64) -> Reading
     ensures { λ r. ⌜ r ≡ readingOf bForms 1 word 0 ⌝ }
 {
     let imm20b = (word >> 13) % (1 << 20);
     let s = (word >> 36) % 2;
-    let imm = Signed((1 << 4) * imm20b, (1 << 24) * s);
+    let imm = Difference((1 << 4) * imm20b, (1 << 24) * s);
     let wh = (word >> 33) % 4;
     let d = (word >> 35) % 2;
     let p = (word >> 12) % 2;
@@ -37,7 +37,7 @@ fn read_b3(word: u64) -> Reading
 {
     let imm20b = (word >> 13) % (1 << 20);
     let s = (word >> 36) % 2;
-    let imm = Signed((1 << 4) * imm20b, (1 << 24) * s);
+    let imm = Difference((1 << 4) * imm20b, (1 << 24) * s);
     let wh = (word >> 33) % 4;
     let d = (word >> 35) % 2;
     let p = (word >> 12) % 2;
@@ -96,7 +96,7 @@ fn read_b6(word: u64) -> Reading
     let tag = timm7a + (1 << 7) * t2e;
     let ih = (word >> 33) % 4;
     let s = (word >> 36) % 2;
-    let imm = Signed(imm20b + (1 << 20) * s, 0);
+    let imm = Difference(imm20b + (1 << 20) * s, 0);
     four_op_imm1(
         Position::None,
         imm,

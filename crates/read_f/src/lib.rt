@@ -1,6 +1,6 @@
 // `read_f_operands`: an arm of 000's `match` a function, in its order.
 ghost use mathlib.Core.Path.{_≡_};
-ghost use Rattle.form.specs.Field.{readingOf};
+ghost use Rattle.reading.specs.Line.{readingOf};
 ghost use Rattle.read_f.specs.Table.{fForms};
 use operand::FloatRegister;
 use operand::Operand;
@@ -21,7 +21,7 @@ fn read_f1_f3(word: u64) -> Reading
     let f3 = ((word >> 20) % 128) as u8;
     let f4 = ((word >> 27) % 128) as u8;
     four_op(
-        Position::First,
+        Position::At(0),
         Operand::FloatRegister(FloatRegister(f1)),
         Operand::FloatRegister(FloatRegister(f3)),
         Operand::FloatRegister(FloatRegister(f4)),
@@ -37,7 +37,7 @@ fn read_f4(word: u64) -> Reading
     let f3 = ((word >> 20) % 128) as u8;
     let p2 = ((word >> 27) % 64) as u8;
     four_op(
-        Position::Second,
+        Position::At(1),
         Operand::PredicateRegister(PredicateRegister(p1)),
         Operand::PredicateRegister(PredicateRegister(p2)),
         Operand::FloatRegister(FloatRegister(f2)),
@@ -55,7 +55,7 @@ fn read_f5(word: u64) -> Reading
     let fclass = fclass7c + (1 << 7) * fc2;
     let p2 = ((word >> 27) % 64) as u8;
     four_op(
-        Position::Second,
+        Position::At(1),
         Operand::PredicateRegister(PredicateRegister(p1)),
         Operand::PredicateRegister(PredicateRegister(p2)),
         Operand::FloatRegister(FloatRegister(f2)),
@@ -71,7 +71,7 @@ fn read_f6(word: u64) -> Reading
     let f3 = ((word >> 20) % 128) as u8;
     let p2 = ((word >> 27) % 64) as u8;
     four_op(
-        Position::Second,
+        Position::At(1),
         Operand::FloatRegister(FloatRegister(f1)),
         Operand::PredicateRegister(PredicateRegister(p2)),
         Operand::FloatRegister(FloatRegister(f2)),
@@ -86,7 +86,7 @@ fn read_f7(word: u64) -> Reading
     let f3 = ((word >> 20) % 128) as u8;
     let p2 = ((word >> 27) % 64) as u8;
     three_op(
-        Position::Second,
+        Position::At(1),
         Operand::FloatRegister(FloatRegister(f1)),
         Operand::PredicateRegister(PredicateRegister(p2)),
         Operand::FloatRegister(FloatRegister(f3)),
@@ -100,7 +100,7 @@ fn read_f8_f9(word: u64) -> Reading
     let f2 = ((word >> 13) % 128) as u8;
     let f3 = ((word >> 20) % 128) as u8;
     three_op(
-        Position::First,
+        Position::At(0),
         Operand::FloatRegister(FloatRegister(f1)),
         Operand::FloatRegister(FloatRegister(f2)),
         Operand::FloatRegister(FloatRegister(f3)),
@@ -113,7 +113,7 @@ fn read_f10_f11(word: u64) -> Reading
     let f1 = ((word >> 6) % 128) as u8;
     let f2 = ((word >> 13) % 128) as u8;
     two_op(
-        Position::First,
+        Position::At(0),
         Operand::FloatRegister(FloatRegister(f1)),
         Operand::FloatRegister(FloatRegister(f2)),
     )

@@ -1,6 +1,6 @@
 // `read_l_operands`: an arm of 000's `match` a function, in its order.
 ghost use mathlib.Core.Path.{_≡_};
-ghost use Rattle.form.specs.Field.{readingOf};
+ghost use Rattle.reading.specs.Line.{readingOf};
 ghost use Rattle.read_l.specs.Table.{xForms};
 use operand::BranchRegister;
 use operand::GPRegister;
@@ -34,7 +34,7 @@ fn read_x2(word: u64, word2: u64) -> Reading
     let imm = imm7b
         + (1 << 7) * (immd + (1 << 9) * (immc + (1 << 5) * (ic + 2 * (imm41 + (1 << 41) * i))));
     two_op(
-        Position::First,
+        Position::At(0),
         Operand::GPRegister(GPRegister(r1)),
         Operand::ImmU64(imm),
     )
@@ -59,7 +59,7 @@ fn read_x4(word: u64, word2: u64) -> Reading
     let imm39 = (word2 >> 2) % (1 << 39);
     let imm = imm20b + (1 << 20) * (i + 2 * imm39);
     two_op(
-        Position::First,
+        Position::At(0),
         Operand::BranchRegister(BranchRegister(b1)),
         Operand::ImmU64(imm),
     )

@@ -6,61 +6,62 @@ use Rattle.operand.specs.declared.Operand.{Operand}
 use Rattle.operand.specs.declared.Operand.the-variants.{None, PSR, «PSR_l», «PSR_um»}
 use Rattle.operand.specs.declared.IndirectionReg.{IndirectionReg}
 use Rattle.operand.specs.declared.IndirectionReg.the-variants.{Cpuid, Dbr, Dtr, Ibr, Itr, Msr, Pkr, Pmc, Pmd, Rr}
-use Rattle.form.specs.Field.{_‥_, gp, fp, ar, cr, mem, ind, u64, i64, s64, size, is, ar-is, by, Row, Forms, _⇒_, written, unwritten}
+use Rattle.operand.specs.declared.Reading.{Reading}
+use Rattle.reading.specs.Line.{_‥_, gp, fp, ar, cr, mem, ind, u64, i64, s64, size, is, ar-is, by, Of, Forms, _⇒_, dest, no-dest}
 
 -- M1 to M16
 abbrev pub mForms1 : Forms
 mForms1 =
-    1 ⇒ written 0 (gp (6 ‥ 13) ∷ mem (20 ‥ 27) ∷ [])
-    ∷ 2 ⇒ written 0 (gp (6 ‥ 13) ∷ mem (20 ‥ 27) ∷ gp (13 ‥ 20) ∷ [])
-    ∷ 16 ⇒ written 0 (gp (6 ‥ 13) ∷ mem (20 ‥ 27) ∷ gp (13 ‥ 20) ∷ [])
-    ∷ 3 ⇒ written 0 (gp (6 ‥ 13) ∷ mem (20 ‥ 27) ∷ s64 (13 ‥ 20 ∷ 27 ‥ 28 ∷ []) 36 ∷ [])
-    ∷ 4 ⇒ written 0 (mem (20 ‥ 27) ∷ gp (13 ‥ 20) ∷ [])
-    ∷ 5 ⇒ written 0 (mem (20 ‥ 27) ∷ gp (13 ‥ 20) ∷ s64 (6 ‥ 13 ∷ 27 ‥ 28 ∷ []) 36 ∷ [])
-    ∷ 6 ⇒ written 0 (fp (6 ‥ 13) ∷ mem (20 ‥ 27) ∷ [])
-    ∷ 7 ⇒ written 0 (fp (6 ‥ 13) ∷ mem (20 ‥ 27) ∷ gp (13 ‥ 20) ∷ [])
-    ∷ 8 ⇒ written 0 (fp (6 ‥ 13) ∷ mem (20 ‥ 27) ∷ s64 (13 ‥ 20 ∷ 27 ‥ 28 ∷ []) 36 ∷ [])
-    ∷ 9 ⇒ written 0 (mem (20 ‥ 27) ∷ fp (13 ‥ 20) ∷ [])
-    ∷ 10 ⇒ written 0 (mem (20 ‥ 27) ∷ fp (13 ‥ 20) ∷ s64 (6 ‥ 13 ∷ 27 ‥ 28 ∷ []) 36 ∷ [])
-    ∷ 11 ⇒ written 1 (fp (6 ‥ 13) ∷ fp (13 ‥ 20) ∷ mem (20 ‥ 27) ∷ [])
-    ∷ 12 ⇒ written 1 (fp (6 ‥ 13) ∷ fp (13 ‥ 20) ∷ mem (20 ‥ 27) ∷ size 30 ∷ [])
-    ∷ 13 ⇒ unwritten (mem (20 ‥ 27) ∷ [])
-    ∷ 14 ⇒ unwritten (mem (20 ‥ 27) ∷ gp (13 ‥ 20) ∷ [])
-    ∷ 15 ⇒ unwritten (mem (20 ‥ 27) ∷ i64 (13 ‥ 20 ∷ 27 ‥ 28 ∷ 36 ‥ 37 ∷ []) ∷ [])
+    1 ⇒ dest 0 (gp (6 ‥ 13) ∷ mem (20 ‥ 27) ∷ [])
+    ∷ 2 ⇒ dest 0 (gp (6 ‥ 13) ∷ mem (20 ‥ 27) ∷ gp (13 ‥ 20) ∷ [])
+    ∷ 16 ⇒ dest 0 (gp (6 ‥ 13) ∷ mem (20 ‥ 27) ∷ gp (13 ‥ 20) ∷ [])
+    ∷ 3 ⇒ dest 0 (gp (6 ‥ 13) ∷ mem (20 ‥ 27) ∷ s64 (13 ‥ 20 ∷ 27 ‥ 28 ∷ []) 36 ∷ [])
+    ∷ 4 ⇒ dest 0 (mem (20 ‥ 27) ∷ gp (13 ‥ 20) ∷ [])
+    ∷ 5 ⇒ dest 0 (mem (20 ‥ 27) ∷ gp (13 ‥ 20) ∷ s64 (6 ‥ 13 ∷ 27 ‥ 28 ∷ []) 36 ∷ [])
+    ∷ 6 ⇒ dest 0 (fp (6 ‥ 13) ∷ mem (20 ‥ 27) ∷ [])
+    ∷ 7 ⇒ dest 0 (fp (6 ‥ 13) ∷ mem (20 ‥ 27) ∷ gp (13 ‥ 20) ∷ [])
+    ∷ 8 ⇒ dest 0 (fp (6 ‥ 13) ∷ mem (20 ‥ 27) ∷ s64 (13 ‥ 20 ∷ 27 ‥ 28 ∷ []) 36 ∷ [])
+    ∷ 9 ⇒ dest 0 (mem (20 ‥ 27) ∷ fp (13 ‥ 20) ∷ [])
+    ∷ 10 ⇒ dest 0 (mem (20 ‥ 27) ∷ fp (13 ‥ 20) ∷ s64 (6 ‥ 13 ∷ 27 ‥ 28 ∷ []) 36 ∷ [])
+    ∷ 11 ⇒ dest 1 (fp (6 ‥ 13) ∷ fp (13 ‥ 20) ∷ mem (20 ‥ 27) ∷ [])
+    ∷ 12 ⇒ dest 1 (fp (6 ‥ 13) ∷ fp (13 ‥ 20) ∷ mem (20 ‥ 27) ∷ size 30 ∷ [])
+    ∷ 13 ⇒ no-dest (mem (20 ‥ 27) ∷ [])
+    ∷ 14 ⇒ no-dest (mem (20 ‥ 27) ∷ gp (13 ‥ 20) ∷ [])
+    ∷ 15 ⇒ no-dest (mem (20 ‥ 27) ∷ i64 (13 ‥ 20 ∷ 27 ‥ 28 ∷ 36 ‥ 37 ∷ []) ∷ [])
     ∷ []
 
 -- M17 to M30, and M47
 abbrev pub mForms17 : Forms
 mForms17 =
-    17 ⇒ written 0 (gp (6 ‥ 13) ∷ mem (20 ‥ 27) ∷ s64 (13 ‥ 15 ∷ []) 15 ∷ [])
-    ∷ 18 ⇒ written 0 (fp (6 ‥ 13) ∷ gp (13 ‥ 20) ∷ [])
-    ∷ 19 ⇒ written 0 (gp (6 ‥ 13) ∷ fp (13 ‥ 20) ∷ [])
-    ∷ 20 ⇒ unwritten (gp (13 ‥ 20) ∷ s64 (6 ‥ 13 ∷ 20 ‥ 33 ∷ []) 36 ∷ [])
-    ∷ 21 ⇒ unwritten (fp (13 ‥ 20) ∷ s64 (6 ‥ 13 ∷ 20 ‥ 33 ∷ []) 36 ∷ [])
-    ∷ 22 ⇒ unwritten (gp (6 ‥ 13) ∷ i64 (13 ‥ 33 ∷ 36 ‥ 37 ∷ []) ∷ [])
-    ∷ 23 ⇒ unwritten (fp (6 ‥ 13) ∷ i64 (13 ‥ 33 ∷ 36 ‥ 37 ∷ []) ∷ [])
-    ∷ 24 ⇒ unwritten (is None ∷ [])
-    ∷ 25 ⇒ unwritten (is None ∷ [])
-    ∷ 26 ⇒ unwritten (gp (6 ‥ 13) ∷ [])
-    ∷ 27 ⇒ unwritten (fp (6 ‥ 13) ∷ [])
-    ∷ 28 ⇒ unwritten (gp (20 ‥ 27) ∷ [])
-    ∷ 47 ⇒ unwritten (gp (20 ‥ 27) ∷ [])
-    ∷ 29 ⇒ written 0 (ar (20 ‥ 27) ∷ gp (13 ‥ 20) ∷ [])
-    ∷ 30 ⇒ written 0 (ar (20 ‥ 27) ∷ s64 (13 ‥ 20 ∷ []) 36 ∷ [])
+    17 ⇒ dest 0 (gp (6 ‥ 13) ∷ mem (20 ‥ 27) ∷ s64 (13 ‥ 15 ∷ []) 15 ∷ [])
+    ∷ 18 ⇒ dest 0 (fp (6 ‥ 13) ∷ gp (13 ‥ 20) ∷ [])
+    ∷ 19 ⇒ dest 0 (gp (6 ‥ 13) ∷ fp (13 ‥ 20) ∷ [])
+    ∷ 20 ⇒ no-dest (gp (13 ‥ 20) ∷ s64 (6 ‥ 13 ∷ 20 ‥ 33 ∷ []) 36 ∷ [])
+    ∷ 21 ⇒ no-dest (fp (13 ‥ 20) ∷ s64 (6 ‥ 13 ∷ 20 ‥ 33 ∷ []) 36 ∷ [])
+    ∷ 22 ⇒ no-dest (gp (6 ‥ 13) ∷ i64 (13 ‥ 33 ∷ 36 ‥ 37 ∷ []) ∷ [])
+    ∷ 23 ⇒ no-dest (fp (6 ‥ 13) ∷ i64 (13 ‥ 33 ∷ 36 ‥ 37 ∷ []) ∷ [])
+    ∷ 24 ⇒ no-dest (is None ∷ [])
+    ∷ 25 ⇒ no-dest (is None ∷ [])
+    ∷ 26 ⇒ no-dest (gp (6 ‥ 13) ∷ [])
+    ∷ 27 ⇒ no-dest (fp (6 ‥ 13) ∷ [])
+    ∷ 28 ⇒ no-dest (gp (20 ‥ 27) ∷ [])
+    ∷ 47 ⇒ no-dest (gp (20 ‥ 27) ∷ [])
+    ∷ 29 ⇒ dest 0 (ar (20 ‥ 27) ∷ gp (13 ‥ 20) ∷ [])
+    ∷ 30 ⇒ dest 0 (ar (20 ‥ 27) ∷ s64 (13 ‥ 20 ∷ []) 36 ∷ [])
     ∷ []
 
 -- M35, M36, M42, M43 with the operand that x6 decides
-abbrev pub m35 : Operand → Row
-m35 psr = written 0 (is psr ∷ gp (13 ‥ 20) ∷ [])
+abbrev pub m35 : Operand → Of Reading
+m35 psr = dest 0 (is psr ∷ gp (13 ‥ 20) ∷ [])
 
-abbrev pub m36 : Operand → Row
-m36 psr = written 0 (gp (6 ‥ 13) ∷ is psr ∷ [])
+abbrev pub m36 : Operand → Of Reading
+m36 psr = dest 0 (gp (6 ‥ 13) ∷ is psr ∷ [])
 
-abbrev pub m42 : IndirectionReg → Row
-m42 i = written 0 (ind i (20 ‥ 27) ∷ gp (13 ‥ 20) ∷ [])
+abbrev pub m42 : IndirectionReg → Of Reading
+m42 i = dest 0 (ind i (20 ‥ 27) ∷ gp (13 ‥ 20) ∷ [])
 
-abbrev pub m43 : IndirectionReg → Row
-m43 i = written 0 (gp (6 ‥ 13) ∷ ind i (20 ‥ 27) ∷ [])
+abbrev pub m43 : IndirectionReg → Of Reading
+m43 i = dest 0 (gp (6 ‥ 13) ∷ ind i (20 ‥ 27) ∷ [])
 
 -- that operand by x6
 abbrev pub psr35 : List (ℕ × Operand)
@@ -80,23 +81,23 @@ indirect43 =
 -- M31 to M46, and M48
 abbrev pub mForms31 : Forms
 mForms31 =
-    31 ⇒ written 0 (gp (6 ‥ 13) ∷ ar (20 ‥ 27) ∷ [])
-    ∷ 32 ⇒ written 0 (cr (20 ‥ 27) ∷ gp (13 ‥ 20) ∷ [])
-    ∷ 33 ⇒ written 0 (gp (6 ‥ 13) ∷ cr (20 ‥ 27) ∷ [])
-    ∷ 34 ⇒ written 0 (gp (6 ‥ 13) ∷ ar-is 64 ∷ u64 (13 ‥ 20 ∷ []) ∷ u64 (20 ‥ 27 ∷ []) ∷ u64 (27 ‥ 31 ∷ []) ∷ [])
+    31 ⇒ dest 0 (gp (6 ‥ 13) ∷ ar (20 ‥ 27) ∷ [])
+    ∷ 32 ⇒ dest 0 (cr (20 ‥ 27) ∷ gp (13 ‥ 20) ∷ [])
+    ∷ 33 ⇒ dest 0 (gp (6 ‥ 13) ∷ cr (20 ‥ 27) ∷ [])
+    ∷ 34 ⇒ dest 0 (gp (6 ‥ 13) ∷ ar-is 64 ∷ u64 (13 ‥ 20 ∷ []) ∷ u64 (20 ‥ 27 ∷ []) ∷ u64 (27 ‥ 31 ∷ []) ∷ [])
     ∷ 35 ⇒ by (27 ‥ 33) psr35 m35 (m35 None)
     ∷ 36 ⇒ by (27 ‥ 33) psr36 m36 (m36 None)
-    ∷ 37 ⇒ unwritten (u64 (6 ‥ 26 ∷ 36 ‥ 37 ∷ []) ∷ [])
-    ∷ 48 ⇒ unwritten (u64 (6 ‥ 26 ∷ 36 ‥ 37 ∷ []) ∷ [])
-    ∷ 38 ⇒ written 0 (gp (6 ‥ 13) ∷ gp (20 ‥ 27) ∷ gp (13 ‥ 20) ∷ [])
-    ∷ 39 ⇒ written 0 (gp (6 ‥ 13) ∷ gp (20 ‥ 27) ∷ u64 (13 ‥ 15 ∷ []) ∷ [])
-    ∷ 40 ⇒ unwritten (gp (20 ‥ 27) ∷ u64 (13 ‥ 15 ∷ []) ∷ [])
-    ∷ 41 ⇒ unwritten (gp (13 ‥ 20) ∷ [])
-    ∷ 42 ⇒ by (27 ‥ 33) indirect42 m42 (unwritten (is None ∷ []))
-    ∷ 43 ⇒ by (27 ‥ 33) indirect43 m43 (unwritten (is None ∷ []))
-    ∷ 44 ⇒ unwritten (u64 (6 ‥ 27 ∷ 31 ‥ 33 ∷ 36 ‥ 37 ∷ []) ∷ [])
-    ∷ 45 ⇒ unwritten (gp (20 ‥ 27) ∷ gp (13 ‥ 20) ∷ [])
-    ∷ 46 ⇒ written 0 (gp (6 ‥ 13) ∷ gp (20 ‥ 27) ∷ [])
+    ∷ 37 ⇒ no-dest (u64 (6 ‥ 26 ∷ 36 ‥ 37 ∷ []) ∷ [])
+    ∷ 48 ⇒ no-dest (u64 (6 ‥ 26 ∷ 36 ‥ 37 ∷ []) ∷ [])
+    ∷ 38 ⇒ dest 0 (gp (6 ‥ 13) ∷ gp (20 ‥ 27) ∷ gp (13 ‥ 20) ∷ [])
+    ∷ 39 ⇒ dest 0 (gp (6 ‥ 13) ∷ gp (20 ‥ 27) ∷ u64 (13 ‥ 15 ∷ []) ∷ [])
+    ∷ 40 ⇒ no-dest (gp (20 ‥ 27) ∷ u64 (13 ‥ 15 ∷ []) ∷ [])
+    ∷ 41 ⇒ no-dest (gp (13 ‥ 20) ∷ [])
+    ∷ 42 ⇒ by (27 ‥ 33) indirect42 m42 (no-dest (is None ∷ []))
+    ∷ 43 ⇒ by (27 ‥ 33) indirect43 m43 (no-dest (is None ∷ []))
+    ∷ 44 ⇒ no-dest (u64 (6 ‥ 27 ∷ 31 ‥ 33 ∷ 36 ‥ 37 ∷ []) ∷ [])
+    ∷ 45 ⇒ no-dest (gp (20 ‥ 27) ∷ gp (13 ‥ 20) ∷ [])
+    ∷ 46 ⇒ dest 0 (gp (6 ‥ 13) ∷ gp (20 ‥ 27) ∷ [])
     ∷ []
 
 abbrev pub mForms : Forms

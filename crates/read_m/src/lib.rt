@@ -1,11 +1,8 @@
 // `read_m_operands`: an arm of 000's `match` a function, in its order.
 ghost use mathlib.Core.Path.{_≡_};
 ghost use mathlib.Core.List.{[], _∷_, _++_};
-ghost use Rattle.form.specs.Field.{_‥_, is, mem, i64, s64, written, unwritten, readingOf};
+ghost use Rattle.reading.specs.Line.{_‥_, is, mem, i64, s64, dest, no-dest, readingOf};
 ghost use Rattle.read_m.specs.Table.{mForms, mForms17, mForms31, m35, m36, m42, m43};
-use form::Signed;
-use form::three_op_imm3;
-use form::two_op_imm2;
 use operand::ApplicationRegister;
 use operand::ControlRegister;
 use operand::FloatRegister;
@@ -20,6 +17,9 @@ use operand::no_op;
 use operand::one_op;
 use operand::three_op;
 use operand::two_op;
+use reading::Difference;
+use reading::three_op_imm3;
+use reading::two_op_imm2;
 
 fn read_m1(word: u64) -> Reading
     ensures { λ r. ⌜ r ≡ readingOf mForms 1 word 0 ⌝ }
@@ -27,7 +27,7 @@ fn read_m1(word: u64) -> Reading
     let r1 = ((word >> 6) % 128) as u8;
     let r3 = ((word >> 20) % 128) as u8;
     two_op(
-        Position::First,
+        Position::At(0),
         Operand::GPRegister(GPRegister(r1)),
         Operand::Memory(GPRegister(r3)),
     )
@@ -40,7 +40,7 @@ fn read_m2_m16(word: u64) -> Reading
     let r2 = ((word >> 13) % 128) as u8;
     let r3 = ((word >> 20) % 128) as u8;
     three_op(
-        Position::First,
+        Position::At(0),
         Operand::GPRegister(GPRegister(r1)),
         Operand::Memory(GPRegister(r3)),
         Operand::GPRegister(GPRegister(r2)),
@@ -56,14 +56,14 @@ fn read_m3(word: u64) -> Reading
 
 // M3, M8
 fn load_imm(word: u64, op1: Operand) -> Reading
-    ensures { λ r. ⌜ r ≡ written 0 (is op1 ∷ mem (20 ‥ 27) ∷ s64 (13 ‥ 20 ∷ 27 ‥ 28 ∷ []) 36 ∷ []) word 0 ⌝ }
+    ensures { λ r. ⌜ r ≡ dest 0 (is op1 ∷ mem (20 ‥ 27) ∷ s64 (13 ‥ 20 ∷ 27 ‥ 28 ∷ []) 36 ∷ []) word 0 ⌝ }
 {
     let imm7 = (word >> 13) % 128;
     let i = (word >> 27) % 2;
     let s = (word >> 36) % 2;
-    let imm = Signed(imm7 + (1 << 7) * i, (1 << 8) * s);
+    let imm = Difference(imm7 + (1 << 7) * i, (1 << 8) * s);
     let r3 = ((word >> 20) % 128) as u8;
-    three_op_imm3(Position::First, op1, Operand::Memory(GPRegister(r3)), imm)
+    three_op_imm3(Position::At(0), op1, Operand::Memory(GPRegister(r3)), imm)
 }
 
 fn read_m4(word: u64) -> Reading
@@ -72,7 +72,7 @@ fn read_m4(word: u64) -> Reading
     let r2 = ((word >> 13) % 128) as u8;
     let r3 = ((word >> 20) % 128) as u8;
     two_op(
-        Position::First,
+        Position::At(0),
         Operand::Memory(GPRegister(r3)),
         Operand::GPRegister(GPRegister(r2)),
     )
@@ -87,14 +87,14 @@ fn read_m5(word: u64) -> Reading
 
 // M5, M10
 fn store_imm(word: u64, op2: Operand) -> Reading
-    ensures { λ r. ⌜ r ≡ written 0 (mem (20 ‥ 27) ∷ is op2 ∷ s64 (6 ‥ 13 ∷ 27 ‥ 28 ∷ []) 36 ∷ []) word 0 ⌝ }
+    ensures { λ r. ⌜ r ≡ dest 0 (mem (20 ‥ 27) ∷ is op2 ∷ s64 (6 ‥ 13 ∷ 27 ‥ 28 ∷ []) 36 ∷ []) word 0 ⌝ }
 {
     let imm7 = (word >> 6) % 128;
     let i = (word >> 27) % 2;
     let s = (word >> 36) % 2;
-    let imm = Signed(imm7 + (1 << 7) * i, (1 << 8) * s);
+    let imm = Difference(imm7 + (1 << 7) * i, (1 << 8) * s);
     let r3 = ((word >> 20) % 128) as u8;
-    three_op_imm3(Position::First, Operand::Memory(GPRegister(r3)), op2, imm)
+    three_op_imm3(Position::At(0), Operand::Memory(GPRegister(r3)), op2, imm)
 }
 
 fn read_m6(word: u64) -> Reading
@@ -103,7 +103,7 @@ fn read_m6(word: u64) -> Reading
     let f1 = ((word >> 6) % 128) as u8;
     let r3 = ((word >> 20) % 128) as u8;
     two_op(
-        Position::First,
+        Position::At(0),
         Operand::FloatRegister(FloatRegister(f1)),
         Operand::Memory(GPRegister(r3)),
     )
@@ -116,7 +116,7 @@ fn read_m7(word: u64) -> Reading
     let r2 = ((word >> 13) % 128) as u8;
     let r3 = ((word >> 20) % 128) as u8;
     three_op(
-        Position::First,
+        Position::At(0),
         Operand::FloatRegister(FloatRegister(f1)),
         Operand::Memory(GPRegister(r3)),
         Operand::GPRegister(GPRegister(r2)),
@@ -136,7 +136,7 @@ fn read_m9(word: u64) -> Reading
     let f2 = ((word >> 13) % 128) as u8;
     let r3 = ((word >> 20) % 128) as u8;
     two_op(
-        Position::First,
+        Position::At(0),
         Operand::Memory(GPRegister(r3)),
         Operand::FloatRegister(FloatRegister(f2)),
     )
@@ -156,7 +156,7 @@ fn read_m11(word: u64) -> Reading
     let f2 = ((word >> 13) % 128) as u8;
     let r3 = ((word >> 20) % 128) as u8;
     three_op(
-        Position::Second,
+        Position::At(1),
         Operand::FloatRegister(FloatRegister(f1)),
         Operand::FloatRegister(FloatRegister(f2)),
         Operand::Memory(GPRegister(r3)),
@@ -171,7 +171,7 @@ fn read_m12(word: u64) -> Reading
     let r3 = ((word >> 20) % 128) as u8;
     let size = 8 + 8 * ((word >> 30) % 2);
     four_op(
-        Position::Second,
+        Position::At(1),
         Operand::FloatRegister(FloatRegister(f1)),
         Operand::FloatRegister(FloatRegister(f2)),
         Operand::Memory(GPRegister(r3)),
@@ -205,7 +205,7 @@ fn read_m15(word: u64) -> Reading
     let r3 = ((word >> 20) % 128) as u8;
     let i = (word >> 27) % 2;
     let s = (word >> 36) % 2;
-    let imm = Signed(imm7b + (1 << 7) * (i + 2 * s), 0);
+    let imm = Difference(imm7b + (1 << 7) * (i + 2 * s), 0);
     two_op_imm2(Position::None, Operand::Memory(GPRegister(r3)), imm)
 }
 
@@ -215,10 +215,10 @@ fn read_m17(word: u64) -> Reading
     let r1 = ((word >> 6) % 128) as u8;
     let i = (word >> 13) % 4;
     let s = (word >> 15) % 2;
-    let imm = Signed(i, (1 << 2) * s);
+    let imm = Difference(i, (1 << 2) * s);
     let r3 = ((word >> 20) % 128) as u8;
     three_op_imm3(
-        Position::First,
+        Position::At(0),
         Operand::GPRegister(GPRegister(r1)),
         Operand::Memory(GPRegister(r3)),
         imm,
@@ -231,7 +231,7 @@ fn read_m18(word: u64) -> Reading
     let f1 = ((word >> 6) % 128) as u8;
     let r2 = ((word >> 13) % 128) as u8;
     two_op(
-        Position::First,
+        Position::At(0),
         Operand::FloatRegister(FloatRegister(f1)),
         Operand::GPRegister(GPRegister(r2)),
     )
@@ -243,7 +243,7 @@ fn read_m19(word: u64) -> Reading
     let r1 = ((word >> 6) % 128) as u8;
     let f2 = ((word >> 13) % 128) as u8;
     two_op(
-        Position::First,
+        Position::At(0),
         Operand::GPRegister(GPRegister(r1)),
         Operand::FloatRegister(FloatRegister(f2)),
     )
@@ -258,12 +258,12 @@ fn read_m20(word: u64) -> Reading
 
 // M20, M21
 fn check_speculation(word: u64, op1: Operand) -> Reading
-    ensures { λ r. ⌜ r ≡ unwritten (is op1 ∷ s64 (6 ‥ 13 ∷ 20 ‥ 33 ∷ []) 36 ∷ []) word 0 ⌝ }
+    ensures { λ r. ⌜ r ≡ no-dest (is op1 ∷ s64 (6 ‥ 13 ∷ 20 ‥ 33 ∷ []) 36 ∷ []) word 0 ⌝ }
 {
     let imm7a = (word >> 6) % 128;
     let imm13c = (word >> 20) % 8192;
     let s = (word >> 36) % 2;
-    let imm = Signed(imm7a + (1 << 7) * imm13c, (1 << 20) * s);
+    let imm = Difference(imm7a + (1 << 7) * imm13c, (1 << 20) * s);
     two_op_imm2(Position::None, op1, imm)
 }
 
@@ -283,11 +283,11 @@ fn read_m22(word: u64) -> Reading
 
 // M22, M23: never negative, unlike M20 and M21
 fn check_load(word: u64, op1: Operand) -> Reading
-    ensures { λ r. ⌜ r ≡ unwritten (is op1 ∷ i64 (13 ‥ 33 ∷ 36 ‥ 37 ∷ []) ∷ []) word 0 ⌝ }
+    ensures { λ r. ⌜ r ≡ no-dest (is op1 ∷ i64 (13 ‥ 33 ∷ 36 ‥ 37 ∷ []) ∷ []) word 0 ⌝ }
 {
     let imm20b = (word >> 13) % (1 << 20);
     let s = (word >> 36) % 2;
-    let imm = Signed(imm20b + (1 << 20) * s, 0);
+    let imm = Difference(imm20b + (1 << 20) * s, 0);
     two_op_imm2(Position::None, op1, imm)
 }
 
@@ -325,7 +325,7 @@ fn read_m29(word: u64) -> Reading
     let r2 = ((word >> 13) % 128) as u8;
     let ar3 = ((word >> 20) % 128) as u8;
     two_op(
-        Position::First,
+        Position::At(0),
         Operand::ApplicationRegister(ApplicationRegister(ar3)),
         Operand::GPRegister(GPRegister(r2)),
     )
@@ -337,9 +337,9 @@ fn read_m30(word: u64) -> Reading
     let imm7b = (word >> 13) % 128;
     let ar3 = ((word >> 20) % 128) as u8;
     let s = (word >> 36) % 2;
-    let imm = Signed(imm7b, (1 << 7) * s);
+    let imm = Difference(imm7b, (1 << 7) * s);
     two_op_imm2(
-        Position::First,
+        Position::At(0),
         Operand::ApplicationRegister(ApplicationRegister(ar3)),
         imm,
     )
@@ -351,7 +351,7 @@ fn read_m31(word: u64) -> Reading
     let r1 = ((word >> 6) % 128) as u8;
     let ar3 = ((word >> 20) % 128) as u8;
     two_op(
-        Position::First,
+        Position::At(0),
         Operand::GPRegister(GPRegister(r1)),
         Operand::ApplicationRegister(ApplicationRegister(ar3)),
     )
@@ -363,7 +363,7 @@ fn read_m32(word: u64) -> Reading
     let r2 = ((word >> 13) % 128) as u8;
     let cr3 = ((word >> 20) % 128) as u8;
     two_op(
-        Position::First,
+        Position::At(0),
         Operand::ControlRegister(ControlRegister(cr3)),
         Operand::GPRegister(GPRegister(r2)),
     )
@@ -375,11 +375,13 @@ fn read_m33(word: u64) -> Reading
     let r1 = ((word >> 6) % 128) as u8;
     let cr3 = ((word >> 20) % 128) as u8;
     two_op(
-        Position::First,
+        Position::At(0),
         Operand::GPRegister(GPRegister(r1)),
         Operand::ControlRegister(ControlRegister(cr3)),
     )
 }
+
+const PFS: ApplicationRegister = ApplicationRegister(64);
 
 fn read_m34(word: u64) -> Reading
     ensures { λ r. ⌜ r ≡ readingOf mForms 34 word 0 ⌝ }
@@ -389,9 +391,9 @@ fn read_m34(word: u64) -> Reading
     let sol = (word >> 20) % 128;
     let sor = (word >> 27) % 16;
     five_op(
-        Position::First,
+        Position::At(0),
         Operand::GPRegister(GPRegister(r1)),
-        Operand::ApplicationRegister(ApplicationRegister::PFS),
+        Operand::ApplicationRegister(PFS),
         Operand::ImmU64(sof),
         Operand::ImmU64(sol),
         Operand::ImmU64(sor),
@@ -414,7 +416,7 @@ fn to_psr(word: u64, psr: Operand) -> Reading
     ensures { λ r. ⌜ r ≡ m35 psr word 0 ⌝ }
 {
     let r2 = ((word >> 13) % 128) as u8;
-    two_op(Position::First, psr, Operand::GPRegister(GPRegister(r2)))
+    two_op(Position::At(0), psr, Operand::GPRegister(GPRegister(r2)))
 }
 
 fn read_m36(word: u64) -> Reading
@@ -433,7 +435,7 @@ fn from_psr(word: u64, psr: Operand) -> Reading
     ensures { λ r. ⌜ r ≡ m36 psr word 0 ⌝ }
 {
     let r1 = ((word >> 6) % 128) as u8;
-    two_op(Position::First, Operand::GPRegister(GPRegister(r1)), psr)
+    two_op(Position::At(0), Operand::GPRegister(GPRegister(r1)), psr)
 }
 
 fn read_m37_m48(word: u64) -> Reading
@@ -450,7 +452,7 @@ fn read_m38(word: u64) -> Reading
     let r2 = ((word >> 13) % 128) as u8;
     let r3 = ((word >> 20) % 128) as u8;
     three_op(
-        Position::First,
+        Position::At(0),
         Operand::GPRegister(GPRegister(r1)),
         Operand::GPRegister(GPRegister(r3)),
         Operand::GPRegister(GPRegister(r2)),
@@ -464,7 +466,7 @@ fn read_m39(word: u64) -> Reading
     let i2b = (word >> 13) % 4;
     let r3 = ((word >> 20) % 128) as u8;
     three_op(
-        Position::First,
+        Position::At(0),
         Operand::GPRegister(GPRegister(r1)),
         Operand::GPRegister(GPRegister(r3)),
         Operand::ImmU64(i2b),
@@ -515,7 +517,7 @@ fn to_indirect(word: u64, ind: IndirectionReg) -> Reading
     let r2 = ((word >> 13) % 128) as u8;
     let r3 = ((word >> 20) % 128) as u8;
     two_op(
-        Position::First,
+        Position::At(0),
         Operand::Indirection(ind, GPRegister(r3)),
         Operand::GPRegister(GPRegister(r2)),
     )
@@ -545,7 +547,7 @@ fn from_indirect(word: u64, ind: IndirectionReg) -> Reading
     let r1 = ((word >> 6) % 128) as u8;
     let r3 = ((word >> 20) % 128) as u8;
     two_op(
-        Position::First,
+        Position::At(0),
         Operand::GPRegister(GPRegister(r1)),
         Operand::Indirection(ind, GPRegister(r3)),
     )
@@ -579,7 +581,7 @@ fn read_m46(word: u64) -> Reading
     let r1 = ((word >> 6) % 128) as u8;
     let r3 = ((word >> 20) % 128) as u8;
     two_op(
-        Position::First,
+        Position::At(0),
         Operand::GPRegister(GPRegister(r1)),
         Operand::GPRegister(GPRegister(r3)),
     )

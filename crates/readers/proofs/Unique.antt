@@ -3,8 +3,9 @@
 use mathlib.Core.Path.{_≡_}
 use Prim.Native.Nat.{ℕ}
 use Rattle.answer.proofs.Laws.{one-outcome}
+use Rattle.form.specs.declared.Form.{Form}
 use Rattle.readers.specs.declared.outcome.Operands.{Operands}
 use Rattle.readers.specs.Call.{operandsOf}
 
-pub operands-unique : (family number word l : ℕ) {r s : Operands} → r ≡ operandsOf family number word l → s ≡ operandsOf family number word l → r ≡ s
-operands-unique family number word l = one-outcome
+pub operands-unique : (form : Form) (word l : ℕ) {r s : Operands} → r ≡ operandsOf form word l → s ≡ operandsOf form word l → r ≡ s
+operands-unique form word l = one-outcome

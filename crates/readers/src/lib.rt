@@ -3,23 +3,29 @@ mod outcome;
 
 pub use outcome::Operands;
 ghost use mathlib.Core.Path.{_≡_};
-ghost use Rattle.readers.specs.Call.{familyOf, isForm, isBad, readOf, refusedOf, operandsOf};
+ghost use Rattle.readers.specs.Call.{isBad, readOf, refusedOf, operandsOf};
 use answer::ACCEPTED;
 use answer::BAD_FORM;
 use answer::BAD_WORD;
+use form::A;
+use form::B;
+use form::F;
+use form::Form;
+use form::M;
+use form::X;
 use operand::Reading;
 
-// The operands of a form, named by its family letter's byte and its number, in a word and, for X forms, the L word.
-pub fn operands(family: u64, number: u64, word: u64, l: u64) -> Operands
-    ensures { λ r. ⌜ r ≡ operandsOf family number word l ⌝ }
+// The operands of a form in a word and, for X forms, the L word.
+pub fn operands(form: Form, word: u64, l: u64) -> Operands
+    ensures { λ r. ⌜ r ≡ operandsOf form word l ⌝ }
 {
-    if !is_form(family, number) {
+    if !form::is_form(form) {
         return refused(BAD_FORM);
     }
-    if is_bad(family, word, l) {
+    if is_bad(form, word, l) {
         return refused(BAD_WORD);
     }
-    let reading = read(family, number, word, l);
+    let reading = read(form, word, l);
     Operands {
         answer: ACCEPTED,
         reading,
@@ -33,44 +39,27 @@ fn refused(answer: u8) -> Operands
     Operands { answer, reading }
 }
 
-fn is_form(family: u64, number: u64) -> bool
-    ensures { λ r. ⌜ r ≡ isForm family number ⌝ }
-{
-    let last = last_of(family);
-    0 < number && number <= last
-}
-
-fn last_of(family: u64) -> u64
-    ensures { λ r. ⌜ r ≡ familyOf family .0 ⌝ }
-{
-    match family {
-        65 => 10, // A
-        66 => 9, // B
-        70 => 16, // F
-        77 => 48, // M
-        88 => 5, // X
-        _ => 0,
-    }
-}
-
 const WORD: u64 = 1 << 41;
 
 // A word that has more than 41 bits: the form's, or the L word of an X form.
-fn is_bad(family: u64, word: u64, l: u64) -> bool
-    ensures { λ r. ⌜ r ≡ isBad family word l ⌝ }
+fn is_bad(form: Form, word: u64, l: u64) -> bool
+    ensures { λ r. ⌜ r ≡ isBad form word l ⌝ }
 {
-    WORD <= word || family == 88 && WORD <= l
+    let family = form.family;
+    WORD <= word || family == X && WORD <= l
 }
 
-fn read(family: u64, number: u64, word: u64, l: u64) -> Reading
-    ensures { λ r. ⌜ r ≡ readOf family number word l ⌝ }
+fn read(form: Form, word: u64, l: u64) -> Reading
+    ensures { λ r. ⌜ r ≡ readOf form word l ⌝ }
 {
+    let family = form.family;
+    let number = form.number;
     match family {
-        65 => read_a::read_a_operands(number, word),
-        66 => read_b::read_b_operands(number, word),
-        70 => read_f::read_f_operands(number, word),
-        77 => read_m::read_m_operands(number, word),
-        88 => read_l::read_l_operands(number, word, l),
+        A => read_a::read_a_operands(number, word),
+        B => read_b::read_b_operands(number, word),
+        F => read_f::read_f_operands(number, word),
+        M => read_m::read_m_operands(number, word),
+        X => read_l::read_l_operands(number, word, l),
         _ => operand::no_op(),
     }
 }

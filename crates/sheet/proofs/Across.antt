@@ -13,11 +13,12 @@ use mir.Facts.{and-yes, yes-and}
 use Rattle.answer.specs.Answer.{accepted, first, outcome}
 use Rattle.answer.proofs.Laws.{accepts, refuses}
 use Rattle.bits.proofs.Laws.{part-lt}
-use Rattle.bundle.specs.Bundle.{halvesOf}
+use Rattle.bundle.specs.Bundle.{longestCode, halvesOf}
 use Rattle.bundle.proofs.Bytes.{Bytes}
+use Rattle.form.specs.declared.Edit.{Edit}
 use Rattle.journal.specs.Journal.{highest, mayStand, all, standing, journalOf}
 use Rattle.journal.specs.Edit.{Outcome, recordOf, editOf, undoOf}
-use Rattle.journal.specs.Demand3.{Edit, Call, edit, undo, step, run, madeAll, standingEdits, recordsOf}
+use Rattle.journal.specs.Demand3.{Call, edit, undo, step, run, madeAll, standingEdits, recordsOf}
 use Rattle.journal.specs.declared.records.Edited.{Edited}
 use Rattle.journal.specs.declared.records.Journal.{Journal}
 use Rattle.journal.specs.declared.records.Record.{Record}
@@ -46,7 +47,7 @@ records-held code (e ∷ es) t =
     subst T (sym (all-append isHeld rs (last ∷ []))) (yes-and (all isHeld rs) (isHeld last && true) (records-held code es (m .0)) (yes-and (isHeld last) true held tt))
   where
     last : Record
-    last = recordOf (madeAll code es) (e .bundle) (e .slot) (e .family) (e .number) (e .value)
+    last = recordOf (madeAll code es) e
 
 -- the sheet in an output is the one that was written
 sheet-in : (j : Journal) (out text : List ℕ) → sheetIn (wroteOf (writeRefusals j) (sheetOf j) out) ≡ some text → text ≡ sheetOf j
@@ -74,10 +75,10 @@ record Reached (code : List ℕ) (calls : List SheetCall) : Type 0 where
 
 -- a call comes to the same from the same code and journal
 same-step : (s t : Outcome) → s .code ≡ t .code → s .journal ≡ t .journal → (c : Call) → step s c ≡ step t c
-same-step s t p q (edit e) = ap₂ (λ (code : List ℕ) (journal : Journal). editOf code journal (e .bundle) (e .slot) (e .family) (e .number) (e .value)) p q
+same-step s t p q (edit e) = ap₂ (λ (code : List ℕ) (journal : Journal). editOf code journal e) p q
 same-step s t p q undo = ap₂ undoOf p q
 
-module _ (code : List ℕ) (b : Bytes code) (short : length code ≤ 65536) where
+module _ (code : List ℕ) (b : Bytes code) (short : length code ≤ longestCode) where
   run-sheet : (calls : List Call) → HasSheet (run code calls .journal)
   run-sheet calls =
       let valid = run-valid code b short calls in

@@ -3,7 +3,7 @@
 use mathlib.Core.Path.{_≡_, refl, sym, ap, _∙_, subst}
 use mathlib.Core.Bool.{Bool, true, false}
 use mathlib.Core.List.{List, [], _∷_, _++_, append-assoc}
-use mathlib.Core.Logic.{inl}
+use borrow.Author.Tests.{lt-leb}
 use Prim.Native.Nat.{ℕ, _+_, _-_, _^_, _≤_, _<_}
 use native.Mathlib.Numerals.{add-one}
 use native.Mathlib.Omega.{arith}
@@ -18,7 +18,9 @@ use Rattle.text.specs.Decimal.{decimal}
 use Rattle.text.specs.Number.{numberOf}
 use Rattle.text.specs.declared.number.Number.{Number}
 use Rattle.text.specs.declared.number.Number.the-variants.{Read, Refused}
-use Rattle.text.proofs.RoundTrip.{decimal-read, read-decimal}
+use Rattle.text.specs.Number.{digitsOf}
+use Rattle.text.proofs.Numbers.{number-read, number-back}
+use Rattle.text.proofs.Stands as piece
 use Rattle.sheet.specs.declared.line.Pair.{Pair}
 use Rattle.sheet.specs.declared.line.Line.the-variants as line
 use Rattle.sheet.specs.declared.line.Pair.the-variants as pair
@@ -65,6 +67,7 @@ T-true false h = absurd h
 -- read where it stands
 module _ (text : List ℕ) where
   pub field-back : (at n end next : ℕ) → n < 2 ^ 64 → end < 48 → Stands text at (field n end) next → fieldAt text at end ≡ Read n next
+  unfolding digitsOf
   field-back at n end next b h s =
       let middle = at + length (decimal n) in
       let whole : drop at text ≡ decimal n ++ (end ∷ drop next text) = s .found ∙ append-snoc (decimal n) end (drop next text) in
@@ -72,7 +75,8 @@ module _ (text : List ℕ) where
       let within : middle < length text = omega (arith, ap length rest, length-drop middle text) in
       let there : getD text middle 0 ≡ end = ap (λ (k : ℕ). getD text k 0) (omega arith) ∙ sym (getD-drop middle text 0 0) ∙ ap (λ (l : List ℕ). getD l 0 0) rest in
       let after : middle + 1 ≡ next = omega (arith, s .place, length-append (decimal n) (end ∷ [])) in
-      sym (field-ended text at end n middle (decimal-read text at n (end ∷ drop next text) b (inl h) whole) within there) ∙ ap (Read n) after
+      let none : digitsOf (drop middle text) ≡ [] = rw (rest, lt-leb 48 end h) in
+      sym (field-ended text at end n middle (number-back text at n middle none (record { below = b; piece = piece.stands at (decimal n) (end ∷ drop next text) whole })) within there) ∙ ap (Read n) after
 
   pub halves-back : (at end next : ℕ) (h : Halves) → Words h → end < 48 → Stands text at (halves h end) next → halvesAt text at end ≡ pair.Read h next
   halves-back at end next h w l s =
@@ -112,12 +116,12 @@ pub record LineRead (text : List ℕ) (at : ℕ) (r : Record) (next : ℕ) : Typ
 module _ (text : List ℕ) where
   ended : (at k middle end : ℕ) → numberOf text at ≡ Read k middle → middle < length text → getD text middle 0 ≡ end → FieldRead text at k end (middle + 1)
   ended at k middle end e h d =
-      let i = read-decimal text at k middle e in
+      let i = number-read text at k middle e in
       let rest : drop middle text ≡ end ∷ drop (middle + 1) text = drop-cons text middle 0 h ∙ rw (d, add-one) in
       record {
         stands = record {
-          found = i .found ∙ ap (λ (l : List ℕ). decimal k ++ l) rest ∙ sym (append-snoc (decimal k) end (drop (middle + 1) text));
-          place = omega (arith, i .place, length-append (decimal k) (end ∷ []));
+          found = i .piece .found ∙ ap (λ (l : List ℕ). decimal k ++ l) rest ∙ sym (append-snoc (decimal k) end (drop (middle + 1) text));
+          place = omega (arith, i .piece .place, length-append (decimal k) (end ∷ []));
         };
         below = i .below;
       }

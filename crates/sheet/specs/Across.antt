@@ -6,6 +6,7 @@ use mathlib.Core.List.{List, [], _∷_}
 use mathlib.Core.Option.{Option, none, some}
 use lib.ListN.{length, getD, take}
 use Rattle.answer.specs.Answer.{accepted, outcome}
+use Rattle.bundle.specs.Bundle.{longestCode}
 use Rattle.journal.specs.Edit.{Outcome}
 use Rattle.journal.specs.Demand3.{Call, step, run, Holds}
 use Rattle.text.specs.Whole.{wroteOf}
@@ -60,6 +61,6 @@ pub record HoldsAcross (code : List ℕ) (calls : List SheetCall) : Type 0 where
   pub loads : (text : List ℕ) → runAcross code calls .sheet ≡ some text → runAcross code (load ∷ calls) .after .answer ≡ accepted
   pub holds : Holds code (plain calls)
 
--- of every code of at most 65,536 bytes and every run with sheets
+-- of every code of at most `longestCode` bytes and every run with sheets
 abbrev pub Demand3Across : Type 0
-Demand3Across = (code : List ℕ) → ((i : ℕ) → getD code i 0 < 2 ^ 8) → length code ≤ 65536 → (calls : List SheetCall) → HoldsAcross code calls
+Demand3Across = (code : List ℕ) → ((i : ℕ) → getD code i 0 < 2 ^ 8) → length code ≤ longestCode → (calls : List SheetCall) → HoldsAcross code calls

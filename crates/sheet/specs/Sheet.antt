@@ -7,7 +7,7 @@ use Rattle.answer.specs.Answer.{Refusal, badJournal}
 use Rattle.journal.specs.Journal.{standing, validOf}
 use Rattle.journal.specs.declared.records.Journal.{Journal}
 use Rattle.journal.specs.declared.records.Record.{Record}
-use Rattle.text.specs.Ascii.{ascii, row}
+use Rattle.text.specs.Ascii.{ascii, line as row}
 use Rattle.text.specs.Decimal.{decimal}
 
 -- a record's line: bundle, old low, old high, new low, new high

@@ -8,7 +8,7 @@ use native.Mathlib.Omega.{arith}
 use lib.ListN.{length, take, drop, set, length-set}
 use lib.Seq.{drop-cons, lt-length-set, getD-set-same, drop-set-lt, take-set-le}
 use Rattle.text.specs.Decimal.{decimal}
-use Rattle.text.specs.Put.{Put, written}
+use Rattle.text.specs.Put.{written}
 use Rattle.text.proofs.Numerals.{decimal-more, length-more, length-four}
 use Rattle.text.proofs.Writing.{written-is}
 
@@ -53,17 +53,12 @@ module _ {before : List ℕ} {at end n : ℕ} where
         }
 
     -- what is left is written
-    pub filling-rest : {out′ : List ℕ} → at + length (decimal n) ≡ end → end ≤ length before → Put out at (decimal rest) out′ i → Put before at (decimal n) out′ end
-    filling-rest e h p =
-        record {
-          bytes =
-              p .bytes
-              ∙ within out at (decimal rest) i (f .place) (omega arith)
-              ∙ ap (λ (t : List ℕ). t ++ (decimal rest ++ drop i out)) (f .front)
-              ∙ ap (λ (t : List ℕ). take at before ++ t) (f .back)
-              ∙ sym (within before at (decimal n) end e h);
-          place = sym e;
-        }
+    pub filling-rest : at + length (decimal n) ≡ end → end ≤ length before → written out at (decimal rest) ≡ written before at (decimal n)
+    filling-rest e h =
+        within out at (decimal rest) i (f .place) (omega arith)
+        ∙ ap (λ (t : List ℕ). t ++ (decimal rest ++ drop i out)) (f .front)
+        ∙ ap (λ (t : List ℕ). take at before ++ t) (f .back)
+        ∙ sym (within before at (decimal n) end e h)
 
   pub filling-four : {out : List ℕ} {i rest : ℕ} → Filling before at end n out i rest → 10000 ≤ rest → let p = rest % 10000 in Filling before at end n (set (set (set (set out (i - 1) (48 + p % 10)) (i - 2) (48 + p / 10 % 10)) (i - 3) (48 + p / 100 % 10)) (i - 4) (48 + p / 1000)) (i - 4) (rest / 10000)
   filling-four {out} {i} {rest} f h =

@@ -1,9 +1,10 @@
 pub mod Enough
 pub mod Filling
 pub mod Fronts
+pub mod Numbers
 pub mod Numerals
-pub mod Reading
 pub mod RoundTrip
+pub mod Stands
 pub mod Unique
 pub mod Wholes
 pub mod Writing

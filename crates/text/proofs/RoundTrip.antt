@@ -1,233 +1,169 @@
--- A decimal text is read back as its number, and what is read is the decimal text of its number. Both follow the digits from
--- the highest on: `worth n ds` is the number n followed by the digits ds, whose text is that of n and then ds. Assumes nothing.
+-- Fields are read back as their numbers, and what is read are the fields of its numbers: one after the other, each is a decimal and
+-- the byte that ends it. Assumes nothing.
 use mathlib.Core.Path.{_≡_, refl, sym, ap, _∙_}
-use mathlib.Core.Bool.{true}
-use mathlib.Core.List.{List, [], _∷_, _++_, append-nil}
-use mathlib.Core.Logic.{_⊎_, inl, inr}
-use Prim.Native.Nat.{ℕ, zero, suc, _+_, _-_, _*_, _/_, _%_, _^_, _≤_, _<_}
-use native.Mathlib.Nat.{add-suc, suc-add, add-zero}
+use mathlib.Core.Bool.{Bool, true, false, cond, decide-iff, false≢true}
+use mathlib.Core.List.{List, [], _∷_, _++_, List-discrete}
+use mathlib.Core.Option.{Option, none, some, Option·some-injective, Option·none-ne-some}
+use Prim.Native.Nat.{ℕ, suc, _+_, _^_, _≤_, _<_}
+use native.Mathlib.Nat.{add-zero}
 use native.Mathlib.Numerals.{add-one}
 use native.Mathlib.Omega.{arith}
-use native.Mathlib.Decide.{decLt}
-use lib.Dec.{ltb}
-use lib.ListN.{length, drop}
-use lib.Seq.{append-snoc, drop-drop, drop-at}
-use borrow.Author.Tests.{lt-ltb, le-ltb}
+use native.Mathlib.Decide.{ℕ-discrete}
+use lib.ListN.{length, getD, take, drop, set, drop-of-length-le, length-take, take-append-drop, replicate}
+use lib.Seq.{drop-cons, drop-drop, append-snoc, sets}
+use Rattle.text.specs.Ascii.{within, same, startsWith}
 use Rattle.text.specs.Decimal.{decimal}
-use Rattle.text.specs.declared.number.Grown.the-variants.{Digit}
+use Rattle.text.specs.Fields.{fields, fieldAt, before, fieldsAt, readTo, fieldsOf}
+use Rattle.text.specs.Number.{digitsOf, numberOf}
+use Rattle.text.specs.declared.fields.Fields.{Fields}
+use Rattle.text.specs.declared.number.Number.{Number}
 use Rattle.text.specs.declared.number.Number.the-variants.{Read, Refused}
-use Rattle.text.specs.Number.{grownOf, readOn, numberOf}
-use Rattle.text.proofs.Numerals.{decimal-one, decimal-more}
-use Rattle.text.proofs.Reading.{grown-stop, grown-long, grown-zero, grown-digit}
+use Rattle.text.proofs.Numbers.{IsRead, differ, no-number, number-read, number-back}
+use Rattle.text.proofs.Stands.{Stands, stands-then, stands-parts}
 
-worth : ℕ → List ℕ → ℕ
-worth n [] = n
-worth n (c ∷ cs) = worth (n * 10 + (c - 48)) cs
+-- texts that are the same, and one that begins with another
+pub same-as : (r : Bool) (a b : List ℕ) → (r ≡ true → a ≡ b) → (a ≡ b → r ≡ true) → r ≡ same a b
+same-as true a b f g = sym (decide-iff (List-discrete ℕ-discrete a b) .1 (f refl))
+same-as false a b f g = sym (differ (List-discrete ℕ-discrete a b) (λ e. false≢true (g e)))
 
-abbrev Digits : List ℕ → Type 0
-Digits [] = Unit {0}
-Digits (c ∷ cs) = (48 ≤ c) × (c ≤ 57) × Digits cs
+pub starts-short : (start text : List ℕ) → length text < length start → false ≡ startsWith start text
+starts-short start text h = same-as false (take (length start) text) start (λ e. absurd (false≢true e)) (λ e. absurd (omega (arith, ap length e, length-take (length start) text)))
 
--- a text that goes on with no digit
-abbrev pub Ends : List ℕ → Type 0
-Ends [] = Unit {0}
-Ends (c ∷ cs) = (c < 48) ⊎ (57 < c)
+module _ (text : List ℕ) (at end : ℕ) where
+  starts-one : at < length text → getD text at 0 ≡ end → true ≡ startsWith (end ∷ []) (drop at text)
+  starts-one h e = rw (drop-cons text at 0 h) (same-as true (getD text at 0 ∷ []) (end ∷ []) (λ t. ap (λ (c : ℕ). c ∷ []) e) (λ t. refl))
 
-worth-le : (n : ℕ) (ds : List ℕ) → n ≤ worth n ds
-unfolding worth
-worth-le n [] = omega arith
-worth-le n (c ∷ ds) = omega (arith, worth-le (n * 10 + (c - 48)) ds)
+  starts-other : at < length text → (getD text at 0 ≡ end → ⊥) → false ≡ startsWith (end ∷ []) (drop at text)
+  starts-other h d = rw (drop-cons text at 0 h) (same-as false (getD text at 0 ∷ []) (end ∷ []) (λ t. absurd (false≢true t)) (λ q. absurd (d (cc))))
 
-worth-snoc : (n d : ℕ) (ds : List ℕ) → worth n (ds ++ (d ∷ [])) ≡ worth n ds * 10 + (d - 48)
-unfolding worth
-worth-snoc n d [] = refl
-worth-snoc n d (c ∷ ds) = worth-snoc (n * 10 + (c - 48)) d ds
+-- a field, by the number that it begins with
+module _ (text : List ℕ) (at end : ℕ) where
+  pub field-none : numberOf text at ≡ Refused → Refused ≡ fieldAt text at end
+  unfolding fieldAt
+  field-none e = rw e
 
-digits-snoc : (d : ℕ) (ds : List ℕ) → 48 ≤ d → d ≤ 57 → Digits ds → Digits (ds ++ (d ∷ []))
-digits-snoc d [] h l p = (h, l, tt)
-digits-snoc d (c ∷ ds) h l p = (p .0, p .1, digits-snoc d ds h l (p .2))
+  module _ (n next : ℕ) (e : numberOf text at ≡ Read n next) where
+    pub field-past : length text ≤ next → Refused ≡ fieldAt text at end
+    unfolding fieldAt
+    field-past h = rw (e, drop-of-length-le text h, sym (starts-short (end ∷ []) [] (omega arith)))
 
--- one digit more
-decimal-next : (n c : ℕ) → 0 < n → 48 ≤ c → c ≤ 57 → decimal (n * 10 + (c - 48)) ≡ decimal n ++ (c ∷ [])
-decimal-next n c p h l =
-    let m = n * 10 + (c - 48) in
-    let q : m / 10 ≡ n = omega arith in
-    let r : 48 + m % 10 ≡ c = omega arith in
-    decimal-more m (omega arith) ∙ rw (q, r)
+    pub field-other : next < length text → (getD text next 0 ≡ end → ⊥) → Refused ≡ fieldAt text at end
+    unfolding fieldAt
+    field-other h d = rw (e, sym (starts-other text next end h d))
 
--- a number above 0 is its highest digit and the digits after it
-record Spelled (n : ℕ) : Type 0 where
-  high : ℕ
-  low : List ℕ
-  text : decimal n ≡ (48 + high) ∷ low
-  some : 0 < high
-  small : high ≤ 9
-  digits : Digits low
-  number : worth high low ≡ n
+    pub field-ended : next < length text → getD text next 0 ≡ end → Read n (next + 1) ≡ fieldAt text at end
+    unfolding fieldAt
+    field-ended h d = rw (e, sym (starts-one text next end h d))
 
-spelled : (k n : ℕ) → n < k → 0 < n → Spelled n
-unfolding worth
-spelled zero n h p = absurd (omega arith)
-spelled (suc k) n h p =
-    elim (decLt n 10) [
-      | yes s ↦ record { high = n; low = []; text = decimal-one n s; some = p; small = omega arith; digits = tt; number = refl }
-      | no s ↦
-          let i = spelled k (n / 10) (omega arith) (omega arith) in
-          let d = 48 + n % 10 in
-          record {
-            high = i .high;
-            low = i .low ++ (d ∷ []);
-            text = decimal-more n (omega arith) ∙ ap (λ (t : List ℕ). t ++ (d ∷ [])) (i .text);
-            some = i .some;
-            small = i .small;
-            digits = digits-snoc d (i .low) (omega arith) (omega arith) (i .digits);
-            number = worth-snoc (i .high) d (i .low) ∙ omega (arith, i .number);
-          }
-    ]
+-- fields, by the first of them
+read-more : (of : List ℕ) (i n : ℕ) (rest : Option (List ℕ × ℕ)) → readTo of i (before n rest) ≡ readTo (set of i n) (suc i) rest
+read-more of i n none = refl
+read-more of i n (some r) = refl
 
--- reading on, where a digit has been read
-module _ (start : ℕ) where
-  read-stop : (n next : ℕ) (rest : List ℕ) → start < next → Ends rest → readOn start n next rest ≡ Read n next
-  unfolding readOn
-  read-stop n next [] h e = rw (lt-ltb start next h)
-  read-stop n next (c ∷ rest) h e = rw (sym (grown-stop c n (ltb start next) e), lt-ltb start next h)
+module _ (text of ends : List ℕ) (at i : ℕ) where
+  pub fields-done : length ends ≤ i → record { read = true; next = at; of = of } ≡ readTo of i (fieldsAt text at (drop i ends))
+  unfolding fieldsAt
+  fields-done h = rw (drop-of-length-le ends h)
 
-  read-digits : (ds rest : List ℕ) (n next : ℕ) → Digits ds → Ends rest → 0 < n → start < next → worth n ds < 2 ^ 64 → readOn start n next (ds ++ rest) ≡ Read (worth n ds) (next + length ds)
-  unfolding readOn worth
-  read-digits [] rest n next d e p h b = rw add-zero (read-stop n next rest h e)
-  read-digits (c ∷ ds) rest n next d e p h b =
-      let m = n * 10 + (c - 48) in
-      let g : grownOf c n (ltb start next) ≡ Digit m = sym (grown-digit c n (ltb start next) (d .0) (d .1) (omega (arith, worth-le m ds)) (inr (λ z. omega arith))) in
-      rw (g, add-suc, ← suc-add) (read-digits ds rest m (suc next) (d .2) e (omega arith) (omega arith) b)
+  module _ (h : i < length ends) where
+    pub fields-none : fieldAt text at (getD ends i 0) ≡ Refused → readTo of i none ≡ readTo of i (fieldsAt text at (drop i ends))
+    unfolding fieldsAt
+    fields-none e = rw (drop-cons ends i 0 h, e)
 
--- the first digit
-read-first : (at h : ℕ) (rest : List ℕ) → h ≤ 9 → readOn at 0 at ((48 + h) ∷ rest) ≡ readOn at h (suc at) rest
-unfolding readOn
-read-first at h rest l =
-    let e : 0 * 10 + (48 + h - 48) ≡ h = omega arith in
-    let g : grownOf (48 + h) 0 (ltb at at) ≡ Digit (0 * 10 + (48 + h - 48)) = sym (grown-digit (48 + h) 0 (ltb at at) (omega arith) (omega arith) (omega arith) (inl (le-ltb at at (omega arith)))) in
-    rw (g, e)
+    pub fields-more : (n next : ℕ) → fieldAt text at (getD ends i 0) ≡ Read n next → readTo of i (fieldsAt text at (drop i ends)) ≡ readTo (set of i n) (i + 1) (fieldsAt text next (drop (i + 1) ends))
+    unfolding fieldsAt
+    fields-more n next e = rw (drop-cons ends i 0 h, e, add-one) (read-more of i n (fieldsAt text next (drop (suc i) ends)))
 
-read-back : (at n : ℕ) (rest : List ℕ) → n < 2 ^ 64 → Ends rest → readOn at 0 at (decimal n ++ rest) ≡ Read n (at + length (decimal n))
-read-back at n rest h e =
-    elim (decLt 0 n) [
-      | yes p ↦
-          let s = spelled (suc n) n (omega arith) p in
-          rw (s .text, read-first at (s .high) (s .low ++ rest) (s .small), add-suc, ← suc-add)
-          (read-digits at (s .low) rest (s .high) (suc at) (s .digits) e (s .some) (omega arith) (omega (arith, s .number)) ∙ ap (λ (m : ℕ). Read m (suc at + length (s .low))) (s .number))
-      | no p ↦
-          let z : n ≡ 0 = omega arith in
-          rw (z, decimal-one 0 (omega arith), read-first at 0 rest (omega arith)) (read-stop at 0 (suc at) rest (omega arith) e ∙ rw add-one)
-    ]
+-- numbers below 2 ^ 64, and bytes that are no digits
+abbrev pub Words : List ℕ → Type 0
+Words [] = Unit {0}
+Words (n ∷ ns) = (n < 2 ^ 64) × Words ns
 
-pub decimal-read : (text : List ℕ) (at n : ℕ) (rest : List ℕ) → n < 2 ^ 64 → Ends rest → drop at text ≡ decimal n ++ rest → numberOf text at ≡ Read n (at + length (decimal n))
-unfolding numberOf
-decimal-read text at n rest h e d = rw d (read-back at n rest h e)
+abbrev pub NoDigits : List ℕ → Type 0
+NoDigits [] = Unit {0}
+NoDigits (c ∷ cs) = (within 48 57 c ≡ false) × NoDigits cs
 
-digit-or-not : (c : ℕ) → ((c < 48) ⊎ (57 < c)) ⊎ ((48 ≤ c) × (c ≤ 57))
-digit-or-not c = elim (decLt c 48) [
-  | yes s ↦ inl (inl s)
-  | no s ↦ elim (decLt 57 c) [
-    | yes t ↦ inl (inr t)
-    | no t ↦ inr (omega arith, omega arith)
-  ]
-]
+-- the fields of some numbers stand at a place
+pub record FieldsStand (text : List ℕ) (at : ℕ) (ends ns : List ℕ) (next : ℕ) : Type 0 where
+  pub count : length ns ≡ length ends
+  pub words : Words ns
+  pub piece : Stands text at (fields ns ends) next
 
-no-number : {m last : ℕ} → Refused ≡ Read m last → ⊥
-no-number e = let z : _≡_ {A = ℕ} 0 1 = cc in omega arith
+module _ (text : List ℕ) where
+  front : (at end : ℕ) → startsWith (end ∷ []) (drop at text) ≡ true → Stands text at (end ∷ []) (at + 1)
+  front at end e =
+      let t : take 1 (drop at text) ≡ end ∷ [] = decide-iff (List-discrete ℕ-discrete (take 1 (drop at text)) (end ∷ [])) .0 e in
+      record { found = sym (take-append-drop 1 (drop at text)) ∙ rw (t, drop-drop 1 at text); place = refl }
 
--- what was read, in the text that was left and after the number n
-record Grew (n next : ℕ) (text : List ℕ) (m last : ℕ) : Type 0 where
-  digits : List ℕ
-  rest : List ℕ
-  found : text ≡ digits ++ rest
-  spells : decimal m ≡ decimal n ++ digits
-  place : last ≡ next + length digits
-  below : m < 2 ^ 64
+  -- what is read stands there
+  module _ (at end n next : ℕ) where
+    field-end : (k middle : ℕ) → IsRead text at k middle → (t : Bool) → startsWith (end ∷ []) (drop middle text) ≡ t → cond t (Read k (middle + 1)) Refused ≡ Read n next → FieldsStand text at (end ∷ []) (n ∷ []) next
+    field-end k middle r false s q = absurd (no-number q)
+    field-end k middle r true s q =
+        let v : k ≡ n = cc in
+        let p : middle + 1 ≡ next = cc in
+        rw (← v, ← p) (record { count = refl; words = (r .below, tt); piece = stands-then (r .piece) (front middle end s) })
 
-module _ (start : ℕ) where
-  nothing-more : (n next m last : ℕ) (text : List ℕ) → n < 2 ^ 64 → Read n next ≡ Read m last → Grew n next text m last
-  nothing-more n next m last text b e =
-      let v : n ≡ m = cc in
-      let p : next ≡ last = cc in
-      record { digits = []; rest = text; found = refl; spells = rw (← v) (sym (append-nil (decimal n))); place = rw (← p) (sym (add-zero next)); below = rw (← v) b }
+    field-cases : (m : Number) → numberOf text at ≡ m → fieldAt text at end ≡ Read n next → FieldsStand text at (end ∷ []) (n ∷ []) next
+    unfolding fieldAt
+    field-cases Refused e f = absurd (no-number (rw e at f))
+    field-cases (Read k middle) e f = field-end k middle (number-read text at k middle e) (startsWith (end ∷ []) (drop middle text)) refl (rw e at f)
 
-  grew : (text : List ℕ) (n next m last : ℕ) → 0 < n → n < 2 ^ 64 → start < next → readOn start n next text ≡ Read m last → Grew n next text m last
-  unfolding readOn
-  grew [] n next m last p b h e = nothing-more n next m last [] b (rw (lt-ltb start next h) at e)
-  grew (c ∷ text) n next m last p b h e =
-      elim (digit-or-not c) [
-        | inl s ↦ nothing-more n next m last (c ∷ text) b (rw (sym (grown-stop c n (ltb start next) s), lt-ltb start next h) at e)
-        | inr d ↦
-            elim (decLt (n * 10 + (c - 48)) (2 ^ 64)) [
-              | yes u ↦
-                  let g : grownOf c n (ltb start next) ≡ Digit (n * 10 + (c - 48)) = sym (grown-digit c n (ltb start next) (d .0) (d .1) u (inr (λ z. omega arith))) in
-                  let i = grew text (n * 10 + (c - 48)) (suc next) m last (omega arith) u (omega arith) (rw g at e) in
-                  record {
-                    digits = c ∷ i .digits;
-                    rest = i .rest;
-                    found = ap (λ (l : List ℕ). c ∷ l) (i .found);
-                    spells = i .spells ∙ ap (λ (l : List ℕ). l ++ i .digits) (decimal-next n c p (d .0) (d .1)) ∙ append-snoc (decimal n) c (i .digits);
-                    place = i .place ∙ suc-add next (length (i .digits)) ∙ sym (add-suc next (length (i .digits)));
-                    below = i .below;
-                  }
-              | no u ↦ absurd (no-number (rw (sym (grown-long c n (ltb start next) (d .0) (d .1) (omega arith))) at e))
-            ]
-      ]
+    pub field-read : fieldAt text at end ≡ Read n next → FieldsStand text at (end ∷ []) (n ∷ []) next
+    field-read = field-cases (numberOf text at) refl
 
--- what is read at a place is the decimal text of the number, which ends where it says
-pub record IsRead (text : List ℕ) (at n next : ℕ) : Type 0 where
-  pub found : drop at text ≡ decimal n ++ drop next text
-  pub place : next ≡ at + length (decimal n)
-  pub below : n < 2 ^ 64
+  module _ (at end : ℕ) (ends ns : List ℕ) (next : ℕ) where
+    rest-cases : (n middle : ℕ) → fieldAt text at end ≡ Read n middle → (o : Option (List ℕ × ℕ)) → ((ms : List ℕ) (last : ℕ) → o ≡ some (ms, last) → FieldsStand text middle ends ms last) → before n o ≡ some (ns, next) → FieldsStand text at (end ∷ ends) ns next
+    rest-cases n middle e none rest f = absurd (Option·none-ne-some (ns, next) f)
+    rest-cases n middle e (some r) rest f =
+        let i = field-read at end n middle e in
+        let j = rest (r .0) (r .1) refl in
+        let q : _≡_ {A = List ℕ × ℕ} (n ∷ r .0, r .1) (ns, next) = Option·some-injective _ _ f in
+        rw (← ap (λ (p : List ℕ × ℕ). p .0) q, ← ap (λ (p : List ℕ × ℕ). p .1) q)
+        (record { count = ap suc (j .count); words = (i .words .0, j .words); piece = rw (append-snoc (decimal n) end (fields (r .0) ends)) at (stands-then (i .piece) (j .piece)) })
 
-ends-at : (text : List ℕ) (at n next : ℕ) (rest : List ℕ) → drop at text ≡ decimal n ++ rest → next ≡ at + length (decimal n) → n < 2 ^ 64 → IsRead text at n next
-ends-at text at n next rest f p b =
-    let r : drop next text ≡ rest = rw p (sym (drop-drop (length (decimal n)) at text) ∙ ap (drop (length (decimal n))) f ∙ drop-at (decimal n) rest (length (decimal n)) refl) in
-    record { found = rw r f; place = p; below = b }
+    first-cases : (m : Number) → fieldAt text at end ≡ m → ((middle : ℕ) (ms : List ℕ) (last : ℕ) → fieldsAt text middle ends ≡ some (ms, last) → FieldsStand text middle ends ms last) → fieldsAt text at (end ∷ ends) ≡ some (ns, next) → FieldsStand text at (end ∷ ends) ns next
+    unfolding fieldsAt
+    first-cases Refused e rest f = absurd (Option·none-ne-some (ns, next) (rw e at f))
+    first-cases (Read n middle) e rest f = rest-cases n middle e (fieldsAt text middle ends) (rest middle) (rw e at f)
 
-module _ (at n next : ℕ) where
-  -- after a zero nothing is read
-  zero-alone : (rest : List ℕ) → readOn at 0 (suc at) rest ≡ Read n next → Read 0 (suc at) ≡ Read n next
-  unfolding readOn
-  zero-alone [] e = rw (lt-ltb at (suc at) (omega arith)) at e
-  zero-alone (c ∷ rest) e =
-      let b : ltb at (suc at) ≡ true = lt-ltb at (suc at) (omega arith) in
-      elim (digit-or-not c) [
-        | inl s ↦ rw (sym (grown-stop c 0 (ltb at (suc at)) s), b) at e
-        | inr d ↦ absurd (no-number (rw (sym (grown-zero c 0 (ltb at (suc at)) (d .0) (d .1) b refl)) at e))
-      ]
+  pub fields-read : (ends : List ℕ) (at : ℕ) (ns : List ℕ) (next : ℕ) → fieldsAt text at ends ≡ some (ns, next) → FieldsStand text at ends ns next
+  unfolding fieldsAt
+  fields-read [] at ns next e =
+      let q : _≡_ {A = List ℕ × ℕ} ([], at) (ns, next) = Option·some-injective _ _ e in
+      rw (← ap (λ (p : List ℕ × ℕ). p .0) q, ← ap (λ (p : List ℕ × ℕ). p .1) q) (record { count = refl; words = tt; piece = record { found = refl; place = sym (add-zero at) } })
+  fields-read (end ∷ ends) at ns next e = first-cases at end ends ns next (fieldAt text at end) refl (λ middle ms last. fields-read ends middle ms last) e
 
-  -- the first byte is a digit
-  begins : (l : List ℕ) → readOn at 0 at l ≡ Read n next → (h : ℕ) × (rest : List ℕ) × (l ≡ (48 + h) ∷ rest) × (h ≤ 9)
-  unfolding readOn
-  begins [] e = absurd (no-number (rw (le-ltb at at (omega arith)) at e))
-  begins (c ∷ rest) e =
-      elim (digit-or-not c) [
-        | inl s ↦ absurd (no-number (rw (sym (grown-stop c 0 (ltb at at) s), le-ltb at at (omega arith)) at e))
-        | inr d ↦
-            let q : c ≡ 48 + (c - 48) = omega arith in
-            (c - 48, rest, ap (λ (x : ℕ). x ∷ rest) q, omega arith)
-      ]
+  -- what stands there is read
+  pub field-back : (at end n next : ℕ) → within 48 57 end ≡ false → n < 2 ^ 64 → Stands text at (decimal n ++ (end ∷ [])) next → fieldAt text at end ≡ Read n next
+  unfolding fieldAt digitsOf
+  field-back at end n next d b s =
+      let p = stands-parts (decimal n) s in
+      let middle = at + length (decimal n) in
+      let z : digitsOf (drop middle text) ≡ [] = rw (p .1 .found, d) in
+      let e : startsWith (end ∷ []) (drop middle text) ≡ true = rw (p .1 .found) (decide-iff (List-discrete ℕ-discrete (end ∷ []) (end ∷ [])) .1 refl) in
+      rw (number-back text at n middle z (record { below = b; piece = p .0 }), e, p .1 .place)
 
-goes-on : (text : List ℕ) (at n next h : ℕ) (rest : List ℕ) → drop at text ≡ (48 + h) ∷ rest → h ≤ 9 → readOn at h (suc at) rest ≡ Read n next → IsRead text at n next
-goes-on text at n next h rest f l r =
-    elim (decLt 0 h) [
-      | yes p ↦
-          let i = grew at rest h (suc at) n next p (omega arith) (omega arith) r in
-          let t : decimal n ≡ (48 + h) ∷ i .digits = i .spells ∙ ap (λ (d : List ℕ). d ++ i .digits) (decimal-one h (omega arith)) in
-          ends-at text at n next (i .rest) (f ∙ ap (λ (l : List ℕ). (48 + h) ∷ l) (i .found) ∙ sym (ap (λ (d : List ℕ). d ++ i .rest) t)) (i .place ∙ rw (t, add-suc, suc-add)) (i .below)
-      | no p ↦
-          let z : h ≡ 0 = omega arith in
-          let o : Read 0 (suc at) ≡ Read n next = zero-alone at n next rest (rw z at r) in
-          let v : 0 ≡ n = cc in
-          let w : suc at ≡ next = cc in
-          let t : decimal n ≡ 48 ∷ [] = rw (← v) (decimal-one 0 (omega arith)) in
-          ends-at text at n next rest (f ∙ rw (z, t)) (rw (← w, t) (sym (add-one at))) (omega (arith, v))
-    ]
+  pub fields-back : (ends ns : List ℕ) (at next : ℕ) → NoDigits ends → FieldsStand text at ends ns next → fieldsAt text at ends ≡ some (ns, next)
+  unfolding fieldsAt
+  fields-back [] [] at next d s = ap (λ (k : ℕ). some ([], k)) (sym (s .piece .place ∙ add-zero at))
+  fields-back [] (n ∷ ns) at next d s = absurd (omega (arith, s .count))
+  fields-back (end ∷ ends) [] at next d s = absurd (omega (arith, s .count))
+  fields-back (end ∷ ends) (n ∷ ns) at next d s =
+      let p = stands-parts (decimal n ++ (end ∷ [])) (rw (← append-snoc (decimal n) end (fields ns ends)) at (s .piece)) in
+      let r = fields-back ends ns _ next (d .1) (record { count = omega (arith, s .count); words = s .words .1; piece = p .1 }) in
+      rw (field-back at end n _ (d .0) (s .words .0) (p .0), r)
 
-pub read-decimal : (text : List ℕ) (at n next : ℕ) → numberOf text at ≡ Read n next → IsRead text at n next
-unfolding numberOf
-read-decimal text at n next e =
-    let f = begins at n next (drop at text) e in
-    goes-on text at n next (f .0) (f .1) (f .2) (f .3) (sym (read-first at (f .0) (f .1) (f .3)) ∙ sym (ap (readOn at 0 at) (f .2)) ∙ e)
+-- the same of the array that reading hands back
+module _ (text : List ℕ) (at : ℕ) (ends : List ℕ) where
+  pub fields-of-back : (ns : List ℕ) (next : ℕ) → NoDigits ends → FieldsStand text at ends ns next → fieldsOf text at ends ≡ record { read = true; next = next; of = sets (replicate 8 0) 0 ns }
+  unfolding fieldsOf
+  fields-of-back ns next d s = rw (fields-back text ends ns at next d s)
+
+  pub fields-of-read : fieldsOf text at ends .read ≡ true → (ns : List ℕ) × FieldsStand text at ends ns (fieldsOf text at ends .next) × (fieldsOf text at ends .of ≡ sets (replicate 8 0) 0 ns)
+  unfolding fieldsOf
+  fields-of-read = go (fieldsAt text at ends) refl
+    where
+      go : (o : Option (List ℕ × ℕ)) → fieldsAt text at ends ≡ o → let f = readTo (replicate 8 0) 0 o in f .read ≡ true → (ns : List ℕ) × FieldsStand text at ends ns (f .next) × (f .of ≡ sets (replicate 8 0) 0 ns)
+      go none e q = absurd (false≢true q)
+      go (some r) e q = (r .0, fields-read text ends at (r .0) (r .1) e, refl)

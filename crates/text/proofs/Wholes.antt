@@ -3,8 +3,7 @@
 use mathlib.Core.Path.{_≡_, sym, _∙_, subst}
 use mathlib.Core.Bool.{Bool, true, false, cond}
 use mathlib.Core.List.{List, [], _++_}
-use Prim.Native.Nat.{ℕ, _≤_, _<_}
-use native.Mathlib.Nat.{zero-add}
+use Prim.Native.Nat.{ℕ, _^_, _≤_, _<_}
 use native.Mathlib.Omega.{arith}
 use lib.Dec.{T, eqb}
 use lib.ListN.{length, drop, length-append}
@@ -28,11 +27,12 @@ module _ (before : List Refusal) (text out : List ℕ) where
     unfolding wroteOf
     whole-no-room h = rw (first-on before _ n none, lt-ltb (length out) (length text) h)
 
-    pub whole-put : {out′ : List ℕ} {next : ℕ} → length text ≤ length out → Put out 0 text out′ next → (record { answer = accepted; length = next }, out′) ≡ wroteOf before text out
+    pub whole-put : {out′ : List ℕ} {next : ℕ} → length out < 2 ^ 64 → length text ≤ length out → Put out 0 text out′ next → (record { answer = accepted; length = next }, out′) ≡ wroteOf before text out
     unfolding wroteOf
-    whole-put h p =
+    whole-put {next = next} b h p =
+        let e : next ≡ length text = omega (arith, p .place) in
         rw (first-on before _ n none, le-ltb (length out) (length text) h)
-        (λ i. (record { answer = accepted; length = (p .place ∙ zero-add _) i }, (p .bytes ∙ written-start out text h) i))
+        (λ i. (record { answer = accepted; length = e i }, (p .bytes ∙ written-start out text h) i))
 
     pub whole-passed : wroteOf before text out ≡ wroteOf [] text out
     unfolding wroteOf

@@ -2,21 +2,37 @@
 use Prim.Native.Nat.{ℕ}
 use Prim.Native.Char.{code}
 use Prim.Native.String.{String}
-use mathlib.Core.Bool.{Bool, _&&_}
-use mathlib.Core.List.{List, [], _∷_, _++_}
+use mathlib.Core.Bool.{Bool, _&&_, decide}
+use mathlib.Core.List.{List, [], _∷_, _++_, List-discrete}
+use native.Mathlib.Decide.{ℕ-discrete}
 use lib.Dec.{leb}
+use lib.ListN.{length, take}
 
 -- the codes of a quoted text's characters, which are bytes where they are ASCII
 abbrev pub ascii : String → List ℕ
 ascii String.[] = []
 ascii (String._∷_ c s) = code c ∷ ascii s
 
+abbrev pub tab : ℕ
+tab = 9
+
+abbrev pub newline : ℕ
+newline = 10
+
 -- fields parted by tabs and ended by one newline
-abbrev pub row : List (List ℕ) → List ℕ
-row [] = 10 ∷ []
-row (f ∷ []) = f ++ (10 ∷ [])
-row (f ∷ g ∷ fs) = f ++ (9 ∷ row (g ∷ fs))
+abbrev pub line : List (List ℕ) → List ℕ
+line [] = newline ∷ []
+line (f ∷ []) = f ++ (newline ∷ [])
+line (f ∷ g ∷ fs) = f ++ (tab ∷ line (g ∷ fs))
 
 -- a byte from `low` to `high`
 abbrev pub within : ℕ → ℕ → ℕ → Bool
 within low high c = leb low c && leb c high
+
+-- whether two texts are the same
+abbrev pub same : List ℕ → List ℕ → Bool
+same a b = decide (List-discrete ℕ-discrete a b)
+
+-- whether a text begins with `start`
+abbrev pub startsWith : List ℕ → List ℕ → Bool
+startsWith start text = same (take (length start) text) start

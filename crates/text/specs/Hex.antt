@@ -1,5 +1,5 @@
--- Bytes given as text: two hex digits each, parted by one space or newline. Assumes nothing.
-use Prim.Native.Nat.{ℕ, zero, suc, _+_, _-_, _*_}
+-- Bytes as text: two hex digits each. Read, they are parted by one space or newline; written, by nothing. Assumes nothing.
+use Prim.Native.Nat.{ℕ, zero, suc, _+_, _-_, _*_, _/_, _%_}
 use mathlib.Core.Bool.{Bool, true, cond, _||_}
 use mathlib.Core.List.{List, [], _∷_}
 use lib.Dec.{ltb, eqb}
@@ -53,3 +53,12 @@ decodedAs bytes out = (record { count = length (bytes .0); ending = bytes .1 }, 
 -- the same of a text, where `out` is the room
 unfoldable pub decodedOf : List ℕ → List ℕ → Decoded × List ℕ
 decodedOf text out = decodedAs (hexBytes (length out) text) out
+
+-- the digit of a value below 16, in lower case
+abbrev pub digitOf : ℕ → ℕ
+digitOf value = cond (ltb value 10) (48 + value) (87 + value)
+
+-- the text of some bytes
+abbrev pub hexOf : List ℕ → List ℕ
+hexOf [] = []
+hexOf (b ∷ bytes) = digitOf (b / 16) ∷ digitOf (b % 16) ∷ hexOf bytes

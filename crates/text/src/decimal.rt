@@ -1,18 +1,18 @@
 // A number written in decimal: its digits are counted, then stored from the last one on.
 ghost use mathlib.Core.Path.{_≡_};
-ghost use Prim.Native.Nat.{_+_, _≤_, _<_, _^_};
+ghost use Prim.Native.Nat.{_+_, _≤_, _<_};
 ghost use lib.ListN.{length};
 ghost use Rattle.text.specs.Decimal.{decimal};
-ghost use Rattle.text.specs.Put.{Put};
+ghost use Rattle.text.specs.Put.{Put, written};
+use crate::put::fits;
 use crate::put::put_text;
 
 pub fn put_decimal(out: &mut [u8], at: usize, n: u64) -> usize
-    requires { ⌜ at + length (decimal n) < 2 ^ 64 ⌝ }
     ensures { λ r. ⌜ Put (now (out .entry)) at (decimal n) (now (out .exit)) r ⌝ }
 {
     let count = digits(n);
-    let end = at + count;
-    if end <= out.len() {
+    if fits(out.len(), at, count) {
+        let end = at + count;
         fill(out, at, end, n);
         return end;
     }
@@ -51,7 +51,7 @@ fn few(n: u64) -> usize
 // Writes a number from `at` to `end`: four digits at a time.
 fn fill(out: &mut [u8], at: usize, end: usize, n: u64)
     requires { ⌜ (at + length (decimal n) ≡ end) × (end ≤ length (now out)) ⌝ }
-    ensures { λ _. ⌜ Put (now (out .entry)) at (decimal n) (now (out .exit)) end ⌝ }
+    ensures { λ _. ⌜ now (out .exit) ≡ written (now (out .entry)) at (decimal n) ⌝ }
 {
     let mut i = end;
     let mut rest = n;
@@ -70,7 +70,7 @@ fn fill(out: &mut [u8], at: usize, end: usize, n: u64)
 // The same a digit at a time, for a number of few digits.
 fn fill_few(out: &mut [u8], at: usize, end: usize, n: u64)
     requires { ⌜ (at + length (decimal n) ≡ end) × (end ≤ length (now out)) ⌝ }
-    ensures { λ _. ⌜ Put (now (out .entry)) at (decimal n) (now (out .exit)) end ⌝ }
+    ensures { λ _. ⌜ now (out .exit) ≡ written (now (out .entry)) at (decimal n) ⌝ }
 {
     let mut i = end;
     let mut rest = n;

@@ -1,7 +1,11 @@
-// Bytes given as text: two hex digits each, in either case, parted by one space or newline.
+// Bytes as text, two hex digits each. They are read in either case, parted by one space or newline; they are written in lower case with
+// nothing between.
 ghost use mathlib.Core.Path.{_≡_};
+ghost use Prim.Native.Nat.{_<_};
 ghost use lib.ListN.{drop};
-ghost use Rattle.text.specs.Hex.{valueOf, parted, pairOf, front, decodedOf};
+ghost use Rattle.text.specs.Hex.{valueOf, parted, pairOf, front, decodedOf, digitOf, hexOf};
+ghost use Rattle.text.specs.Put.{Put};
+use crate::put::put_byte;
 
 // How reading ended: with the text, at other text, or at a byte too many.
 pub enum Ending {
@@ -23,7 +27,7 @@ pub struct Decoded {
 }
 
 // A hex digit's value, and 16 for any other byte; the table goes from `0` to `f`.
-fn value(c: u8) -> u8
+pub fn digit_value(c: u8) -> u8
     ensures { λ r. ⌜ r ≡ valueOf c ⌝ }
 {
     let table =
@@ -76,8 +80,8 @@ fn step(text: &[u8], at: usize, room: usize) -> Front
         Front::Stop(Ending::BadHex)
     } else {
         pair(
-            value(text[at]),
-            value(text[at + 1]),
+            digit_value(text[at]),
+            digit_value(text[at + 1]),
             room,
             ends(text, at + 2),
         )
@@ -99,5 +103,31 @@ pub fn decode(text: &[u8], out: &mut [u8]) -> Decoded
             }
             Front::Stop(ending) => return Decoded { count, ending },
         }
+    }
+}
+
+// Writes bytes as text.
+pub fn put_hex(out: &mut [u8], at: usize, bytes: &[u8]) -> usize
+    ensures { λ r. ⌜ Put (now (out .entry)) at (hexOf (now (bytes .entry))) (now (out .exit)) r ⌝ }
+{
+    let mut next = at;
+    let mut i = 0;
+    while i < bytes.len() {
+        next = put_byte(out, next, digit(bytes[i] / 16));
+        next = put_byte(out, next, digit(bytes[i] % 16));
+        i += 1;
+    }
+    next
+}
+
+// The digit of that value.
+fn digit(value: u8) -> u8
+    requires { ⌜ value < 16 ⌝ }
+    ensures { λ r. ⌜ r ≡ digitOf value ⌝ }
+{
+    if value < 10 {
+        b'0' + value
+    } else {
+        b'a' - 10 + value
     }
 }

@@ -1,64 +1,84 @@
-// Writing at a running place: a byte, a text, a number with the byte that ends it.
-ghost use Prim.Native.Nat.{_+_, _≤_, _<_, _^_};
+// Writing at a running place: a byte, a text, numbers with the bytes that end them.
+ghost use mathlib.Core.Path.{_≡_};
+ghost use Prim.Native.Nat.{_+_};
+ghost use lib.Dec.{leb};
 ghost use mathlib.Core.List.{[], _∷_, _++_};
-ghost use lib.ListN.{length};
 ghost use Rattle.text.specs.Decimal.{decimal};
-ghost use Rattle.text.specs.Put.{Put};
+ghost use Rattle.text.specs.Fields.{fields};
+ghost use Rattle.text.specs.Put.{Put, past, written};
 use crate::decimal::put_decimal;
 
 pub fn put_byte(out: &mut [u8], at: usize, byte: u8) -> usize
-    requires { ⌜ at + 1 < 2 ^ 64 ⌝ }
     ensures { λ r. ⌜ Put (now (out .entry)) at (byte ∷ []) (now (out .exit)) r ⌝ }
 {
     if at < out.len() {
         out[at] = byte;
     }
-    at + 1
+    place(at, 1)
 }
 
 pub fn put_text(out: &mut [u8], at: usize, text: &[u8]) -> usize
-    requires { ⌜ at + length (now text) < 2 ^ 64 ⌝ }
     ensures { λ r. ⌜ Put (now (out .entry)) at (now (text .entry)) (now (out .exit)) r ⌝ }
 {
-    if at + text.len() <= out.len() {
-        copy(out, at, text)
-    } else {
-        put_part(out, at, text)
+    if at < out.len() {
+        put_front(&mut out[at..], text);
     }
+    place(at, text.len())
 }
 
-// A text for which there is room.
-fn copy(out: &mut [u8], at: usize, text: &[u8]) -> usize
-    requires { ⌜ at + length (now text) ≤ length (now out) ⌝ }
-    ensures { λ r. ⌜ Put (now (out .entry)) at (now (text .entry)) (now (out .exit)) r ⌝ }
+// A text at the output's start.
+fn put_front(out: &mut [u8], text: &[u8])
+    ensures { λ _. ⌜ now (out .exit) ≡ written (now (out .entry)) 0 (now (text .entry)) ⌝ }
 {
-    let mut i = 0;
-    while i < text.len() {
-        out[at + i] = text[i];
-        i += 1;
+    let room = out.len();
+    if room < text.len() {
+        bytes::copy(&text[..room], out);
+        return;
     }
-    at + i
+    bytes::copy(text, out);
 }
 
-// A text for which there may be no room.
-fn put_part(out: &mut [u8], at: usize, text: &[u8]) -> usize
-    requires { ⌜ at + length (now text) < 2 ^ 64 ⌝ }
-    ensures { λ r. ⌜ Put (now (out .entry)) at (now (text .entry)) (now (out .exit)) r ⌝ }
+// A number, and the byte that ends it.
+pub fn put_field(out: &mut [u8], at: usize, n: u64, end: u8) -> usize
+    ensures { λ r. ⌜ Put (now (out .entry)) at (decimal n ++ (end ∷ [])) (now (out .exit)) r ⌝ }
 {
-    let mut i = 0;
+    let next = put_decimal(out, at, n);
+    put_byte(out, next, end)
+}
+
+// Numbers one after the other, each with the byte that ends it.
+pub fn put_fields(out: &mut [u8], at: usize, of: &[u64], ends: &[u8]) -> usize
+    ensures { λ r. ⌜ Put (now (out .entry)) at (fields (now (of .entry)) (now (ends .entry))) (now (out .exit)) r ⌝ }
+{
     let mut next = at;
-    while i < text.len() {
-        next = put_byte(out, next, text[i]);
+    let mut i = 0;
+    while i < of.len() {
+        if ends.len() <= i {
+            return next;
+        }
+        next = put_field(out, next, of[i], ends[i]);
         i += 1;
     }
     next
 }
 
-// A number, and the byte that ends it.
-pub fn put_field(out: &mut [u8], at: usize, n: u64, end: u8) -> usize
-    requires { ⌜ at + length (decimal n) + 1 < 2 ^ 64 ⌝ }
-    ensures { λ r. ⌜ Put (now (out .entry)) at (decimal n ++ (end ∷ [])) (now (out .exit)) r ⌝ }
+// Whether `count` bytes from a place on lie in an output of that length.
+pub(crate) fn fits(length: usize, at: usize, count: usize) -> bool
+    ensures { λ r. ⌜ r ≡ leb (at + count) length ⌝ }
 {
-    let next = put_decimal(out, at, n);
-    put_byte(out, next, end)
+    if length < at {
+        return false;
+    }
+    count <= length - at
+}
+
+// The place `count` bytes on.
+fn place(at: usize, count: usize) -> usize
+    ensures { λ r. ⌜ r ≡ past at count ⌝ }
+{
+    if usize::MAX - at < count {
+        usize::MAX
+    } else {
+        at + count
+    }
 }

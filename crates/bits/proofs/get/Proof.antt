@@ -8,12 +8,6 @@ use Rattle.bits.proofs.Shift.{one-shl}
 use Rattle.bits.proofs.get.Statement.{statement}
 use Rattle.bits.proofs.get.Tie as tie
 
-shr-result : tie.Need-shr-result
-shr-result c = search needs
-
-shl-result : tie.Need-shl-result
-shl-result c = search needs
-
 rem-result : tie.Need-rem-result
 rem-result c = subst (λ (x : ℕ). 0 < x) (sym (one-shl (c .args .width) (c .pre .1))) (pow-pos (c .args .width))
 
@@ -21,4 +15,4 @@ returns : tie.Need-returns
 returns c = ap (λ (x : ℕ). (c .args .word / 2 ^ c .args .place) % x) (one-shl (c .args .width) (c .pre .1))
 
 pub get-spec : {M : Type 1} → statement M
-get-spec = tie.close (tie.spec shr-result shl-result rem-result returns)
+get-spec = tie.close (tie.spec (λ c. search needs) (λ c. search needs) rem-result returns)

@@ -11,12 +11,6 @@ use Rattle.bits.proofs.Shift.{shl}
 use Rattle.bits.proofs.put.Statement.{statement}
 use Rattle.bits.proofs.put.Tie as tie
 
-get-requires : tie.Need-get-requires
-get-requires c κs = search needs
-
-shl-result : tie.Need-shl-result
-shl-result c = search needs
-
 -- a part that was got, shifted to its place
 shifted : (r n q p k : ℕ) → r ≡ part n q k → p + k ≤ 64 → (r * 2 ^ p) % 2 ^ 64 ≡ part n q k * 2 ^ p
 shifted r n q p k e h = ap (λ (x : ℕ). (x * 2 ^ p) % 2 ^ 64) e ∙ shl p k (part n q k) (part-lt n q k) h
@@ -26,12 +20,6 @@ sub-result c =
     let a = c .before .args in
     subst (λ (x : ℕ). x ≤ a .word) (sym (shifted _ (a .word) (a .place) (a .place) (a .width) (c .get .ensures) (c .before .pre .2)))
     (take-out (a .word) (a .place) (a .width))
-
-get-requires-2 : tie.Need-get-requires-2
-get-requires-2 c κs = search needs
-
-shl-result-2 : tie.Need-shl-result-2
-shl-result-2 c = search needs
 
 result : (c : tie.After-get2) →
     let a = c .before .before .args in
@@ -60,4 +48,4 @@ returns c = result c
 pub put-spec : {M : Type 1} → statement M
 put-spec =
     tie.close
-    (tie.spec get-requires shl-result sub-result get-requires-2 shl-result-2 add-result returns)
+    (tie.spec (λ c κs. search needs) (λ c. search needs) sub-result (λ c κs. search needs) (λ c. search needs) add-result returns)

@@ -1,24 +1,24 @@
--- `cut` meets its contract: a look has all but the slots, and these are those of its halves. Assumes nothing.
-use mathlib.Core.Path.{_∙_, ap}
-use Rattle.bundle.specs.Bundle.{lookOf, slotsOf, whole}
-use Rattle.bundle.specs.declared.Seen.{Seen}
-use Rattle.bundle.proofs.Laws.{look-slots}
+-- `cut` meets its contract: it is the definition, over what was loaded. Assumes nothing.
+use mathlib.Core.Path.{_∙_, ap, sym}
+use Rattle.answer.proofs.Laws.{accepts, refuses}
+use Rattle.bundle.specs.Bundle.{whole, cutNumber, uncut, cutLoaded, cutOf}
 use borrow.Author.Needs.{needs}
 use Rattle.bundle.proofs.cut.Statement.{statement}
 use Rattle.bundle.proofs.cut.Tie as tie
 
-look-requires : tie.Need-look-requires
-look-requires c κs = search needs
-
-slots-requires : tie.Need-slots-requires
-slots-requires c κs = search needs
-
 returns : tie.Need-returns
-unfolding lookOf
+unfolding cutOf
 returns c =
-    let seen = c .before .before .look .ensures in
-    let slots = c .slots .ensures ∙ ap (λ (s : Seen). slotsOf (whole (s .halves))) seen ∙ look-slots _ _ in
-    λ i. record { answer = seen i .answer; tag = seen i .tag; units = seen i .units; slots = slots i }
+    let loaded = c .before .load in
+    sym (refuses (loaded .result .answer) _ (uncut (loaded .result .answer)) (c .if1 .taken)) ∙ ap cutLoaded (loaded .ensures)
+
+returns-2 : tie.Need-returns-2
+unfolding cutOf
+returns-2 c =
+    let loaded = c .before .before .load in
+    c .cut-halves .ensures
+    ∙ sym (accepts (loaded .result .answer) (cutNumber (whole (loaded .result .halves))) (uncut (loaded .result .answer)) (c .before .if1 .left))
+    ∙ ap cutLoaded (loaded .ensures)
 
 pub cut-spec : {M : Type 1} → statement M
-cut-spec = tie.close (tie.spec look-requires slots-requires returns)
+cut-spec = tie.close (tie.spec (λ c κs. search needs) returns (λ c κs. search needs) returns-2)

@@ -1,23 +1,19 @@
 -- `join` meets its contract: where none of its refusals applies the tag and the slots fit and there is room, so the sixteen
 -- bytes that are written are those of their number. Assumes nothing.
-use mathlib.Core.Path.{_≡_, refl, _∙_, ap, sym}
+use mathlib.Core.Path.{_≡_, _∙_, ap, sym}
 use mathlib.Core.List.{_++_}
-use Prim.Native.Nat.{ℕ, _≤_}
+use Prim.Native.Nat.{ℕ}
 use denote.Ref.{now}
-use lib.ListN.{length, getD, take, drop}
+use lib.ListN.{length, take, drop}
 use lib.Seq.{length-take-le}
-use Rattle.answer.specs.Answer.{accepted, first}
-use Rattle.answer.proofs.Laws.{accepts, refuses}
+use Rattle.answer.specs.Answer.{accepted}
 use Rattle.bundle.specs.Bytes.{bytes}
-use Rattle.bundle.specs.Bundle.{joinRefusals, joinOf, joined, whole, Joined}
-use Rattle.bundle.proofs.Halves.{Fitting, joined-lt, whole-halves}
+use Rattle.bundle.specs.Bundle.{joined, whole}
+use Rattle.bundle.proofs.Halves.{joined-lt, whole-halves}
 use Rattle.bundle.proofs.Laws.{Joinable, joinable, join-refused, join-done}
 use borrow.Author.Needs.{needs}
 use Rattle.bundle.proofs.join.Statement.{statement}
 use Rattle.bundle.proofs.join.Tie as tie
-
-joinable-requires : tie.Need-joinable-requires
-joinable-requires c κs = search needs
 
 returns : tie.Need-returns
 returns c =
@@ -46,9 +42,6 @@ pack-requires c κs = let f = can-join (c .before) .fitting in (f .tag-fits, f .
 write-requires : tie.Need-write-requires
 write-requires c κs = sixteen (c .before)
 
-same-length : tie.Need-same-length
-same-length c = search needs
-
 returns-2 : tie.Need-returns-2
 returns-2 c =
     let w = c .before .before in
@@ -63,11 +56,11 @@ pub join-spec : {M : Type 1} → statement M
 join-spec =
     tie.close
     (tie.spec
-    joinable-requires
+    (λ c κs. search needs)
     returns
     slice-relend-prefix-write
     slice-aggregate-write
     pack-requires
     write-requires
-    same-length
+    (λ c. search needs)
     returns-2)

@@ -18,12 +18,6 @@ mul-at c = let h = found c in omega arith
 add-result : tie.Need-add-result
 add-result c = let h = found c in omega arith
 
-sub-result : tie.Need-sub-result
-sub-result c = search needs
-
-part-result-start : tie.Need-part-result-start
-part-result-start c = search needs
-
 part-result-end : tie.Need-part-result-end
 part-result-end c = let h = found c in omega arith
 
@@ -36,4 +30,4 @@ returns c =
 
 pub sixteen-spec : {M : Type 1} → statement M
 sixteen-spec =
-    tie.close (tie.spec mul-at add-result sub-result part-result-start part-result-end returns)
+    tie.close (tie.spec mul-at add-result (λ c. search needs) (λ c. search needs) part-result-end returns)

@@ -18,56 +18,20 @@ returns : tie.Need-returns
 unfolding cutCall
 returns c = rw (lt-ltb (length (now (c .before .before .before .args .out))) 7 (c .if1 .taken))
 
-cut-requires : tie.Need-cut-requires
-cut-requires c κs = search needs
-
-cast-out : tie.Need-cast-out
-cast-out c = search needs
-
-slice-write-out : tie.Need-slice-write-out
-slice-write-out c = search needs
-
-array-read-wide : tie.Need-array-read-wide
-array-read-wide c = search needs
-
-wide-requires : tie.Need-wide-requires
-wide-requires c κs = search needs
-
 slice-write-out-2 : tie.Need-slice-write-out-2
 slice-write-out-2 c = simp length-set (omega arith)
-
-array-read-wide-2 : tie.Need-array-read-wide-2
-array-read-wide-2 c = search needs
-
-wide-requires-2 : tie.Need-wide-requires-2
-wide-requires-2 c κs = search needs
 
 slice-write-out-3 : tie.Need-slice-write-out-3
 slice-write-out-3 c = simp length-set (omega arith)
 
-array-read-wide-3 : tie.Need-array-read-wide-3
-array-read-wide-3 c = search needs
-
-wide-requires-3 : tie.Need-wide-requires-3
-wide-requires-3 c κs = search needs
-
 slice-write-out-4 : tie.Need-slice-write-out-4
 slice-write-out-4 c = simp length-set (omega arith)
-
-array-read-out : tie.Need-array-read-out
-array-read-out c = search needs
 
 slice-write-out-5 : tie.Need-slice-write-out-5
 slice-write-out-5 c = simp length-set (omega arith)
 
-array-read-out-2 : tie.Need-array-read-out-2
-array-read-out-2 c = search needs
-
 slice-write-out-6 : tie.Need-slice-write-out-6
 slice-write-out-6 c = simp length-set (omega arith)
-
-array-read-out-3 : tie.Need-array-read-out-3
-array-read-out-3 c = search needs
 
 slice-write-out-7 : tie.Need-slice-write-out-7
 slice-write-out-7 c = simp length-set (omega arith)
@@ -83,15 +47,15 @@ returns-2 c =
     let room : 7 ≤ length out = cut .before .if1 .left in
     let b = cut .cut .result in
     let is = cut .cut .ensures in
-    let units : length (b .units) ≡ 3 = search needs in
+    let units : length (b .template .units) ≡ 3 = search needs in
     let slots : length (b .slots) ≡ 3 = search needs in
     let one = c .before .before .wide .ensures in
     let two = c .before .wide2 .ensures in
     let three = c .wide3 .ensures in
-    let stored = b .tag ∷ c .before .before .wide .result ∷ c .before .wide2 .result ∷ c .wide3 .result ∷ elements 3 (λ j. getD (b .slots) j 0) in
+    let stored = b .template .tag ∷ c .before .before .wide .result ∷ c .before .wide2 .result ∷ c .wide3 .result ∷ elements 3 (λ j. getD (b .slots) j 0) in
     let numbers =
-    (λ i. b .tag ∷ one i ∷ two i ∷ three i ∷ elements 3 (λ j. getD (b .slots) j 0))
-    ∙ ap₂ (λ (us ss : List ℕ). b .tag ∷ (us ++ ss)) (sym (listed (b .units) 0 3 units)) (sym (listed (b .slots) 0 3 slots))
+    (λ i. b .template .tag ∷ one i ∷ two i ∷ three i ∷ elements 3 (λ j. getD (b .slots) j 0))
+    ∙ ap₂ (λ (us ss : List ℕ). b .template .tag ∷ (us ++ ss)) (sym (listed (b .template .units) 0 3 units)) (sym (listed (b .slots) 0 3 slots))
     ∙ ap numbersOf is in
     let answer = ap (λ (x : Bundle). x .answer) is in
     let filled = sets-eq stored out 0 room ∙ ap (λ (l : List ℕ). l ++ drop 7 out) numbers in
@@ -102,23 +66,23 @@ glindorsc-cut-spec =
     tie.close
     (tie.spec
     returns
-    cut-requires
-    cast-out
-    slice-write-out
-    array-read-wide
-    wide-requires
+    (λ c κs. search needs)
+    (λ c. search needs)
+    (λ c. search needs)
+    (λ c. search needs)
+    (λ c κs. search needs)
     slice-write-out-2
-    array-read-wide-2
-    wide-requires-2
+    (λ c. search needs)
+    (λ c κs. search needs)
     slice-write-out-3
-    array-read-wide-3
-    wide-requires-3
+    (λ c. search needs)
+    (λ c κs. search needs)
     slice-write-out-4
-    array-read-out
+    (λ c. search needs)
     slice-write-out-5
-    array-read-out-2
+    (λ c. search needs)
     slice-write-out-6
-    array-read-out-3
+    (λ c. search needs)
     slice-write-out-7
     same-length
     returns-2)

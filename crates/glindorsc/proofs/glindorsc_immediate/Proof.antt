@@ -1,24 +1,18 @@
 -- `glindorsc_immediate` meets its contract: it hands on what `immediate` hands back, the value as its pattern. Assumes nothing.
 use mathlib.Core.Path.{_∙_, ap}
-use Rattle.immediate.specs.declared.Value.{Value}
+use Rattle.immediate.specs.declared.outcome.Immediate.{Immediate}
 use Rattle.glindorsc.specs.Calls.{patternIn, immediateCall}
 use borrow.Author.Needs.{needs}
 use Rattle.glindorsc.proofs.glindorsc_immediate.Statement.{statement}
 use Rattle.glindorsc.proofs.glindorsc_immediate.Tie as tie
 
-immediate-requires : tie.Need-immediate-requires
-immediate-requires c κs = search needs
-
-pattern-in-requires : tie.Need-pattern-in-requires
-pattern-in-requires c κs = search needs
-
 returns : tie.Need-returns
 unfolding immediateCall
 returns c =
     let read = c .before .immediate .ensures in
-    let answer = ap (λ (v : Value). v .answer) read in
-    let number = c .pattern-in .ensures ∙ ap (λ (v : Value). patternIn (v .value)) read in
+    let answer = ap (λ (r : Immediate). r .answer) read in
+    let number = c .pattern-in .ensures ∙ ap (λ (r : Immediate). patternIn (r .value)) read in
     λ i. record { answer = answer i; number = number i }
 
 pub glindorsc-immediate-spec : {M : Type 1} → statement M
-glindorsc-immediate-spec = tie.close (tie.spec immediate-requires pattern-in-requires returns)
+glindorsc-immediate-spec = tie.close (tie.spec (λ c κs. search needs) (λ c κs. search needs) returns)

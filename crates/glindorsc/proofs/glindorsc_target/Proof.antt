@@ -1,17 +1,14 @@
 -- `glindorsc_target` meets its contract: it hands on what `target` hands back. Assumes nothing.
 use mathlib.Core.Path.{ap}
-use Rattle.immediate.specs.declared.Place.{Place}
+use Rattle.immediate.specs.declared.outcome.Target.{Target}
 use Rattle.glindorsc.specs.Calls.{targetCall}
 use borrow.Author.Needs.{needs}
 use Rattle.glindorsc.proofs.glindorsc_target.Statement.{statement}
 use Rattle.glindorsc.proofs.glindorsc_target.Tie as tie
 
-target-requires : tie.Need-target-requires
-target-requires c κs = search needs
-
 returns : tie.Need-returns
 unfolding targetCall
-returns c = ap (λ (p : Place). record { answer = p .answer; number = p .address }) (c .target .ensures)
+returns c = ap (λ (t : Target). record { answer = t .answer; number = t .address }) (c .target .ensures)
 
 pub glindorsc-target-spec : {M : Type 1} → statement M
-glindorsc-target-spec = tie.close (tie.spec target-requires returns)
+glindorsc-target-spec = tie.close (tie.spec (λ c κs. search needs) returns)

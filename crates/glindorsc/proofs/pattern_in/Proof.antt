@@ -11,23 +11,11 @@ use borrow.Author.Needs.{needs}
 use Rattle.glindorsc.proofs.pattern_in.Statement.{statement}
 use Rattle.glindorsc.proofs.pattern_in.Tie as tie
 
-enum-known-value : tie.Need-enum-known-value
-enum-known-value c = search needs
-
-pattern-requires : tie.Need-pattern-requires
-pattern-requires c κs = search needs
-
-enum-known-value-2 : tie.Need-enum-known-value-2
-enum-known-value-2 c = search needs
-
 returns : tie.Need-returns
 returns c =
     let v = c .before .before .value .given in
     let fits : SFits w64 (v .0 .0) = search needs in
     c .pattern .ensures ∙ ap patternOf (toZ-ofZ fits) ∙ sym (ap patternIn (v .1))
-
-returns-2 : tie.Need-returns-2
-returns-2 c = search needs
 
 returns-3 : tie.Need-returns-3
 returns-3 c =
@@ -38,4 +26,4 @@ returns-3 c =
 pub pattern-in-spec : {M : Type 1} → statement M
 pattern-in-spec =
     tie.close
-    (tie.spec enum-known-value pattern-requires enum-known-value-2 returns returns-2 returns-3)
+    (tie.spec (λ c. search needs) (λ c κs. search needs) (λ c. search needs) returns (λ c. search needs) returns-3)

@@ -2,7 +2,7 @@
 use mathlib.Core.Path.{_≡_, _∙_, ap, subst, sym}
 use borrow.Author.Needs.{needs}
 use denote.Ref.{now}
-use Rattle.bundle.specs.Bundle.{foundOf}
+use Rattle.bundle.specs.Bundle.{findAnswer}
 use Rattle.answer.specs.Answer.{accepted}
 use Rattle.journal.specs.Journal.{viewOf}
 use Rattle.journal.specs.Plan.{undoPlanOf, carriedOut}
@@ -19,7 +19,7 @@ carry-out-requires : tie.Need-carry-out-requires
 carry-out-requires c κs =
     let p = c .before in
     let a = p .before .before .before .before .args in
-    subst (λ (plan : Plan). plan .answer ≡ accepted → foundOf (now (a .code)) (plan .bundle) ≡ accepted) (sym (planned p)) (undo-found (now (a .code)) (viewOf (a .journal)))
+    subst (λ (plan : Plan). plan .answer ≡ accepted → findAnswer (now (a .code)) (plan .bundle) ≡ accepted) (sym (planned p)) (undo-found (now (a .code)) (viewOf (a .journal)))
 
 returns : tie.Need-returns
 returns c =

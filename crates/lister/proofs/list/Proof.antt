@@ -1,5 +1,6 @@
 -- `lister::list` meets its contract: a case of writing a whole text at each return. Assumes nothing.
 use mathlib.Core.Path.{refl, sym, _∙_}
+use native.Mathlib.Omega.{arith}
 use borrow.Author.Tests.{leb-true, leb-false, eqb-false}
 use Rattle.answer.specs.Answer.{accepted, tooLong}
 use Rattle.text.proofs.Wholes.{whole-refused, whole-no-room, whole-put}
@@ -14,19 +15,10 @@ returns c =
     let a = c .before .before .before .args in
     whole-refused (listRefusals (a .code .now)) _ _ tooLong (long-refused (a .code .now) (c .if1 .taken)) (eqb-false tooLong accepted refl)
 
-fits-requires : tie.Need-fits-requires
-fits-requires c κs = search needs
-
-write-requires : tie.Need-write-requires
-write-requires c κs = search needs
-
-same-length : tie.Need-same-length
-same-length c = search needs
-
 returns-2 : tie.Need-returns-2
 returns-2 c =
     let a = c .before .before .before .before .before .before .before .before .before .args in
-    whole-put (listRefusals (a .code .now)) _ _ tt (short-listed (a .code .now) (c .before .before .before .before .before .before .if1 .left)) (leb-true _ _ (sym (c .before .before .before .before .before .fits2 .ensures) ∙ c .before .before .before .before .if2 .taken)) (c .before .before .write .ensures)
+    whole-put (listRefusals (a .code .now)) _ _ tt (short-listed (a .code .now) (c .before .before .before .before .before .before .if1 .left)) (omega arith) (leb-true _ _ (sym (c .before .before .before .before .before .fits2 .ensures) ∙ c .before .before .before .before .if2 .taken)) (c .before .before .write .ensures)
 
 returns-3 : tie.Need-returns-3
 returns-3 c =
@@ -35,4 +27,4 @@ returns-3 c =
 
 pub list-spec : {M : Type 1} → statement M
 list-spec =
-    tie.close (tie.spec returns fits-requires write-requires same-length returns-2 returns-3)
+    tie.close (tie.spec returns (λ c κs. search needs) (λ c κs. search needs) (λ c. search needs) returns-2 returns-3)

@@ -5,18 +5,19 @@ use Prim.Native.Nat.{ℕ, _≤_}
 use native.Mathlib.Omega.{arith}
 use lib.ListN.{length, take, replicate, length-replicate}
 use lib.Seq.{length-take-le}
+use Rattle.bundle.specs.Bundle.{longestCode}
 use Rattle.text.specs.Hex.{hexBytes, decodedOf}
 use Rattle.text.specs.declared.hex.Ending.the-variants.{Whole, BadHex, TooLong}
 use Rattle.text.specs.Whole.{wroteOf}
 use Rattle.text.proofs.Fronts.{decoded-ending, decoded-room, decoded-bytes}
 use Rattle.text.proofs.Wholes.{whole-passed}
 use Rattle.lister.specs.Listing.{listOf, listRefusals, listingOf}
-use Rattle.lister.proofs.Listings.{short-listed, listing-is}
+use Rattle.lister.proofs.Listings.{short-listed, listing-is, listing-enough}
 use borrow.Author.Needs.{needs}
 use Rattle.lister.proofs.listing.Statement.{statement}
 use Rattle.lister.proofs.listing.Tie as tie
 
--- what reading the text into 65,536 bytes gave
+-- what reading the text into the longest code gave
 module _ (c : tie.After-decode) where
   abbrev text : List ℕ
   text = c .before .before .before .before .args .text .now
@@ -24,24 +25,24 @@ module _ (c : tie.After-decode) where
   abbrev code : List ℕ
   code = c .decode .last .1 .0
 
-  read : (c .decode .result, code) ≡ decodedOf text (replicate 65536 0)
+  read : (c .decode .result, code) ≡ decodedOf text (replicate longestCode 0)
   read = c .decode .ensures
 
-  ended : c .decode .result .ending ≡ hexBytes 65536 text .1
+  ended : c .decode .result .ending ≡ hexBytes longestCode text .1
   ended =
-      decoded-ending text (replicate 65536 0) code (c .decode .result) read
-      ∙ ap (λ (n : ℕ). hexBytes n text .1) (length-replicate {A = ℕ} 65536 0)
+      decoded-ending text (replicate longestCode 0) code (c .decode .result) read
+      ∙ ap (λ (n : ℕ). hexBytes n text .1) (length-replicate {A = ℕ} longestCode 0)
 
-  bytes : take (c .decode .result .count) code ≡ hexBytes 65536 text .0
+  bytes : take (c .decode .result .count) code ≡ hexBytes longestCode text .0
   bytes =
-      decoded-bytes text (replicate 65536 0) code (c .decode .result) read
-      ∙ ap (λ (n : ℕ). hexBytes n text .0) (length-replicate {A = ℕ} 65536 0)
+      decoded-bytes text (replicate longestCode 0) code (c .decode .result) read
+      ∙ ap (λ (n : ℕ). hexBytes n text .0) (length-replicate {A = ℕ} longestCode 0)
 
-  room : c .decode .result .count ≤ 65536
-  room = rw (length-replicate {A = ℕ} 65536 0) at (decoded-room text (replicate 65536 0) code (c .decode .result) read)
+  room : c .decode .result .count ≤ longestCode
+  room = rw (length-replicate {A = ℕ} longestCode 0) at (decoded-room text (replicate longestCode 0) code (c .decode .result) read)
 
-  long : length code ≡ 65536
-  long = c .decode .kept .1 .0 ∙ length-replicate {A = ℕ} 65536 0
+  long : length code ≡ longestCode
+  long = c .decode .kept .1 .0 ∙ length-replicate {A = ℕ} longestCode 0
 
   taken : length (take (c .decode .result .count) code) ≡ c .decode .result .count
   taken = length-take-le (c .decode .result .count) code (omega (arith, long, room))
@@ -52,88 +53,49 @@ module _ (c : tie.After-decode) where
       whole-passed (listRefusals given) (listOf given) out tt (short-listed given (omega (arith, taken, room)))
       ∙ ap (λ (l : List ℕ). wroteOf [] l out) (ap listOf bytes ∙ sym (listing-is text Whole (sym ended ∙ e)))
 
-slice-aggregate-decode : tie.Need-slice-aggregate-decode
-slice-aggregate-decode c = search needs
-
-decode-requires : tie.Need-decode-requires
-decode-requires c κs = search needs
-
-enum-told : tie.Need-enum-told
-enum-told c = search needs
-
 array-share-prefix-code : tie.Need-array-share-prefix-code
 array-share-prefix-code c = let d = c .before .before .before in omega (arith, long d, room d)
 
 slice-aggregate-list : tie.Need-slice-aggregate-list
 slice-aggregate-list c = sym (taken (c .before .before .before .before))
 
-list-requires : tie.Need-list-requires
-list-requires c κs = search needs
-
-enum-told-2 : tie.Need-enum-told-2
-enum-told-2 c = search needs
-
-slice-aggregate-put-whole : tie.Need-slice-aggregate-put-whole
-slice-aggregate-put-whole c = search needs
-
-put-whole-requires : tie.Need-put-whole-requires
-put-whole-requires c κs = search needs
-
-enum-told-3 : tie.Need-enum-told-3
-enum-told-3 c = search needs
-
-slice-aggregate-put-whole-2 : tie.Need-slice-aggregate-put-whole-2
-slice-aggregate-put-whole-2 c = search needs
-
-put-whole-requires-2 : tie.Need-put-whole-requires-2
-put-whole-requires-2 c κs = search needs
-
-same-length : tie.Need-same-length
-same-length c = search needs
-
 returns : tie.Need-returns
 returns c =
     let d = c .before .before .before .before .before .before .before .before in
     let e : d .decode .result .ending ≡ Whole = c .before .before .before .before .before .enum-told .given .1 in
-    c .before .before .list .ensures ∙ lists d _ e
-
-same-length-2 : tie.Need-same-length-2
-same-length-2 c = search needs
+    (c .before .before .list .ensures ∙ lists d _ e, listing-enough (text d))
 
 returns-2 : tie.Need-returns-2
 returns-2 c =
     let d = c .before .before .before .before .before .before .before .before in
     let e : d .decode .result .ending ≡ BadHex = c .before .before .before .before .before .enum-told2 .given .1 in
-    rw (listing-is (text d) BadHex (sym (ended d) ∙ e)) (c .before .before .put-whole .ensures)
-
-same-length-3 : tie.Need-same-length-3
-same-length-3 c = search needs
+    (rw (listing-is (text d) BadHex (sym (ended d) ∙ e)) (c .before .before .put-whole .ensures), listing-enough (text d))
 
 returns-3 : tie.Need-returns-3
 returns-3 c =
     let d = c .before .before .before .before .before .before .before .before in
     let e : d .decode .result .ending ≡ TooLong = c .before .before .before .before .before .enum-told3 .given .1 in
-    rw (listing-is (text d) TooLong (sym (ended d) ∙ e)) (c .before .before .put-whole2 .ensures)
+    (rw (listing-is (text d) TooLong (sym (ended d) ∙ e)) (c .before .before .put-whole2 .ensures), listing-enough (text d))
 
 pub listing-spec : {M : Type 1} → statement M
 listing-spec =
     tie.close
     (tie.spec
-    slice-aggregate-decode
-    decode-requires
-    enum-told
+    (λ c. search needs)
+    (λ c κs. search needs)
+    (λ c. search needs)
     array-share-prefix-code
     slice-aggregate-list
-    list-requires
-    enum-told-2
-    slice-aggregate-put-whole
-    put-whole-requires
-    enum-told-3
-    slice-aggregate-put-whole-2
-    put-whole-requires-2
-    same-length
+    (λ c κs. search needs)
+    (λ c. search needs)
+    (λ c. search needs)
+    (λ c κs. search needs)
+    (λ c. search needs)
+    (λ c. search needs)
+    (λ c κs. search needs)
+    (λ c. search needs)
     returns
-    same-length-2
+    (λ c. search needs)
     returns-2
-    same-length-3
+    (λ c. search needs)
     returns-3)

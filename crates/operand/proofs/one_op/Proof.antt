@@ -3,12 +3,6 @@ use borrow.Author.Needs.{needs}
 use Rattle.operand.proofs.one_op.Statement.{statement}
 use Rattle.operand.proofs.one_op.Tie as tie
 
-two-op-requires : tie.Need-two-op-requires
-two-op-requires c κs = search needs
-
-two-op-requires-2 : tie.Need-two-op-requires-2
-two-op-requires-2 c κs = search needs
-
 returns : tie.Need-returns
 returns c = rw (c .before .if1 .taken) (c .two-op .ensures)
 
@@ -16,4 +10,4 @@ returns-2 : tie.Need-returns-2
 returns-2 c = rw (c .before .if1 .left) (c .two-op2 .ensures)
 
 pub one-op-spec : {M : Type 1} → statement M
-one-op-spec = tie.close (tie.spec two-op-requires two-op-requires-2 returns returns-2)
+one-op-spec = tie.close (tie.spec (λ c κs. search needs) (λ c κs. search needs) returns returns-2)

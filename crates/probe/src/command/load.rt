@@ -3,18 +3,18 @@ ghost use mathlib.Core.Path.{_≡_};
 ghost use lib.ListN.{length};
 use crate::command::Said;
 use crate::kept;
-use lines::bytes;
-use lines::bytes::Spelt;
 use lines::fields;
+use lines::hex;
+use lines::hex::Spelt;
 use lines::part;
 
 pub fn answer(rest: &[u8], kept: &mut [u64]) -> Said {
     let text = fields::rest(rest);
-    let Spelt::Of(count) = bytes::count(text) else {
+    let Spelt::Of(count) = hex::count(text) else {
         return Said::Unread;
     };
     let mut room = room();
-    bytes::put(text, &mut room);
+    hex::put(text, &mut room);
     Said::Answer(loaded(kept, &room, count))
 }
 

@@ -1,4 +1,5 @@
 // `operands F N WORD L`: the last-written position and five operands.
+use form::Form;
 use lines::fields::Six;
 use lines::operands;
 use lines::out;
@@ -6,21 +7,24 @@ use operand::Position;
 use operand::Reading;
 
 pub fn answer(of: Six, out: &mut [u8], at: usize) -> usize {
-    let read = readers::operands(of.0, of.1, of.2, of.3);
+    let form = Form {
+        family: of.0,
+        number: of.1,
+    };
+    let read = readers::operands(form, of.2, of.3);
     let said = read.answer as u64;
     let reading = read.reading;
     let last = reading.position;
     let to = out::number(out, at, said);
-    let gap = out::byte(out, to, b' ');
-    let end = out::byte(out, gap, position(last));
+    let gap = text::put_byte(out, to, b' ');
+    let end = position(out, gap, last);
     shown(out, end, reading)
 }
 
-fn position(p: Position) -> u8 {
+fn position(out: &mut [u8], at: usize, p: Position) -> usize {
     match p {
-        Position::None => b'-',
-        Position::First => b'0',
-        Position::Second => b'1',
+        Position::None => text::put_byte(out, at, b'-'),
+        Position::At(n) => text::put_decimal(out, at, n as u64),
     }
 }
 

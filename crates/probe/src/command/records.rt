@@ -20,8 +20,8 @@ fn place(kept: &[u64], i: u64, out: &mut [u8], at: usize) -> usize {
     let mut to = out::number(out, at, i);
     let mut k = start;
     while k < start + 5 {
-        let mark = out::byte(out, to, b':');
-        to = out::decimal(out, mark, kept::get(kept, k));
+        let mark = text::put_byte(out, to, b':');
+        to = text::put_decimal(out, mark, kept::get(kept, k));
         k += 1;
     }
     to

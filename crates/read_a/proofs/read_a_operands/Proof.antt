@@ -4,7 +4,7 @@ use mathlib.Core.List.{List, [], _∷_}
 use Prim.Native.Nat.{ℕ}
 use Rattle.read_a.specs.Table.{aForms}
 use Rattle.table.proofs.Match.{ones}
-use Rattle.form.proofs.Rows.{none-named}
+use Rattle.reading.proofs.LastArm.{none-named}
 use Rattle.read_a.proofs.read_a_operands.Statement.{statement}
 use Rattle.read_a.proofs.read_a_operands.Tie as tie
 

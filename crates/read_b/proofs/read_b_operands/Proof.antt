@@ -4,7 +4,7 @@ use mathlib.Core.List.{List, [], _∷_}
 use Prim.Native.Nat.{ℕ}
 use Rattle.read_b.specs.Table.{bForms}
 use Rattle.table.proofs.Match.{ones}
-use Rattle.form.proofs.Rows.{none-named}
+use Rattle.reading.proofs.LastArm.{none-named}
 use Rattle.read_b.proofs.read_b_operands.Statement.{statement}
 use Rattle.read_b.proofs.read_b_operands.Tie as tie
 

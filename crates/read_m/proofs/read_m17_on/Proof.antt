@@ -4,7 +4,7 @@ use mathlib.Core.List.{List, [], _∷_}
 use Prim.Native.Nat.{ℕ}
 use Rattle.read_m.specs.Table.{mForms17, mForms31}
 use Rattle.table.proofs.Match.{ones}
-use Rattle.form.proofs.Rows.{none-named-yet}
+use Rattle.reading.proofs.LastArm.{none-named-yet}
 use Rattle.read_m.proofs.read_m17_on.Statement.{statement}
 use Rattle.read_m.proofs.read_m17_on.Tie as tie
 

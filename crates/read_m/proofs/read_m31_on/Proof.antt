@@ -4,7 +4,7 @@ use mathlib.Core.List.{List, [], _∷_}
 use Prim.Native.Nat.{ℕ}
 use Rattle.read_m.specs.Table.{mForms31}
 use Rattle.table.proofs.Match.{ones}
-use Rattle.form.proofs.Rows.{none-named}
+use Rattle.reading.proofs.LastArm.{none-named}
 use Rattle.read_m.proofs.read_m31_on.Statement.{statement}
 use Rattle.read_m.proofs.read_m31_on.Tie as tie
 

@@ -4,7 +4,7 @@ use mathlib.Core.List.{List, [], _∷_, _++_}
 use Prim.Native.Nat.{ℕ}
 use Rattle.read_m.specs.Table.{mForms1, mForms17, mForms31}
 use Rattle.table.proofs.Match.{ones}
-use Rattle.form.proofs.Rows.{none-named-yet}
+use Rattle.reading.proofs.LastArm.{none-named-yet}
 use Rattle.read_m.proofs.read_m_operands.Statement.{statement}
 use Rattle.read_m.proofs.read_m_operands.Tie as tie
 

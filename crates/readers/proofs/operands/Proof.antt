@@ -3,7 +3,8 @@
 use mathlib.Core.Path.{_≡_, sym, _∙_, ap}
 use mathlib.Core.Bool.{true}
 use borrow.Author.Tests.{not-true, not-false}
-use Rattle.readers.specs.Call.{isForm, operandsOf, acceptedOf}
+use Rattle.form.specs.Form.{isForm}
+use Rattle.readers.specs.Call.{operandsOf, acceptedOf}
 use Rattle.readers.proofs.operands.Statement.{statement}
 use Rattle.readers.proofs.operands.Tie as tie
 
@@ -13,8 +14,8 @@ returns c =
     let form = sym (c .before .before .is-form .ensures) ∙ not-true _ (c .before .if1 .taken) in
     rw form (c .refused .ensures)
 
--- what is known where the pair is a form
-is : (c : tie.Else1) → isForm (c .before .before .args .family) (c .before .before .args .number) ≡ true
+-- what is known where there is the form
+is : (c : tie.Else1) → isForm (c .before .before .args .form) ≡ true
 is c = sym (c .before .is-form .ensures) ∙ not-false _ (c .if1 .left)
 
 returns-2 : tie.Need-returns-2

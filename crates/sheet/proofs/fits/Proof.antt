@@ -12,14 +12,8 @@ use Rattle.sheet.proofs.fits.Tie as tie
 returns : tie.Need-returns
 returns c = sym (le-leb _ (c .before .args .room) (le-trans (c .before .pre .1) (c .if1 .taken)))
 
-slice-aggregate-put-sheet : tie.Need-slice-aggregate-put-sheet
-slice-aggregate-put-sheet c = search needs
-
-put-sheet-requires : tie.Need-put-sheet-requires
-put-sheet-requires c κs = search needs
-
 returns-2 : tie.Need-returns-2
 returns-2 c = ap (λ (n : ℕ). leb n (c .before .before .before .before .args .room)) (c .before .put-sheet .ensures .place ∙ zero-add _)
 
 pub fits-spec : {M : Type 1} → statement M
-fits-spec = tie.close (tie.spec returns slice-aggregate-put-sheet put-sheet-requires returns-2)
+fits-spec = tie.close (tie.spec returns (λ c. search needs) (λ c κs. search needs) returns-2)

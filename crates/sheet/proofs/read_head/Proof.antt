@@ -6,18 +6,9 @@ use Rattle.sheet.specs.Load.{headOf}
 use Rattle.sheet.proofs.read_head.Statement.{statement}
 use Rattle.sheet.proofs.read_head.Tie as tie
 
-slice-aggregate-begins : tie.Need-slice-aggregate-begins
-slice-aggregate-begins c = search needs
-
-begins-requires : tie.Need-begins-requires
-begins-requires c κs = search needs
-
 returns : tie.Need-returns
 unfolding headOf
 returns c = rw (sym (c .before .begins .ensures) ∙ not-true _ (c .if1 .taken))
-
-read-field-requires : tie.Need-read-field-requires
-read-field-requires c κs = search needs
 
 returns-2 : tie.Need-returns-2
 unfolding headOf
@@ -26,4 +17,4 @@ returns-2 c = rw (sym (c .before .before .begins .ensures) ∙ not-false _ (c .b
 pub read-head-spec : {M : Type 1} → statement M
 read-head-spec =
     tie.close
-    (tie.spec slice-aggregate-begins begins-requires returns read-field-requires returns-2)
+    (tie.spec (λ c. search needs) (λ c κs. search needs) returns (λ c κs. search needs) returns-2)

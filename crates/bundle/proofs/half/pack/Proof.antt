@@ -1,7 +1,7 @@
 -- `half::pack` meets its contract: the number of the tag and the slots, cut at bit 64 within slot 1.
 -- Assumes nothing.
 use mathlib.Core.Path.{_≡_, _∙_, ap, sym}
-use Prim.Native.Nat.{ℕ, _+_, _*_, _/_, _%_, _<_, _^_}
+use Prim.Native.Nat.{_+_, _*_, _/_, _%_, _<_, _^_}
 use native.Mathlib.Omega.{arith}
 use lib.ListN.{getD}
 use Rattle.bundle.specs.Bundle.{halvesOf}
@@ -9,27 +9,6 @@ use Rattle.bundle.proofs.Halves.{halves-whole, whole-joined}
 use borrow.Author.Needs.{needs}
 use Rattle.bundle.proofs.half.pack.Statement.{statement}
 use Rattle.bundle.proofs.half.pack.Tie as tie
-
-array-read-middle : tie.Need-array-read-middle
-array-read-middle c = search needs
-
-array-read-t7 : tie.Need-array-read-t7
-array-read-t7 c = search needs
-
-add-t11 : tie.Need-add-t11
-add-t11 c = search needs
-
-rem-t13 : tie.Need-rem-t13
-rem-t13 c = search needs
-
-add-t15 : tie.Need-add-t15
-add-t15 c = search needs
-
-array-read-t19 : tie.Need-array-read-t19
-array-read-t19 c = search needs
-
-add-t21 : tie.Need-add-t21
-add-t21 c = search needs
 
 returns : tie.Need-returns
 returns c =
@@ -49,11 +28,11 @@ pub pack-spec : {M : Type 1} → statement M
 pack-spec =
     tie.close
     (tie.spec
-    array-read-middle
-    array-read-t7
-    add-t11
-    rem-t13
-    add-t15
-    array-read-t19
-    add-t21
+    (λ c. search needs)
+    (λ c. search needs)
+    (λ c. search needs)
+    (λ c. search needs)
+    (λ c. search needs)
+    (λ c. search needs)
+    (λ c. search needs)
     returns)

@@ -1,7 +1,7 @@
 -- `half::read` meets its contract: the number of sixteen bytes is that of the first eight and, above it, of the other eight.
 -- Assumes nothing.
 use mathlib.Core.Path.{_≡_, _∙_, ap, ap₂, sym}
-use Prim.Native.Nat.{ℕ, _≤_}
+use Prim.Native.Nat.{_≤_}
 use native.Mathlib.Omega.{arith}
 use denote.Ref.{now}
 use lib.ListN.{length, take}
@@ -15,37 +15,25 @@ use borrow.Author.Needs.{needs}
 use Rattle.bundle.proofs.half.read.Statement.{statement}
 use Rattle.bundle.proofs.half.read.Tie as tie
 
-first-half : (c : tie.After-load-arg) → length (take 8 (now (c .before .before .args .bundle))) ≡ 8
+first-half : (c : tie.After-load-half-arg) → length (take 8 (now (c .before .before .args .bundle))) ≡ 8
 first-half c =
     let l = now (c .before .before .args .bundle) in
     let h : 8 ≤ length l = omega arith in
     length-take-le 8 l h
 
-slice-aggregate-load : tie.Need-slice-aggregate-load
-slice-aggregate-load c = sym (first-half c)
+slice-aggregate-load-half : tie.Need-slice-aggregate-load-half
+slice-aggregate-load-half c = sym (first-half c)
 
-load-requires : tie.Need-load-requires
-load-requires c κs = first-half c
-
-sub-load : tie.Need-sub-load
-sub-load c = search needs
-
-part-load-start : tie.Need-part-load-start
-part-load-start c = search needs
-
-part-load-end : tie.Need-part-load-end
-part-load-end c = search needs
-
-load-requires-2 : tie.Need-load-requires-2
-load-requires-2 c κs = search needs
+load-half-requires : tie.Need-load-half-requires
+load-half-requires c κs = first-half c
 
 returns : tie.Need-returns
 returns c =
     let start = c .before .before .before .before .before in
     let l = now (start .args .bundle) in
     let h : 8 ≤ length l = omega arith in
-    let low = c .before .before .load in
-    let high = c .load2 in
+    let low = c .before .before .load-half in
+    let high = c .load-half2 in
     let e : above 64 (low .result) (high .result) ≡ number l =
     ap₂ (above 64) (low .ensures) (high .ensures) ∙ number-split l 8 h in
     sym (halves-whole (low .result) (high .result) (low .ok) (high .ok)) ∙ ap halvesOf e
@@ -54,10 +42,10 @@ pub read-spec : {M : Type 1} → statement M
 read-spec =
     tie.close
     (tie.spec
-    slice-aggregate-load
-    load-requires
-    sub-load
-    part-load-start
-    part-load-end
-    load-requires-2
+    slice-aggregate-load-half
+    load-half-requires
+    (λ c. search needs)
+    (λ c. search needs)
+    (λ c. search needs)
+    (λ c κs. search needs)
     returns)

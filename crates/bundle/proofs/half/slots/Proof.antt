@@ -1,7 +1,7 @@
 -- `half::slots` meets its contract: slot 1 is put together of 18 bits of the low half and 23 of the high one.
 -- Assumes nothing.
 use mathlib.Core.Path.{_≡_, _∙_, ap, sym}
-use mathlib.Core.List.{List, [], _∷_}
+use mathlib.Core.List.{[], _∷_}
 use Prim.Native.Nat.{ℕ, _+_, _*_, _/_, _%_, _<_, _^_}
 use native.Mathlib.Omega.{arith}
 use Rattle.bits.specs.Part.{above}
@@ -9,15 +9,6 @@ use Rattle.bundle.proofs.Halves.{slots-of-halves}
 use borrow.Author.Needs.{needs}
 use Rattle.bundle.proofs.half.slots.Statement.{statement}
 use Rattle.bundle.proofs.half.slots.Tie as tie
-
-rem-t6 : tie.Need-rem-t6
-rem-t6 c = search needs
-
-rem-t9 : tie.Need-rem-t9
-rem-t9 c = search needs
-
-add-t11 : tie.Need-add-t11
-add-t11 c = search needs
 
 returns : tie.Need-returns
 returns c =
@@ -29,4 +20,4 @@ returns c =
     ∙ sym (slots-of-halves (h .low) (h .high) l g)
 
 pub slots-spec : {M : Type 1} → statement M
-slots-spec = tie.close (tie.spec rem-t6 rem-t9 add-t11 returns)
+slots-spec = tie.close (tie.spec (λ c. search needs) (λ c. search needs) (λ c. search needs) returns)

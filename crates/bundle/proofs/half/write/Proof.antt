@@ -13,41 +13,23 @@ use Rattle.bundle.proofs.Elements.{overwritten-twice}
 use Rattle.bundle.proofs.half.write.Statement.{statement}
 use Rattle.bundle.proofs.half.write.Tie as tie
 
-slice-relend-prefix-store : tie.Need-slice-relend-prefix-store
-slice-relend-prefix-store c = search needs
-
-first-half : (c : tie.After-store-arg) → length (take 8 (now (c .before .before .args .bundle))) ≡ 8
+first-half : (c : tie.After-store-half-arg) → length (take 8 (now (c .before .before .args .bundle))) ≡ 8
 first-half c =
     let l = now (c .before .before .args .bundle) in
     let h : 8 ≤ length l = omega arith in
     length-take-le 8 l h
 
-slice-aggregate-store : tie.Need-slice-aggregate-store
-slice-aggregate-store c = sym (first-half c)
+slice-aggregate-store-half : tie.Need-slice-aggregate-store-half
+slice-aggregate-store-half c = sym (first-half c)
 
-store-requires : tie.Need-store-requires
-store-requires c κs = first-half c
-
-sub-store : tie.Need-sub-store
-sub-store c = search needs
-
-part-store-start : tie.Need-part-store-start
-part-store-start c = search needs
-
-part-store-end : tie.Need-part-store-end
-part-store-end c = search needs
-
-store-requires-2 : tie.Need-store-requires-2
-store-requires-2 c κs = search needs
-
-same-length : tie.Need-same-length
-same-length c = search needs
+store-half-requires : tie.Need-store-half-requires
+store-half-requires c κs = first-half c
 
 returns : tie.Need-returns
 returns c =
     let start = c .before .before .before .before .before .before .before .before .before in
-    let low = c .before .before .before .before .before .before .store in
-    let high = c .before .before .store2 in
+    let low = c .before .before .before .before .before .before .store-half in
+    let high = c .before .before .store-half2 in
     let l : start .args .halves .low < 2 ^ 64 = omega (arith, start) in
     overwritten-twice (now (start .args .bundle)) (low .last .0) (high .last .0) 8 (ap length (low .ensures) ∙ length-bytes 8 (start .args .halves .low))
     ∙ ap₂ _++_ (low .ensures) (high .ensures)
@@ -57,12 +39,12 @@ pub write-spec : {M : Type 1} → statement M
 write-spec =
     tie.close
     (tie.spec
-    slice-relend-prefix-store
-    slice-aggregate-store
-    store-requires
-    sub-store
-    part-store-start
-    part-store-end
-    store-requires-2
-    same-length
+    (λ c. search needs)
+    slice-aggregate-store-half
+    store-half-requires
+    (λ c. search needs)
+    (λ c. search needs)
+    (λ c. search needs)
+    (λ c κs. search needs)
+    (λ c. search needs)
     returns)

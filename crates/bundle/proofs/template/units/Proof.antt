@@ -6,7 +6,7 @@ use Prim.Native.Nat.{ℕ, _/_, _<_}
 use Rattle.table.specs.Table.{select}
 use Rattle.table.proofs.Check.{checked, same, same→eq}
 use Rattle.table.proofs.Match.{ones, otherwise}
-use Rattle.bundle.specs.Template.{M, I, F, B, L, X, none, unitsOf}
+use Rattle.bundle.specs.Template.{M, I, F, B, L, X, noUnits, unitsOf}
 use Rattle.bundle.proofs.template.units.Statement.{statement}
 use Rattle.bundle.proofs.template.units.Tie as tie
 
@@ -16,11 +16,11 @@ table =
     (0, M ∷ I ∷ I ∷ []) ∷ (1, M ∷ I ∷ I ∷ []) ∷ (2, M ∷ L ∷ X ∷ []) ∷ (4, M ∷ M ∷ I ∷ []) ∷ (5, M ∷ M ∷ I ∷ []) ∷ (6, M ∷ F ∷ I ∷ []) ∷ (7, M ∷ M ∷ F ∷ [])
     ∷ (8, M ∷ I ∷ B ∷ []) ∷ (9, M ∷ B ∷ B ∷ []) ∷ (11, B ∷ B ∷ B ∷ []) ∷ (12, M ∷ M ∷ B ∷ []) ∷ (14, M ∷ F ∷ B ∷ []) ∷ []
 
-at-tag : (tag : ℕ) → tag < 32 → select (tag / 2) table none ≡ unitsOf tag
+at-tag : (tag : ℕ) → tag < 32 → select (tag / 2) table noUnits ≡ unitsOf tag
 unfolding unitsOf
-at-tag tag h = same→eq (select (tag / 2) table none) (unitsOf tag) (checked (λ k. same (select (k / 2) table none) (unitsOf k)) 32 tt tag h)
+at-tag tag h = same→eq (select (tag / 2) table noUnits) (unitsOf tag) (checked (λ k. same (select (k / 2) table noUnits) (unitsOf k)) 32 tt tag h)
 
-arm : (tag : ℕ) (units : List ℕ) → tag < 32 → units ≡ select (tag / 2) table none → units ≡ unitsOf tag
+arm : (tag : ℕ) (units : List ℕ) → tag < 32 → units ≡ select (tag / 2) table noUnits → units ≡ unitsOf tag
 arm tag units h e = e ∙ at-tag tag h
 
 pub units-spec : {M : Type 1} → statement M
@@ -39,4 +39,4 @@ units-spec =
     (λ c. arm _ _ (c .before .pre) (rw (c .match .keys10)))
     (λ c. arm _ _ (c .before .pre) (rw (c .match .keys11)))
     (λ c. arm _ _ (c .before .pre) (rw (c .match .keys12)))
-    (λ c. arm _ _ (c .before .pre) (otherwise (ones (14 ∷ 12 ∷ 11 ∷ 9 ∷ 8 ∷ 7 ∷ 6 ∷ 5 ∷ 4 ∷ 2 ∷ 1 ∷ 0 ∷ [])) _ table none tt (c .match .rest))))
+    (λ c. arm _ _ (c .before .pre) (otherwise (ones (14 ∷ 12 ∷ 11 ∷ 9 ∷ 8 ∷ 7 ∷ 6 ∷ 5 ∷ 4 ∷ 2 ∷ 1 ∷ 0 ∷ [])) _ table noUnits tt (c .match .rest))))

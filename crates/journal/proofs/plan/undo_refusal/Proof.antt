@@ -6,10 +6,10 @@ use borrow.Author.Tests.{lt-ltb, le-ltb, eq-eqb, ne-eqb, not-true, not-false}
 use denote.Ref.{now}
 use lib.ListN.{length, drop}
 use Rattle.answer.specs.Answer.{accepted, first}
-use Rattle.bundle.specs.Bytes.{number}
-use Rattle.bundle.specs.Bundle.{foundOf, halvesOf, numberAt}
-use Rattle.bundle.specs.declared.half.Halves.{Halves}
-use Rattle.bundle.proofs.Laws.{found-part, found-sixteen}
+use Rattle.bundle.specs.Bundle.{findAnswer, halvesOf, numberAt}
+use Rattle.bundle.specs.declared.Loaded.{Loaded}
+use Rattle.bundle.proofs.Laws.{loaded-found}
+use Rattle.bundle.proofs.Loading.{Loading, loading}
 use Rattle.bundle.proofs.Lies.{lies, past-the-end}
 use Rattle.journal.specs.Edit.{sameHalves, undoRefusals}
 use Rattle.journal.proofs.plan.undo_refusal.Statement.{statement}
@@ -39,46 +39,51 @@ of-last c =
     let a = d .before .before .args in
     rw (le-ltb _ _ (d .if1 .left), not-false (a .view .valid) (e .if2 .left), ne-eqb (a .view .count) 0 (c .if3 .left))
 
+abbrev entry : tie.After-load → tie.Start
+entry c = c .before .before .before .before .before .before .before .before
+
+-- what was loaded
+is-loaded : (c : tie.After-load) → let a = entry c .args in Loading (now (a .code)) (a .view .last .bundle) (c .load .result)
+is-loaded c =
+    let known = c .before .before .before .before .before .before .before in
+    loading (now (known .before .args .code)) (known .before .args .view .last .bundle) (λ i. known .shared-slice-known .given i .fits) (c .load .ensures)
+
 returns-4 : tie.Need-returns-4
 returns-4 c =
-    let e = c .before .before .before in
-    let d = e .before .before .before .before in
-    let a = d .before .before .args in
-    let out = past-the-end (now (a .code)) (a .view .last .bundle) (d .if1 .left) (λ q. c .if4 .taken (c .before .found .ensures ∙ q)) in
+    let l = c .before .before in
+    let e = l .before .before in
+    let a = entry l .args in
+    let out = past-the-end (now (a .code)) (a .view .last .bundle) (e .before .before .before .before .if1 .left) (λ q. c .if4 .taken (is-loaded l .answer ∙ q)) in
     sym (of-last e ∙ rw (lt-ltb (length (now (a .code))) (16 * a .view .last .bundle + 16) out))
 
-abbrev entry : tie.Else4 → tie.Start
-entry c = c .before .before .before .before .before .before .before .before .before
+-- the bundle that was found, and whether it is the record's new one
+module _ (c : tie.Else4) where
+  is-found : let a = entry (c .before .before) .args in findAnswer (now (a .code)) (a .view .last .bundle) ≡ accepted
+  is-found = sym (is-loaded (c .before .before) .answer) ∙ c .if4 .left
 
-is-found : (c : tie.Else4) → let a = entry c .args in foundOf (now (a .code)) (a .view .last .bundle) ≡ accepted
-is-found c = sym (c .before .found .ensures) ∙ c .if4 .left
+  within : let a = entry (c .before .before) .args in 16 * a .view .last .bundle + 16 ≤ length (now (a .code))
+  within = lies _ _ is-found .within
 
-read-requires : tie.Need-read-requires
-read-requires c κs = let f = is-found (c .before .before) in ap length (c .find .ensures ∙ found-part _ _ f) ∙ found-sixteen _ _ f
+  present : let a = entry (c .before .before) .args in c .before .before .load .result ≡ record { answer = accepted; halves = halvesOf (numberAt (now (a .code)) (a .view .last .bundle)) }
+  present = c .before .before .load .ensures ∙ loaded-found _ _ is-found
 
--- whether the bundle is the record's new one
 same-is : (c : tie.After-same) →
-    let a = entry (c .before .before .before .before) .args in
+    let a = entry (c .before .before .before .before .before) .args in
     c .same .result ≡ sameHalves (halvesOf (numberAt (now (a .code)) (a .view .last .bundle))) (a .view .last .new)
 same-is c =
-    let a = entry (c .before .before .before .before) .args in
-    let f = is-found (c .before .before .before .before) in
-    c .same .ensures
-    ∙ ap (λ (h : Halves). sameHalves h (a .view .last .new)) (c .before .read .ensures ∙ ap (λ l. halvesOf (number l)) (c .before .before .find .ensures ∙ found-part _ _ f))
-
--- the bundle's end, where it was found
-within : (c : tie.Else4) → let a = entry c .args in 16 * a .view .last .bundle + 16 ≤ length (now (a .code))
-within c = lies _ _ (is-found c) .within
+    let f = c .before .before .before in
+    let a = entry (f .before .before) .args in
+    c .same .ensures ∙ ap (λ (l : Loaded). sameHalves (l .halves) (a .view .last .new)) (present f)
 
 returns-5 : tie.Need-returns-5
 returns-5 c =
-    let f = c .before .before .before .before .before in
-    sym (of-last (f .before .before .before) ∙ rw (le-ltb _ _ (within f), sym (same-is (c .before)) ∙ not-true _ (c .if5 .taken)))
+    let f = c .before .before .before .before in
+    sym (of-last (f .before .before .before .before) ∙ rw (le-ltb _ _ (within f), sym (same-is (c .before)) ∙ not-true _ (c .if5 .taken)))
 
 returns-6 : tie.Need-returns-6
 returns-6 c =
-    let f = c .before .before .before .before .before in
-    sym (of-last (f .before .before .before) ∙ rw (le-ltb _ _ (within f), sym (same-is (c .before)) ∙ not-false _ (c .if5 .left)))
+    let f = c .before .before .before .before in
+    sym (of-last (f .before .before .before .before) ∙ rw (le-ltb _ _ (within f), sym (same-is (c .before)) ∙ not-false _ (c .if5 .left)))
 
 pub undo-refusal-spec : {M : Type 1} → statement M
 undo-refusal-spec =
@@ -89,8 +94,6 @@ undo-refusal-spec =
     returns-3
     (λ c κs. search needs)
     returns-4
-    (λ c κs. search needs)
-    read-requires
     (λ c κs. search needs)
     returns-5
     returns-6)

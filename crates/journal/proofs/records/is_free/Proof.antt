@@ -10,17 +10,11 @@ use Rattle.journal.proofs.records.is_free.Tie as tie
 returns : tie.Need-returns
 returns c = rw (ne-eqb (c .before .before .args .place .bundle) 0 (c .if1 .taken))
 
-is-zero-requires : tie.Need-is-zero-requires
-is-zero-requires c κs = search needs
-
 returns-2 : tie.Need-returns-2
 returns-2 c =
     let place = c .before .before .before .before .before .args .place in
     let old : isZero (place .old) ≡ false = sym (c .before .is-zero .ensures) ∙ not-true _ (c .if2 .taken) in
     rw (eq-eqb (place .bundle) 0 (c .before .before .before .if1 .left), old)
-
-is-zero-requires-2 : tie.Need-is-zero-requires-2
-is-zero-requires-2 c κs = search needs
 
 returns-3 : tie.Need-returns-3
 returns-3 c =
@@ -29,4 +23,4 @@ returns-3 c =
     rw (eq-eqb (place .bundle) 0 (c .before .before .before .before .before .if1 .left), old) (c .is-zero2 .ensures)
 
 pub is-free-spec : {M : Type 1} → statement M
-is-free-spec = tie.close (tie.spec returns is-zero-requires returns-2 is-zero-requires-2 returns-3)
+is-free-spec = tie.close (tie.spec returns (λ c κs. search needs) returns-2 (λ c κs. search needs) returns-3)

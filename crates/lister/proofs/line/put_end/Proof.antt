@@ -1,90 +1,37 @@
 -- `lister::line::put_end` meets its contract: `reserved`, or the units and the three slots, one after the other. Assumes nothing.
 use native.Mathlib.Omega.{arith}
-use lib.ListN.{length, getD}
-use mathlib.Core.Path.{ap}
+use lib.Seq.{append-snoc}
 use borrow.Author.Needs.{needs}
-use Rattle.text.specs.Decimal.{decimal}
-use Rattle.text.proofs.Writing.{put-then, put-field-then, field-length}
-use Rattle.lister.proofs.Lines.{end-reserved, end-shown, shown-length}
+use Rattle.text.proofs.Writing.{put-then}
+use Rattle.lister.proofs.Lines.{end-reserved, end-shown}
 use Rattle.lister.proofs.line.put_end.Statement.{statement}
 use Rattle.lister.proofs.line.put_end.Tie as tie
-
-slice-aggregate-put-text : tie.Need-slice-aggregate-put-text
-slice-aggregate-put-text c = search needs
-
-put-text-requires : tie.Need-put-text-requires
-put-text-requires c κs =
-    let a = c .before .before .before .before .before .args in
-    omega (arith, ap length (end-reserved (a .bundle) (c .before .before .if1 .taken)))
-
-same-length : tie.Need-same-length
-same-length c = search needs
 
 returns : tie.Need-returns
 returns c = rw (end-reserved (c .before .before .before .before .before .before .before .before .args .bundle) (c .before .before .before .before .before .if1 .taken)) (c .before .before .put-text .ensures)
 
-slice-aggregate-put-text-2 : tie.Need-slice-aggregate-put-text-2
-slice-aggregate-put-text-2 c = search needs
-
-put-text-requires-2 : tie.Need-put-text-requires-2
-put-text-requires-2 c κs =
-    let a = c .before .before .before .before .before .before .before .args in
-    omega (arith, ap length (end-shown (a .bundle) (c .before .before .before .before .if1 .left)), shown-length (a .bundle))
-
-put-byte-requires : tie.Need-put-byte-requires
-put-byte-requires c κs =
-    let a = c .before .before .before .before .before .before .before .before .before .before .before .args in
-    omega (arith, ap length (end-shown (a .bundle) (c .before .before .before .before .before .before .before .before .if1 .left)), shown-length (a .bundle))
-
-array-read-put-field : tie.Need-array-read-put-field
-array-read-put-field c = search needs
-
-put-field-requires : tie.Need-put-field-requires
-put-field-requires c κs =
-    let a = c .before .before .before .before .before .before .before .before .before .before .before .before .before .before .before .args in
-    omega (arith, ap length (end-shown (a .bundle) (c .before .before .before .before .before .before .before .before .before .before .before .before .if1 .left)), shown-length (a .bundle))
-
-array-read-put-field-2 : tie.Need-array-read-put-field-2
-array-read-put-field-2 c = search needs
-
-put-field-requires-2 : tie.Need-put-field-requires-2
-put-field-requires-2 c κs =
-    let a = c .before .before .before .before .before .before .before .before .before .before .before .before .before .before .before .before .before .before .before .args in
-    omega (arith, ap length (end-shown (a .bundle) (c .before .before .before .before .before .before .before .before .before .before .before .before .before .before .before .before .if1 .left)), shown-length (a .bundle), field-length (decimal (getD (a .bundle .slots) 0 0)) 9)
-
-array-read-put-field-3 : tie.Need-array-read-put-field-3
-array-read-put-field-3 c = search needs
-
-put-field-requires-3 : tie.Need-put-field-requires-3
-put-field-requires-3 c κs =
-    let a = c .before .before .before .before .before .before .before .before .before .before .before .before .before .before .before .before .before .before .before .before .before .before .before .args in
-    omega (arith, ap length (end-shown (a .bundle) (c .before .before .before .before .before .before .before .before .before .before .before .before .before .before .before .before .before .before .before .before .if1 .left)), shown-length (a .bundle), field-length (decimal (getD (a .bundle .slots) 0 0)) 9, field-length (decimal (getD (a .bundle .slots) 1 0)) 9)
-
-same-length-2 : tie.Need-same-length-2
-same-length-2 c = search needs
-
 returns-2 : tie.Need-returns-2
 returns-2 c =
-    let a = c .before .before .before .before .before .before .before .before .before .before .before .before .before .before .before .before .before .before .before .before .before .before .before .before .before .before .args in
-    rw (end-shown (a .bundle) (c .before .before .before .before .before .before .before .before .before .before .before .before .before .before .before .before .before .before .before .before .before .before .before .if1 .left))
-    (put-then (c .before .before .before .before .before .before .before .before .before .before .before .before .before .before .before .before .before .before .put-text2 .ensures) (put-then (c .before .before .before .before .before .before .before .before .before .before .before .before .before .before .put-byte .ensures) (put-field-then (decimal (getD (a .bundle .slots) 0 0)) 9 (c .before .before .before .before .before .before .before .before .before .before .put-field .ensures) (put-field-then (decimal (getD (a .bundle .slots) 1 0)) 9 (c .before .before .before .before .before .before .put-field2 .ensures) (c .before .before .put-field3 .ensures)))))
+    let b = c .before .before .before .before .before .before .before .before .before .before .before .before .before .before .before .before .before .before .before .before .args .bundle in
+    let units = put-then (omega arith) (c .before .before .before .before .before .before .before .before .before .before .before .before .put-text2 .ensures) (c .before .before .before .before .before .before .before .before .put-byte .ensures) in
+    rw (end-shown b (c .before .before .before .before .before .before .before .before .before .before .before .before .before .before .before .before .before .if1 .left), ← append-snoc (b .template .units) 9 _) (put-then (omega arith) units (c .before .before .put-fields .ensures))
 
 pub put-end-spec : {M : Type 1} → statement M
 put-end-spec =
     tie.close
     (tie.spec
-    slice-aggregate-put-text
-    put-text-requires
-    same-length
+    (λ c. search needs)
+    (λ c κs. search needs)
+    (λ c. search needs)
     returns
-    slice-aggregate-put-text-2
-    put-text-requires-2
-    put-byte-requires
-    array-read-put-field
-    put-field-requires
-    array-read-put-field-2
-    put-field-requires-2
-    array-read-put-field-3
-    put-field-requires-3
-    same-length-2
+    (λ c. search needs)
+    (λ c κs. search needs)
+    (λ c κs. search needs)
+    (λ c. search needs)
+    (λ c. search needs)
+    (λ c. search needs)
+    (λ c. search needs)
+    (λ c. search needs)
+    (λ c κs. search needs)
+    (λ c. search needs)
     returns-2)

@@ -6,17 +6,8 @@ use borrow.Author.Needs.{needs}
 use Rattle.operand.proofs.twos.integer.Statement.{statement}
 use Rattle.operand.proofs.twos.integer.Tie as tie
 
-cast-result : tie.Need-cast-result
-cast-result c = search needs
-
-cast-result-2 : tie.Need-cast-result-2
-cast-result-2 c = search needs
-
 add-result : tie.Need-add-result
 add-result c = down-fits (c .before .args .bits) (c .if1 .left) (c .before .fits .bits .fits)
-
-returns : tie.Need-returns
-returns c = search needs
 
 returns-2 : tie.Need-returns-2
 returns-2 c =
@@ -26,4 +17,4 @@ returns-2 c =
     toZ-ofZ (down-fits n high fits) ∙ moved-down n high fits ∙ is-negative n high fits
 
 pub integer-spec : {M : Type 1} → statement M
-integer-spec = tie.close (tie.spec cast-result cast-result-2 add-result returns returns-2)
+integer-spec = tie.close (tie.spec (λ c. search needs) (λ c. search needs) add-result (λ c. search needs) returns-2)

@@ -33,9 +33,6 @@ put-field-requires-5 c κs =
     let r = c .before .before .before .before .before .before .before .before .before .before .before .before .before .before .before .before .before .before .before .before .args .one in
     omega (arith, line-length r, field-length (decimal (r .bundle)) 9, field-length (decimal (r .old .low)) 9, field-length (decimal (r .old .high)) 9, field-length (decimal (r .new .low)) 9)
 
-same-length : tie.Need-same-length
-same-length c = search needs
-
 returns : tie.Need-returns
 unfolding lineOf
 returns c =
@@ -51,5 +48,5 @@ put-line-spec =
     put-field-requires-3
     put-field-requires-4
     put-field-requires-5
-    same-length
+    (λ c. search needs)
     returns)

@@ -11,15 +11,6 @@ use Rattle.sheet.proofs.line.read_field.Tie as tie
 number-read : (c : tie.After-number) → let a = c .before .before .before .before .args in numberOf (a .text .now) (a .at) ≡ Read (c .number .given .0 .0) (c .number .given .0 .1 .0)
 number-read c = sym (c .before .before .read-decimal .ensures) ∙ c .number .given .1
 
-read-decimal-requires : tie.Need-read-decimal-requires
-read-decimal-requires c κs = search needs
-
-enum-known-number : tie.Need-enum-known-number
-enum-known-number c = search needs
-
-enum-told : tie.Need-enum-told
-enum-told c = search needs
-
 returns : tie.Need-returns
 returns c =
     let a = c .before .before .before .before .args in
@@ -30,12 +21,6 @@ returns-2 c =
     let n = c .before .before in
     let a = c .before .before .before .before .before .before .args in
     field-past (a .text .now) (a .at) (a .end) _ _ (number-read n) (c .if1 .taken)
-
-shared-slice-read-if2 : tie.Need-shared-slice-read-if2
-shared-slice-read-if2 c = search needs
-
-add-t12 : tie.Need-add-t12
-add-t12 c = search needs
 
 returns-3 : tie.Need-returns-3
 returns-3 c =
@@ -53,12 +38,12 @@ pub read-field-spec : {M : Type 1} → statement M
 read-field-spec =
     tie.close
     (tie.spec
-    read-decimal-requires
-    enum-known-number
-    enum-told
+    (λ c κs. search needs)
+    (λ c. search needs)
+    (λ c. search needs)
     returns
     returns-2
-    shared-slice-read-if2
-    add-t12
+    (λ c. search needs)
+    (λ c. search needs)
     returns-3
     returns-4)

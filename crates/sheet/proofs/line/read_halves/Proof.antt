@@ -11,28 +11,10 @@ use Rattle.sheet.proofs.line.read_halves.Tie as tie
 low-read : (c : tie.After-first) → let a = c .before .before .before .before .args in fieldAt (a .text .now) (a .at) 9 ≡ Read (c .first .given .0 .0) (c .first .given .0 .1 .0)
 low-read c = sym (c .before .before .read-field .ensures) ∙ c .first .given .1
 
-read-field-requires : tie.Need-read-field-requires
-read-field-requires c κs = search needs
-
-enum-known-first : tie.Need-enum-known-first
-enum-known-first c = search needs
-
-enum-told : tie.Need-enum-told
-enum-told c = search needs
-
 returns : tie.Need-returns
 returns c =
     let a = c .before .before .before .before .args in
     halves-none (a .text .now) (a .at) (a .end) (sym (c .before .before .read-field .ensures) ∙ c .enum-told .given .1)
-
-read-field-requires-2 : tie.Need-read-field-requires-2
-read-field-requires-2 c κs = search needs
-
-enum-known-second : tie.Need-enum-known-second
-enum-known-second c = search needs
-
-enum-told-2 : tie.Need-enum-told-2
-enum-told-2 c = search needs
 
 returns-2 : tie.Need-returns-2
 returns-2 c =
@@ -48,12 +30,12 @@ pub read-halves-spec : {M : Type 1} → statement M
 read-halves-spec =
     tie.close
     (tie.spec
-    read-field-requires
-    enum-known-first
-    enum-told
+    (λ c κs. search needs)
+    (λ c. search needs)
+    (λ c. search needs)
     returns
-    read-field-requires-2
-    enum-known-second
-    enum-told-2
+    (λ c κs. search needs)
+    (λ c. search needs)
+    (λ c. search needs)
     returns-2
     returns-3)

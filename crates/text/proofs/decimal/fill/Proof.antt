@@ -1,10 +1,11 @@
 -- `text::decimal::fill` meets its contract. The loop's invariant: the digits after those of `rest` stand from `i` on. Assumes nothing.
-use mathlib.Core.Path.{_∙_}
+use mathlib.Core.Path.{ap, _∙_}
 use Prim.Native.Nat.{_≤_}
 use native.Mathlib.Omega.{arith}
-use lib.ListN.{length-set}
+use lib.ListN.{length, length-set}
+use lib.Seq.{length-sets}
+use borrow.Author.Needs.{needs}
 use Rattle.text.proofs.Numerals.{length-four}
-use Rattle.text.proofs.Writing.{put-length}
 use Rattle.text.proofs.Filling.{Filling, filling-none, filling-four, filling-rest}
 use Rattle.text.proofs.decimal.fill.Statement.{statement}
 use Rattle.text.proofs.decimal.fill.Tie as tie
@@ -21,23 +22,11 @@ four-left c = let l = c .before .loop in omega (arith, length-four (l .rest) (c 
 loop-holds : tie.Need-loop-holds Inv-loop μ-loop
 loop-holds c = filling-none (c .before .pre .0) (c .before .pre .1)
 
-cast-out : tie.Need-cast-out Inv-loop μ-loop
-cast-out c = omega arith
-
-add-out : tie.Need-add-out Inv-loop μ-loop
-add-out c = omega arith
-
 sub-out : tie.Need-sub-out Inv-loop μ-loop
 sub-out c = omega (arith, four-left c)
 
 slice-write-out : tie.Need-slice-write-out Inv-loop μ-loop
 slice-write-out c = omega (arith, four-left c)
-
-cast-out-2 : tie.Need-cast-out-2 Inv-loop μ-loop
-cast-out-2 c = omega arith
-
-add-out-2 : tie.Need-add-out-2 Inv-loop μ-loop
-add-out-2 c = omega arith
 
 sub-out-2 : tie.Need-sub-out-2 Inv-loop μ-loop
 sub-out-2 c = omega (arith, four-left c)
@@ -45,23 +34,11 @@ sub-out-2 c = omega (arith, four-left c)
 slice-write-out-2 : tie.Need-slice-write-out-2 Inv-loop μ-loop
 slice-write-out-2 c = simp length-set (omega (arith, four-left c))
 
-cast-out-3 : tie.Need-cast-out-3 Inv-loop μ-loop
-cast-out-3 c = omega arith
-
-add-out-3 : tie.Need-add-out-3 Inv-loop μ-loop
-add-out-3 c = omega arith
-
 sub-out-3 : tie.Need-sub-out-3 Inv-loop μ-loop
 sub-out-3 c = omega (arith, four-left c)
 
 slice-write-out-3 : tie.Need-slice-write-out-3 Inv-loop μ-loop
 slice-write-out-3 c = simp length-set (omega (arith, four-left c))
-
-cast-out-4 : tie.Need-cast-out-4 Inv-loop μ-loop
-cast-out-4 c = omega arith
-
-add-out-4 : tie.Need-add-out-4 Inv-loop μ-loop
-add-out-4 c = omega arith
 
 sub-out-4 : tie.Need-sub-out-4 Inv-loop μ-loop
 sub-out-4 c = omega (arith, four-left c)
@@ -72,9 +49,6 @@ slice-write-out-4 c = simp length-set (omega (arith, four-left c))
 sub-i : tie.Need-sub-i Inv-loop μ-loop
 sub-i c = omega (arith, four-left c)
 
-loop-less : tie.Need-loop-less Inv-loop μ-loop
-loop-less c = omega arith
-
 loop-again : tie.Need-loop-again Inv-loop μ-loop
 loop-again c = filling-four (c .before .loop .inv) (c .loop-test .taken)
 
@@ -82,13 +56,13 @@ fill-few-requires : tie.Need-fill-few-requires Inv-loop μ-loop
 fill-few-requires c κs = let f = c .before .before .loop .inv in (f .place, omega arith)
 
 same-length : tie.Need-same-length Inv-loop μ-loop
-same-length c = put-length (c .before .before .fill-few .ensures) ∙ c .before .before .before .before .before .loop .inv .size
+same-length c = ap length (c .before .before .fill-few .ensures) ∙ simp length-sets (c .before .before .before .before .before .loop .inv .size)
 
 returns : tie.Need-returns Inv-loop μ-loop
 returns c =
     let l = c .before .before .before .before .before .loop in
     let h = c .before .before .before .before .before .before .before .pre in
-    filling-rest (l .inv) (h .0) (h .1) (c .before .before .fill-few .ensures)
+    c .before .before .fill-few .ensures ∙ filling-rest (l .inv) (h .0) (h .1)
 
 pub fill-spec : {M : Type 1} → statement M
 fill-spec =
@@ -97,24 +71,24 @@ fill-spec =
     Inv-loop
     μ-loop
     loop-holds
-    cast-out
-    add-out
+    (λ c. search needs)
+    (λ c. search needs)
     sub-out
     slice-write-out
-    cast-out-2
-    add-out-2
+    (λ c. search needs)
+    (λ c. search needs)
     sub-out-2
     slice-write-out-2
-    cast-out-3
-    add-out-3
+    (λ c. search needs)
+    (λ c. search needs)
     sub-out-3
     slice-write-out-3
-    cast-out-4
-    add-out-4
+    (λ c. search needs)
+    (λ c. search needs)
     sub-out-4
     slice-write-out-4
     sub-i
-    loop-less
+    (λ c. search needs)
     loop-again
     fill-few-requires
     same-length

@@ -3,11 +3,11 @@ use mathlib.Core.Path.{_≡_, refl, ap, _∙_}
 use mathlib.Core.List.{[], _∷_}
 use Prim.Native.Nat.{_+_, _-_, _/_, _%_}
 use native.Mathlib.Omega.{arith}
-use lib.ListN.{length, set}
+use lib.ListN.{length, set, length-set}
+use borrow.Author.Needs.{needs}
 use Rattle.text.specs.Decimal.{decimal}
-use Rattle.text.specs.Put.{Put}
+use Rattle.text.specs.Put.{written}
 use Rattle.text.proofs.Numerals.{decimal-one, length-more}
-use Rattle.text.proofs.Writing.{put-length}
 use Rattle.text.proofs.Filling.{Filling, filling-none, filling-one, filling-rest}
 use Rattle.text.proofs.decimal.fill_few.Statement.{statement}
 use Rattle.text.proofs.decimal.fill_few.Tie as tie
@@ -22,11 +22,8 @@ more : (c : tie.In-loop Inv-loop μ-loop) → let r = c .before .loop .rest in l
 more c = length-more (c .before .loop .rest) (omega arith)
 
 -- the last digit stored is the rest written
-last : (c : tie.After-loop Inv-loop μ-loop) → let l = c .before .loop in let a = c .before .before .args in Put (l .out) (a .at) (decimal (l .rest)) (set (l .out) (a .at) (48 + l .rest)) (l .i)
-last c =
-    let l = c .before .loop in
-    let e : decimal (l .rest) ≡ (48 + l .rest) ∷ [] = decimal-one (l .rest) (omega arith) in
-    rw e (record { bytes = refl; place = omega (arith, ap length e) })
+last : (c : tie.After-loop Inv-loop μ-loop) → let l = c .before .loop in let a = c .before .before .args in set (l .out) (a .at) (48 + l .rest) ≡ written (l .out) (a .at) (decimal (l .rest))
+last c = rw (decimal-one (c .before .loop .rest) (omega arith))
 
 loop-holds : tie.Need-loop-holds Inv-loop μ-loop
 loop-holds c = filling-none (c .pre .0) (c .pre .1)
@@ -34,35 +31,20 @@ loop-holds c = filling-none (c .pre .0) (c .pre .1)
 sub-i : tie.Need-sub-i Inv-loop μ-loop
 sub-i c = omega (arith, more c)
 
-cast-out : tie.Need-cast-out Inv-loop μ-loop
-cast-out c = omega arith
-
-add-out : tie.Need-add-out Inv-loop μ-loop
-add-out c = omega arith
-
 slice-write-out : tie.Need-slice-write-out Inv-loop μ-loop
 slice-write-out c = omega (arith, more c)
-
-loop-less : tie.Need-loop-less Inv-loop μ-loop
-loop-less c = omega arith
 
 loop-again : tie.Need-loop-again Inv-loop μ-loop
 loop-again c = filling-one (c .before .loop .inv) (c .before .loop .i - 1) (48 + c .before .loop .rest % 10) (omega (arith, more c)) (omega arith) refl
 
-cast-out-2 : tie.Need-cast-out-2 Inv-loop μ-loop
-cast-out-2 c = omega arith
-
-add-out-2 : tie.Need-add-out-2 Inv-loop μ-loop
-add-out-2 c = omega arith
-
 slice-write-out-2 : tie.Need-slice-write-out-2 Inv-loop μ-loop
-slice-write-out-2 c = omega (arith, last c .place, ap length (decimal-one (c .before .loop .rest) (omega arith)))
+slice-write-out-2 c = omega (arith, ap length (decimal-one (c .before .loop .rest) (omega arith)))
 
 same-length : tie.Need-same-length Inv-loop μ-loop
-same-length c = put-length (last c) ∙ c .before .loop .inv .size
+same-length c = simp length-set (c .before .loop .inv .size)
 
 returns : tie.Need-returns Inv-loop μ-loop
-returns c = filling-rest (c .before .loop .inv) (c .before .before .pre .0) (c .before .before .pre .1) (last c)
+returns c = last c ∙ filling-rest (c .before .loop .inv) (c .before .before .pre .0) (c .before .before .pre .1)
 
 pub fill-few-spec : {M : Type 1} → statement M
 fill-few-spec =
@@ -72,13 +54,13 @@ fill-few-spec =
     μ-loop
     loop-holds
     sub-i
-    cast-out
-    add-out
+    (λ c. search needs)
+    (λ c. search needs)
     slice-write-out
-    loop-less
+    (λ c. search needs)
     loop-again
-    cast-out-2
-    add-out-2
+    (λ c. search needs)
+    (λ c. search needs)
     slice-write-out-2
     same-length
     returns)

@@ -11,9 +11,6 @@ returns : tie.Need-returns
 unfolding parted
 returns c = rw (drop-of-length-le (c .before .args .text .now) (c .if1 .taken))
 
-shared-slice-read-c : tie.Need-shared-slice-read-c
-shared-slice-read-c c = search needs
-
 returns-2 : tie.Need-returns-2
 unfolding parted
 returns-2 c = let a = c .before .before .before .args in rw (drop-cons (a .text .now) (a .at) 0 (c .before .before .if1 .left), eq-eqb _ 32 (c .if2 .taken))
@@ -23,4 +20,4 @@ unfolding parted
 returns-3 c = let a = c .before .before .before .args in rw (drop-cons (a .text .now) (a .at) 0 (c .before .before .if1 .left), ne-eqb _ 32 (c .if2 .left))
 
 pub ends-spec : {M : Type 1} → statement M
-ends-spec = tie.close (tie.spec returns shared-slice-read-c returns-2 returns-3)
+ends-spec = tie.close (tie.spec returns (λ c. search needs) returns-2 returns-3)

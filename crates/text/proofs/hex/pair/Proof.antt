@@ -19,9 +19,6 @@ returns-2 c =
     let a = c .before .before .before .args in
     rw (le-ltb 15 (a .high) (c .before .before .if1 .left), c .before .if2 .left, c .if3 .taken)
 
-mul-t11 : tie.Need-mul-t11
-mul-t11 c = search needs
-
 add-t12 : tie.Need-add-t12
 add-t12 c = omega (arith, ltb-false)
 
@@ -38,4 +35,4 @@ returns-4 c =
     rw (le-ltb 15 (a .high) (c .before .before .before .if1 .left), c .before .before .if2 .left, ne-eqb (a .room) 0 (c .before .if3 .left), c .if4 .left)
 
 pub pair-spec : {M : Type 1} → statement M
-pair-spec = tie.close (tie.spec returns returns-2 mul-t11 add-t12 returns-3 returns-4)
+pair-spec = tie.close (tie.spec returns returns-2 (λ c. search needs) add-t12 returns-3 returns-4)

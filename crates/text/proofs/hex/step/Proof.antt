@@ -9,40 +9,13 @@ use Rattle.text.proofs.hex.step.Tie as tie
 returns : tie.Need-returns
 returns c = let a = c .before .before .args in front-none (a .room) (a .text .now) (a .at) (c .if1 .taken)
 
-sub-if2 : tie.Need-sub-if2
-sub-if2 c = search needs
-
-shared-slice-read-value : tie.Need-shared-slice-read-value
-shared-slice-read-value c = search needs
-
-value-requires : tie.Need-value-requires
-value-requires c κs = search needs
-
-add-value : tie.Need-add-value
-add-value c = search needs
-
-shared-slice-read-value-2 : tie.Need-shared-slice-read-value-2
-shared-slice-read-value-2 c = search needs
-
-value-requires-2 : tie.Need-value-requires-2
-value-requires-2 c κs = search needs
-
-add-ends : tie.Need-add-ends
-add-ends c = search needs
-
-ends-requires : tie.Need-ends-requires
-ends-requires c κs = search needs
-
-pair-requires : tie.Need-pair-requires
-pair-requires c κs = search needs
-
 returns-2 : tie.Need-returns-2
 returns-2 c = let a = c .before .before .before .args in front-one (a .room) (a .text .now) (a .at) (omega arith)
 
 returns-3 : tie.Need-returns-3
 returns-3 c =
     let a = c .before .before .before .before .before .before .before .before .before .args in
-    rw (c .before .before .before .before .value .ensures, c .before .before .value2 .ensures, c .before .ends .ensures) at (c .pair .ensures)
+    rw (c .before .before .before .before .digit-value .ensures, c .before .before .digit-value2 .ensures, c .before .ends .ensures) at (c .pair .ensures)
     ∙ front-two (a .room) (a .text .now) (a .at) (omega arith)
 
 pub step-spec : {M : Type 1} → statement M
@@ -50,14 +23,14 @@ step-spec =
     tie.close
     (tie.spec
     returns
-    sub-if2
-    shared-slice-read-value
-    value-requires
-    add-value
-    shared-slice-read-value-2
-    value-requires-2
-    add-ends
-    ends-requires
-    pair-requires
+    (λ c. search needs)
+    (λ c. search needs)
+    (λ c κs. search needs)
+    (λ c. search needs)
+    (λ c. search needs)
+    (λ c κs. search needs)
+    (λ c. search needs)
+    (λ c κs. search needs)
+    (λ c κs. search needs)
     returns-2
     returns-3)

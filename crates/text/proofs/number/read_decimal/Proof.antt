@@ -1,98 +1,112 @@
--- `text::number::read_decimal` meets its contract. The loop's invariant: reading on from `next` with `n` comes to what reading from
--- `at` does, and a digit is read. Assumes nothing.
-use mathlib.Core.Path.{_≡_, refl, sym, _∙_}
-use mathlib.Core.Bool.{true, false}
-use Prim.Native.Nat.{_+_, _-_, _<_}
+-- `text::number::read_decimal` meets its contract. The loop's invariant: the digits at `at` are the decimal of `n`, which ends at `next`, and
+-- those at `next`. Assumes nothing.
+use mathlib.Core.Path.{_≡_, sym, ap, _∙_}
+use mathlib.Core.List.{List, _∷_, _++_}
+use mathlib.Core.Logic.{⊎-elim}
+use Prim.Native.Nat.{ℕ, _+_, _-_, _*_, _^_, _<_}
 use native.Mathlib.Omega.{arith}
-use lib.ListN.{length, drop}
+use lib.ListN.{length, getD, drop, length-append}
+use lib.Seq.{append-snoc}
 use borrow.Author.Needs.{needs}
-use borrow.Author.Tests.{lt-ltb, le-ltb}
-use Rattle.text.specs.declared.number.Grown.{Grown}
-use Rattle.text.specs.declared.number.Grown.the-variants.{Stop, Refuse}
-use Rattle.text.specs.declared.number.Number.the-variants.{Read, Refused}
-use Rattle.text.specs.Number.{onward, readOn, numberOf}
-use Rattle.text.proofs.Reading.{read-end, read-grown, no-digit}
+use borrow.Author.Tests.{not-true, not-false, ltb-true, ltb-false}
+use Rattle.text.specs.Decimal.{decimal}
+use Rattle.text.specs.Number.{digitsOf}
+use Rattle.text.proofs.Numbers.{digits-past, digits-stop, digits-more, Digit, digit, decimal-digit, decimal-next, number-none, number-whole, number-zero, number-long}
 use Rattle.text.proofs.number.read_decimal.Statement.{statement}
 use Rattle.text.proofs.number.read_decimal.Tie as tie
 
 abbrev Inv-loop : tie.InvT-loop
-Inv-loop text at first n₀ next₀ n next = (numberOf text at ≡ readOn at n next (drop next text)) × (at < next)
+Inv-loop text at first n₀ next₀ n next = (n < 2 ^ 64) × (next ≡ at + length (decimal n)) × (digitsOf (drop at text) ≡ decimal n ++ digitsOf (drop next text))
 
 abbrev μ-loop : tie.MeasureT-loop
 μ-loop text at first n₀ next₀ n next = length text - next
 
--- what the first byte makes of nothing, and another of the number so far
-first-read : (c : tie.After-grow Inv-loop μ-loop) (g : Grown) → c .grow .result ≡ g → let a = c .before .before .before .before .args in numberOf (a .text .now) (a .at) ≡ onward g (λ m. readOn (a .at) m (a .at + 1) (drop (a .at + 1) (a .text .now))) Refused
-unfolding numberOf
-first-read c g e =
-    let a = c .before .before .before .before .args in
-    read-grown (a .text .now) (a .at) 0 (a .at) false (le-ltb (a .at) (a .at) (omega arith)) (c .before .before .if1 .left) g (sym (c .grow .ensures) ∙ e)
+-- the first byte is a digit, and one after it
+first-digit : (c : tie.Else2 Inv-loop μ-loop) → let a = c .before .before .before .before .before .args in Digit (getD (a .text .now) (a .at) 0)
+first-digit c = digit _ (sym (c .before .is-digit .ensures) ∙ not-false _ (c .if2 .left))
 
-more-read : (c : tie.After-grow2 Inv-loop μ-loop) (g : Grown) → c .grow2 .result ≡ g → let a = c .before .before .before .before .before .before .before .before .before .before .before .args in let l = c .before .before .before .loop in numberOf (a .text .now) (a .at) ≡ onward g (λ m. readOn (a .at) m (l .next + 1) (drop (l .next + 1) (a .text .now))) (Read (l .n) (l .next))
-more-read c g e =
-    let a = c .before .before .before .before .before .before .before .before .before .before .before .args in
-    let l = c .before .before .before .loop in
-    l .inv .0 ∙ read-grown (a .text .now) (a .at) (l .n) (l .next) true (lt-ltb (a .at) (l .next) (l .inv .1)) (c .before .before .loop-test .taken) g (sym (c .grow2 .ensures) ∙ e)
+more-digit : (c : tie.Else3 Inv-loop μ-loop) → let a = c .before .before .before .before .before .before .before .before .before .before .args in Digit (getD (a .text .now) (c .before .before .before .before .loop .next) 0)
+more-digit c = digit _ (sym (c .before .is-digit2 .ensures) ∙ not-false _ (c .if3 .left))
+
+-- the digits, as far as the one at hand
+so-far : (c : tie.Else3 Inv-loop μ-loop) →
+    let text = c .before .before .before .before .before .before .before .before .before .before .args .text .now in
+    let l = c .before .before .before .before .loop in
+    digitsOf (drop (c .before .before .before .before .before .before .before .before .before .before .args .at) text) ≡ decimal (l .n) ++ (getD text (l .next) 0 ∷ digitsOf (drop (l .next + 1) text))
+so-far c =
+    let text = c .before .before .before .before .before .before .before .before .before .before .args .text .now in
+    let l = c .before .before .before .before .loop in
+    l .inv .2 ∙ ap (λ (ds : List ℕ). decimal (l .n) ++ ds) (digits-more text (l .next) (c .before .before .before .loop-test .taken) (more-digit c))
+
+-- with it the number is below 2 ^ 64
+small : (c : tie.Joined5 Inv-loop μ-loop) →
+    let text = c .before .before .before .before .before .before .before .before .before .before .before .before .args .text .now in
+    let l = c .before .before .before .before .before .before .loop in
+    l .n * 10 + (getD text (l .next) 0 - 48) < 2 ^ 64
+small c = ⊎-elim (λ w. omega (arith, ltb-false)) (λ w. omega (arith, more-digit (c .before .before))) (c .if5 .came)
 
 returns : tie.Need-returns Inv-loop μ-loop
-unfolding numberOf
-returns c = let a = c .before .before .args in sym (read-end (a .text .now) (a .at) 0 (a .at) false (le-ltb (a .at) (a .at) (omega arith)) (c .if1 .taken))
-
-shared-slice-read-grow : tie.Need-shared-slice-read-grow Inv-loop μ-loop
-shared-slice-read-grow c = omega arith
-
-grow-requires : tie.Need-grow-requires Inv-loop μ-loop
-grow-requires c κs = tt
-
-enum-known-first : tie.Need-enum-known-first Inv-loop μ-loop
-enum-known-first c = search needs
+returns c = let a = c .before .before .args in number-none (a .text .now) (a .at) (digits-past (a .text .now) (a .at) (c .if1 .taken))
 
 returns-2 : tie.Need-returns-2 Inv-loop μ-loop
 returns-2 c =
     let a = c .before .before .before .before .before .args in
-    sym (first-read (c .before) (c .before .grow .result) refl ∙ no-digit (c .before .grow .result) (λ m. readOn (a .at) m (a .at + 1) (drop (a .at + 1) (a .text .now))) (c .match .keys2))
+    number-none (a .text .now) (a .at) (digits-stop (a .text .now) (a .at) (c .before .before .before .if1 .left) (sym (c .before .is-digit .ensures) ∙ not-true _ (c .if2 .taken)))
 
-add-next : tie.Need-add-next Inv-loop μ-loop
-add-next c = omega arith
+sub-n : tie.Need-sub-n Inv-loop μ-loop
+sub-n c = first-digit c .low
+
+cast-n : tie.Need-cast-n Inv-loop μ-loop
+cast-n c = omega (arith, first-digit c)
 
 loop-holds : tie.Need-loop-holds Inv-loop μ-loop
-loop-holds c = (first-read (c .before .before .before) _ (c .before .first .given .1), omega arith)
-
-shared-slice-read-grow-2 : tie.Need-shared-slice-read-grow-2 Inv-loop μ-loop
-shared-slice-read-grow-2 c = omega arith
-
-grow-requires-2 : tie.Need-grow-requires-2 Inv-loop μ-loop
-grow-requires-2 c κs = tt
-
-enum-known-m : tie.Need-enum-known-m Inv-loop μ-loop
-enum-known-m c = search needs
-
-add-next-2 : tie.Need-add-next-2 Inv-loop μ-loop
-add-next-2 c = omega arith
-
-loop-less : tie.Need-loop-less Inv-loop μ-loop
-loop-less c = omega arith
-
-loop-again : tie.Need-loop-again Inv-loop μ-loop
-loop-again c = (more-read (c .before .before .before) _ (c .before .m .given .1), omega arith)
-
-enum-told : tie.Need-enum-told Inv-loop μ-loop
-enum-told c = search needs
+loop-holds c =
+    let a = c .before .before .before .before .before .args in
+    let e = decimal-digit (first-digit c) in
+    (omega (arith, first-digit c), rw e, rw e (digits-more (a .text .now) (a .at) (c .before .before .before .if1 .left) (first-digit c)))
 
 returns-3 : tie.Need-returns-3 Inv-loop μ-loop
-returns-3 c = sym (more-read (c .before .before) Stop (c .enum-told .given .1))
+returns-3 c =
+    let a = c .before .before .before .before .before .before .before .before .before .before .args in
+    let l = c .before .before .before .before .loop in
+    number-whole (a .text .now) (a .at) (l .n) (l .next) (l .inv .0) (l .inv .2) (digits-stop (a .text .now) (l .next) (c .before .before .before .loop-test .taken) (sym (c .before .is-digit2 .ensures) ∙ not-true _ (c .if3 .taken))) (l .inv .1)
 
-enum-told-2 : tie.Need-enum-told-2 Inv-loop μ-loop
-enum-told-2 c = search needs
+sub-digit : tie.Need-sub-digit Inv-loop μ-loop
+sub-digit c = more-digit c .low
+
+cast-digit : tie.Need-cast-digit Inv-loop μ-loop
+cast-digit c = omega (arith, more-digit c)
 
 returns-4 : tie.Need-returns-4 Inv-loop μ-loop
-returns-4 c = sym (more-read (c .before .before) Refuse (c .enum-told2 .given .1))
+returns-4 c =
+    let a = c .before .before .before .before .before .before .before .before .before .before .before .args in
+    number-zero (a .text .now) (a .at) _ _ _ (so-far (c .before)) (c .if4 .taken)
+
+sub-if6 : tie.Need-sub-if6 Inv-loop μ-loop
+sub-if6 c = omega (arith, more-digit (c .before .before))
 
 returns-5 : tie.Need-returns-5 Inv-loop μ-loop
 returns-5 c =
-    let a = c .before .before .before .before .before .before .before .before .before .args in
+    let a = c .before .before .before .before .before .before .before .before .before .before .before .before .before .args in
+    number-long (a .text .now) (a .at) _ _ _ (so-far (c .before .before .before)) (omega (arith, ltb-true))
+
+mul-n : tie.Need-mul-n Inv-loop μ-loop
+mul-n c = omega (arith, small c)
+
+add-n : tie.Need-add-n Inv-loop μ-loop
+add-n c = omega (arith, small c)
+
+loop-again : tie.Need-loop-again Inv-loop μ-loop
+loop-again c =
+    let l = c .before .before .before .before .before .before .loop in
+    let e = decimal-next (l .n) (omega arith) (more-digit (c .before .before)) in
+    (small c, omega (arith, simp length-append at (ap length e)), rw e (so-far (c .before .before) ∙ sym (append-snoc (decimal (l .n)) _ _)))
+
+returns-6 : tie.Need-returns-6 Inv-loop μ-loop
+returns-6 c =
+    let a = c .before .before .before .before .before .before .before .args in
     let l = c .before .loop in
-    sym (l .inv .0 ∙ read-end (a .text .now) (a .at) (l .n) (l .next) true (lt-ltb (a .at) (l .next) (l .inv .1)) (c .loop-test .left))
+    number-whole (a .text .now) (a .at) (l .n) (l .next) (l .inv .0) (l .inv .2) (digits-past (a .text .now) (l .next) (c .loop-test .left)) (l .inv .1)
 
 pub read-decimal-spec : {M : Type 1} → statement M
 read-decimal-spec =
@@ -101,20 +115,24 @@ read-decimal-spec =
     Inv-loop
     μ-loop
     returns
-    shared-slice-read-grow
-    grow-requires
-    enum-known-first
+    (λ c. search needs)
+    (λ c κs. search needs)
     returns-2
-    add-next
+    sub-n
+    cast-n
+    (λ c. search needs)
     loop-holds
-    shared-slice-read-grow-2
-    grow-requires-2
-    enum-known-m
-    add-next-2
-    loop-less
-    loop-again
-    enum-told
+    (λ c. search needs)
+    (λ c κs. search needs)
     returns-3
-    enum-told-2
+    sub-digit
+    cast-digit
     returns-4
-    returns-5)
+    sub-if6
+    returns-5
+    mul-n
+    add-n
+    (λ c. search needs)
+    (λ c. search needs)
+    loop-again
+    returns-6)

@@ -1,26 +1,20 @@
 -- `text::put::put_byte` meets its contract: the store is the byte written, and without room nothing is. Assumes nothing.
-use mathlib.Core.Path.{_≡_, refl, sym, ap, _∙_}
+use mathlib.Core.Path.{_≡_, sym, ap, _∙_}
 use mathlib.Core.Logic.{⊎-elim}
-use lib.ListN.{set, length, length-set}
+use lib.ListN.{length, set, length-set}
 use lib.Seq.{set-out}
 use borrow.Author.Needs.{needs}
 use Rattle.text.proofs.put.put_byte.Statement.{statement}
 use Rattle.text.proofs.put.put_byte.Tie as tie
 
-stored : (c : tie.Joined1) → c .if1 .out ≡ set (c .before .args .out .now) (c .before .args .at) (c .before .args .byte)
+stored : (c : tie.Joined1) → let a = c .before .before .args in c .if1 .out ≡ set (a .out .now) (a .at) (a .byte)
 stored c = ⊎-elim (λ w. w .1) (λ w. w .1 ∙ sym (set-out _ _ _ (w .0 .left))) (c .if1 .came)
 
-slice-write-out : tie.Need-slice-write-out
-slice-write-out c = search needs
-
-add-result : tie.Need-add-result
-add-result c = search needs
-
 same-length : tie.Need-same-length
-same-length c = ap length (stored c) ∙ simp length-set
+same-length c = ap length (stored (c .before)) ∙ simp length-set
 
 returns : tie.Need-returns
-returns c = record { bytes = stored c; place = refl }
+returns c = record { bytes = stored (c .before); place = c .place .ensures }
 
 pub put-byte-spec : {M : Type 1} → statement M
-put-byte-spec = tie.close (tie.spec slice-write-out add-result same-length returns)
+put-byte-spec = tie.close (tie.spec (λ c. search needs) (λ c κs. search needs) same-length returns)

@@ -1,6 +1,7 @@
 -- `text::whole::put_whole` meets its contract: its two returns are the cases of no refusal before. Assumes nothing.
 use mathlib.Core.Path.{refl}
 use mathlib.Core.List.{[]}
+use native.Mathlib.Omega.{arith}
 use borrow.Author.Needs.{needs}
 use Rattle.text.proofs.Wholes.{whole-no-room, whole-put}
 use Rattle.text.proofs.whole.put_whole.Statement.{statement}
@@ -9,14 +10,8 @@ use Rattle.text.proofs.whole.put_whole.Tie as tie
 returns : tie.Need-returns
 returns c = whole-no-room [] _ _ tt refl (c .if1 .taken)
 
-put-text-requires : tie.Need-put-text-requires
-put-text-requires c κs = search needs
-
-same-length : tie.Need-same-length
-same-length c = search needs
-
 returns-2 : tie.Need-returns-2
-returns-2 c = whole-put [] _ _ tt refl (c .before .before .before .before .if1 .left) (c .before .before .put-text .ensures)
+returns-2 c = whole-put [] _ _ tt refl (omega arith) (c .before .before .before .before .if1 .left) (c .before .before .put-text .ensures)
 
 pub put-whole-spec : {M : Type 1} → statement M
-put-whole-spec = tie.close (tie.spec returns put-text-requires same-length returns-2)
+put-whole-spec = tie.close (tie.spec returns (λ c κs. search needs) (λ c. search needs) returns-2)

@@ -1,0 +1,46 @@
+// Whether a form's row stands in a slot of a bundle: what every call on an immediate refuses first.
+ghost use mathlib.Core.Path.{_≡_};
+ghost use Rattle.answer.specs.Answer.{first};
+ghost use Rattle.bundle.specs.Bundle.{whole};
+ghost use Rattle.immediate.specs.Immediate.{readRefusals};
+ghost use Rattle.immediate.specs.Immediate.{fits as Immediate·fits};
+use answer::ACCEPTED;
+use answer::BAD_BUNDLE;
+use answer::BAD_FORM;
+use answer::BAD_SLOT;
+use bundle::Halves;
+use form::A;
+use form::Form;
+use row::Row;
+
+// What reading a form's row in a slot answers.
+pub fn read_answer(bundle: Halves, slot: u64, form: Form, row: Row) -> u8
+    ensures { λ r. ⌜ r ≡ first (readRefusals (whole bundle) slot form row) ⌝ }
+{
+    let template = bundle::template_of(bundle);
+    let units = template.units;
+    if bundle::unitless(units) {
+        return BAD_BUNDLE;
+    }
+    if row::is_none(row) {
+        return BAD_FORM;
+    }
+    if 2 < slot {
+        return BAD_SLOT;
+    }
+    if !fits(form, units[slot as usize]) {
+        return BAD_SLOT;
+    }
+    ACCEPTED
+}
+
+// A form fits a slot of its family's unit; an A form one of I or M.
+fn fits(form: Form, unit: u8) -> bool
+    ensures { λ r. ⌜ r ≡ Immediate·fits form unit ⌝ }
+{
+    if form.family == A {
+        unit == b'I' || unit == b'M'
+    } else {
+        form.family == unit as u64
+    }
+}

@@ -1,0 +1,21 @@
+-- What a `match` tells in its last arm of a meaning that isn't of the kinds before: by cases. Assumes nothing.
+use mathlib.Core.Path.{_≡_, refl}
+use mathlib.Core.Bool.{true}
+use mathlib.Core.List.{[], _∷_}
+use types.Run.{OneOf, miss}
+use denote.Enum.Declared.{tagOf}
+use Rattle.row.specs.Row.{noRow, means, onlyTimes16}
+use Rattle.row.specs.declared.Meaning.{Meaning}
+use Rattle.row.specs.declared.Meaning.the-variants.{None as NoMeaning, Unsigned, Signed}
+use Rattle.row.specs.declared.Row.{Row}
+use Rattle.row.proofs.Meaning.{the-type as meaning-type}
+
+pub some-meaning : (m : Meaning) → OneOf (1 ∷ 2 ∷ []) (tagOf meaning-type m) → means m ≡ true
+some-meaning NoMeaning k = absurd (miss (1 ∷ 2 ∷ []) 0 tt k)
+some-meaning (Unsigned plus) k = refl
+some-meaning (Signed unit) k = refl
+
+pub no-target : (m : Meaning) (row : Row) → OneOf (0 ∷ 1 ∷ []) (tagOf meaning-type m) → onlyTimes16 m row ≡ noRow
+no-target NoMeaning row k = refl
+no-target (Unsigned plus) row k = refl
+no-target (Signed unit) row k = absurd (miss (0 ∷ 1 ∷ []) 2 tt k)

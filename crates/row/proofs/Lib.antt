@@ -1,0 +1,5 @@
+pub mod Inverse
+pub mod Kind
+pub mod Named
+pub mod Rows
+pub mod Units

@@ -1,0 +1,120 @@
+-- What is particular to a row, by one computed check over the whole table: a row's parts lie in the form's word and no two meet, its
+-- values are of 64 bits, and only rows of X forms have a part in the L slot.
+-- Assumes nothing.
+use mathlib.Core.Path.{_≡_, refl, sym, ap, _∙_, subst}
+use mathlib.Core.Bool.{Bool, true, false, cond, not, _&&_, _||_}
+use mathlib.Core.List.{List, [], _∷_}
+use Prim.Native.Nat.{ℕ, _+_, _-_, _*_, _^_}
+use borrow.Author.Tests.{eqb-true}
+use lib.Dec.{T, eqb, leb, ltb, leb→le, ltb→lt, eqb→eq}
+use mir.Facts.{and-yes}
+use Rattle.bits.specs.Parts.{separate}
+use Rattle.form.specs.Form.{X, same}
+use Rattle.form.specs.declared.Form.{Form}
+use Rattle.parts.specs.Placed.{placed, widthOf, inWords, readable}
+use Rattle.row.specs.Row.{Line, lines, among, rowIn, rowOf, noRow, isNone, onlyTimes16, targetRowOf}
+use Rattle.row.specs.Fits.{Fitting}
+use Rattle.row.specs.declared.Meaning.{Meaning}
+use Rattle.row.specs.declared.Meaning.the-variants.{None, Unsigned, Signed}
+use Rattle.row.specs.declared.Row.{Row}
+
+-- every value of w bits is one of 64
+abbrev meant : Meaning → ℕ → Bool
+meant None w = true
+meant (Unsigned plus) w = leb 1 w && (leb w 64 && leb (plus + 2 ^ w) (2 ^ 64))
+meant (Signed unit) w = leb 1 w && (ltb w 64 && (leb 1 unit && leb (unit * 2 ^ (w - 1)) (2 ^ 63)))
+
+fits : (m : Meaning) (w : ℕ) → T (meant m w) → Fitting m w
+fits None w t = tt
+fits (Unsigned plus) w t =
+    let a = and-yes (leb 1 w) (leb w 64 && leb (plus + 2 ^ w) (2 ^ 64)) t in
+    let b = and-yes (leb w 64) (leb (plus + 2 ^ w) (2 ^ 64)) (a .1) in
+    (leb→le _ _ (a .0), leb→le _ _ (b .0), leb→le _ _ (b .1))
+fits (Signed unit) w t =
+    let a = and-yes (leb 1 w) (ltb w 64 && (leb 1 unit && leb (unit * 2 ^ (w - 1)) (2 ^ 63))) t in
+    let b = and-yes (ltb w 64) (leb 1 unit && leb (unit * 2 ^ (w - 1)) (2 ^ 63)) (a .1) in
+    let c = and-yes (leb 1 unit) (leb (unit * 2 ^ (w - 1)) (2 ^ 63)) (b .1) in
+    (leb→le _ _ (a .0), ltb→lt _ _ (b .0), leb→le _ _ (c .0), leb→le _ _ (c .1))
+
+-- no two of its parts meet, in any slot that it can stand in: an X form's in slot 2 alone
+abbrev pub separateIn : ℕ → Row → Bool
+separateIn slot row = separate (placed slot (row .parts))
+
+abbrev apart : ℕ → Row → Bool
+apart family row = cond (eqb family X) (separateIn 2 row) (separateIn 0 row && (separateIn 1 row && separateIn 2 row))
+
+-- all that is asked of a row
+abbrev whole : ℕ → Row → Bool
+whole family row =
+    readable (row .parts) && (meant (row .meaning) (widthOf (row .parts)) && (apart family row && inWords (eqb family X) (row .parts)))
+
+abbrev pub good : ℕ → Row → Bool
+good family row = cond (isNone row) true (whole family row)
+
+-- what a good row has
+pub record Good (family : ℕ) (row : Row) : Type 0 where
+  pub reads : T (readable (row .parts))
+  pub fitting : Fitting (row .meaning) (widthOf (row .parts))
+  pub separated : T (cond (eqb family X) (separateIn 2 row) (separateIn 0 row && (separateIn 1 row && separateIn 2 row)))
+  pub in-words : T (inWords (eqb family X) (row .parts))
+
+pub good-has : (family : ℕ) (row : Row) → T (good family row) → isNone row ≡ false → Good family row
+good-has family row g some =
+    let a = and-yes (readable (row .parts)) _ (subst (λ (b : Bool). T (cond b true (whole family row))) some g) in
+    let b = and-yes (meant (row .meaning) (widthOf (row .parts))) (apart family row && inWords (eqb family X) (row .parts)) (a .1) in
+    let c = and-yes (apart family row) (inWords (eqb family X) (row .parts)) (b .1) in
+    record { reads = a .0; fitting = fits (row .meaning) (widthOf (row .parts)) (b .0); separated = c .0; in-words = c .1 }
+
+-- every form of every line has a good row
+abbrev goodFor : List Form → Row → Bool
+goodFor [] row = true
+goodFor (g ∷ gs) row = good (g .family) row && goodFor gs row
+
+abbrev allGood : List Line → Bool
+allGood [] = true
+allGood (l ∷ ls) = goodFor (l .0) (l .1) && allGood ls
+
+-- so a form that a line has does
+among-good : (form : Form) (gs : List Form) (row other : Row) → T (goodFor gs row) → T (good (form .family) other) → T (good (form .family) (cond (among form gs) row other))
+among-good form [] row other t o = o
+among-good form (g ∷ gs) row other t o = let both = and-yes (good (g .family) row) (goodFor gs row) t in by-same (same form g) refl (both .0) (among-good form gs row other (both .1) o)
+  where
+    by-same : (b : Bool) → same form g ≡ b → T (good (g .family) row) → T (good (form .family) (cond (among form gs) row other)) → T (good (form .family) (cond (b || among form gs) row other))
+    by-same true q h r = subst (λ (family : ℕ). T (good family row)) (sym (eqb→eq (form .family) (g .family) (and-yes (eqb (form .family) (g .family)) (eqb (form .number) (g .number)) (subst T (sym q) tt) .0))) h
+    by-same false q h r = r
+
+rows-good : (form : Form) (ls : List Line) → T (allGood ls) → T (good (form .family) (rowIn form ls))
+rows-good form [] t = tt
+rows-good form (l ∷ ls) t =
+    let both = and-yes (goodFor (l .0) (l .1)) (allGood ls) t in
+    among-good form (l .0) (l .1) (rowIn form ls) (both .0) (rows-good form ls (both .1))
+
+-- the check
+pub row-good : (form : Form) → T (good (form .family) (rowOf form))
+unfolding rowOf
+row-good form = rows-good form lines tt
+
+-- a row whose values are times 16 is the form's own row
+keeps : (P : Row → Type 0) (row : Row) (b : Bool) → P row → P noRow → P (cond b row noRow)
+keeps P row true p q = p
+keeps P row false p q = q
+
+pub target-good : (form : Form) → T (good (form .family) (targetRowOf form))
+target-good form = by-meaning (rowOf form .meaning)
+  where
+    by-meaning : (m : Meaning) → T (good (form .family) (onlyTimes16 m (rowOf form)))
+    by-meaning None = tt
+    by-meaning (Unsigned plus) = tt
+    by-meaning (Signed unit) = keeps (λ r. T (good (form .family) r)) (rowOf form) (eqb unit 16) (row-good form) tt
+
+pub target-16 : (form : Form) → isNone (targetRowOf form) ≡ false → targetRowOf form .meaning ≡ Signed 16
+target-16 form some = by-meaning (rowOf form .meaning) refl some
+  where
+    by-unit : (unit : ℕ) (b : Bool) → eqb unit 16 ≡ b → rowOf form .meaning ≡ Signed unit → isNone (cond b (rowOf form) noRow) ≡ false → (cond b (rowOf form) noRow) .meaning ≡ Signed 16
+    by-unit unit true q e s = e ∙ ap Signed (eqb-true unit 16 q)
+    by-unit unit false q e s = absurd (subst T s tt)
+
+    by-meaning : (m : Meaning) → rowOf form .meaning ≡ m → isNone (onlyTimes16 m (rowOf form)) ≡ false → onlyTimes16 m (rowOf form) .meaning ≡ Signed 16
+    by-meaning None e s = absurd (subst T s tt)
+    by-meaning (Unsigned plus) e s = absurd (subst T s tt)
+    by-meaning (Signed unit) e s = by-unit unit (eqb unit 16) refl e s

@@ -1,0 +1,36 @@
+-- `raw_of` meets its contract: each arm is the definition's case. Assumes nothing.
+use mathlib.Core.Path.{_∙_, sym, ap, subst}
+use Rattle.row.specs.Meaning.{rawOf}
+use Rattle.row.specs.Fits.{Fitting}
+use Rattle.row.specs.declared.Meaning.{Meaning}
+use borrow.Author.Needs.{needs}
+use Rattle.row.proofs.value.raw_of.Statement.{statement}
+use Rattle.row.proofs.value.raw_of.Tie as tie
+
+raw-unsigned-requires : tie.Need-raw-unsigned-requires
+raw-unsigned-requires c κs = let start = c .before .before .before in subst (λ (m : Meaning). Fitting m (start .args .width)) (c .before .meaning .given .1) (start .pre)
+
+raw-signed-requires : tie.Need-raw-signed-requires
+raw-signed-requires c κs = let start = c .before .before .before in subst (λ (m : Meaning). Fitting m (start .args .width)) (c .before .meaning2 .given .1) (start .pre)
+
+returns : tie.Need-returns
+returns c = let a = c .before .before .args in sym (ap (λ (m : Meaning). rawOf m (a .width) (a .value)) (c .enum-told .given .1))
+
+returns-2 : tie.Need-returns-2
+returns-2 c = let a = c .before .before .before .before .args in c .raw-unsigned .ensures ∙ sym (ap (λ (m : Meaning). rawOf m (a .width) (a .value)) (c .before .before .meaning .given .1))
+
+returns-3 : tie.Need-returns-3
+returns-3 c = let a = c .before .before .before .before .args in c .raw-signed .ensures ∙ sym (ap (λ (m : Meaning). rawOf m (a .width) (a .value)) (c .before .before .meaning2 .given .1))
+
+pub raw-of-spec : {M : Type 1} → statement M
+raw-of-spec =
+    tie.close
+    (tie.spec
+    (λ c. search needs)
+    (λ c. search needs)
+    raw-unsigned-requires
+    (λ c. search needs)
+    raw-signed-requires
+    returns
+    returns-2
+    returns-3)

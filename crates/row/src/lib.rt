@@ -1,0 +1,336 @@
+// The rows of document 01's table: where a form's immediate stands, and what its number means.
+mod value;
+
+pub use value::Raw;
+pub use value::displacement;
+pub use value::raw_of;
+pub use value::value_of;
+ghost use mathlib.Core.Path.{_≡_};
+ghost use lib.Dec.{T};
+ghost use Rattle.form.specs.Form.{a, b, f, m, x};
+ghost use Rattle.parts.specs.Placed.{widthOf, readable};
+ghost use Rattle.row.specs.Row.{isNone, onlyTimes16, rowOf};
+use form::A;
+use form::B;
+use form::F;
+use form::Form;
+use form::M;
+use form::X;
+use parts::L;
+use parts::Part;
+
+// What the raw number of a row means: itself and so much more, or, with a sign, so many times itself.
+pub enum Meaning {
+    None,
+    Unsigned(u64),
+    Signed(u64),
+}
+
+// Its parts stand lowest first, and the last have no width.
+pub struct Row {
+    pub meaning: Meaning,
+    pub parts: [Part; 6],
+}
+
+const NO: Part = Part { place: 0, width: 0 };
+
+// The manual's names of the parts: S is its s, or i where the number has no sign.
+const CT2D: Part = Part {
+    place: 27,
+    width: 2,
+};
+
+const IMM7A: Part = Part { place: 6, width: 7 };
+
+const IMM7B: Part = Part {
+    place: 13,
+    width: 7,
+};
+
+const IMM6D: Part = Part {
+    place: 27,
+    width: 6,
+};
+
+const IMM9D: Part = Part {
+    place: 27,
+    width: 9,
+};
+
+const IMM5C: Part = Part {
+    place: 22,
+    width: 5,
+};
+
+const IMM13C: Part = Part {
+    place: 20,
+    width: 13,
+};
+
+const IMM20A: Part = Part {
+    place: 6,
+    width: 20,
+};
+
+const IMM20B: Part = Part {
+    place: 13,
+    width: 20,
+};
+
+const IMM21A: Part = Part {
+    place: 6,
+    width: 21,
+};
+
+const I2D: Part = Part {
+    place: 31,
+    width: 2,
+};
+
+const INC3: Part = Part {
+    place: 13,
+    width: 3,
+};
+
+const I: Part = Part {
+    place: 27,
+    width: 1,
+};
+
+const IC: Part = Part {
+    place: 21,
+    width: 1,
+};
+
+const S: Part = Part {
+    place: 36,
+    width: 1,
+};
+
+const IMM41: Part = Part {
+    place: L,
+    width: 41,
+};
+
+const IMM39: Part = Part {
+    place: L + 2,
+    width: 39,
+};
+
+const NO_ROW: Row = Row {
+    meaning: Meaning::None,
+    parts: [NO; 6],
+};
+
+// A2, A10
+const COUNT2: Row = Row {
+    meaning: Meaning::Unsigned(1),
+    parts: [CT2D, NO, NO, NO, NO, NO],
+};
+
+// A3, A8, M30
+const IMM8: Row = Row {
+    meaning: Meaning::Signed(1),
+    parts: [IMM7B, S, NO, NO, NO, NO],
+};
+
+// A4
+const IMM14: Row = Row {
+    meaning: Meaning::Signed(1),
+    parts: [IMM7B, IMM6D, S, NO, NO, NO],
+};
+
+// A5
+const IMM22: Row = Row {
+    meaning: Meaning::Signed(1),
+    parts: [IMM7B, IMM9D, IMM5C, S, NO, NO],
+};
+
+// M3, M8, M15
+const IMM9B: Row = Row {
+    meaning: Meaning::Signed(1),
+    parts: [IMM7B, I, S, NO, NO, NO],
+};
+
+// M5, M10
+const IMM9A: Row = Row {
+    meaning: Meaning::Signed(1),
+    parts: [IMM7A, I, S, NO, NO, NO],
+};
+
+// M17
+const INCREMENT: Row = Row {
+    meaning: Meaning::Signed(1),
+    parts: [INC3, NO, NO, NO, NO, NO],
+};
+
+// M20, M21
+const TARGET25B: Row = Row {
+    meaning: Meaning::Signed(16),
+    parts: [IMM7A, IMM13C, S, NO, NO, NO],
+};
+
+// M22, M23, B1, B2, B3
+const TARGET25C: Row = Row {
+    meaning: Meaning::Signed(16),
+    parts: [IMM20B, S, NO, NO, NO, NO],
+};
+
+// F14
+const TARGET25: Row = Row {
+    meaning: Meaning::Signed(16),
+    parts: [IMM20A, S, NO, NO, NO, NO],
+};
+
+// M37, M48, F15, F16, B9
+const IMM21: Row = Row {
+    meaning: Meaning::Unsigned(0),
+    parts: [IMM20A, S, NO, NO, NO, NO],
+};
+
+// M44
+const IMM24: Row = Row {
+    meaning: Meaning::Unsigned(0),
+    parts: [IMM21A, I2D, S, NO, NO, NO],
+};
+
+// X1, X5
+const IMM62: Row = Row {
+    meaning: Meaning::Unsigned(0),
+    parts: [IMM20A, S, IMM41, NO, NO, NO],
+};
+
+// X2
+const IMM64: Row = Row {
+    meaning: Meaning::Unsigned(0),
+    parts: [IMM7B, IMM9D, IMM5C, IC, IMM41, S],
+};
+
+// X3, X4
+const TARGET64: Row = Row {
+    meaning: Meaning::Signed(16),
+    parts: [IMM20B, IMM39, S, NO, NO, NO],
+};
+
+// The row of a form; no row where it has none.
+pub fn row_of(form: Form) -> Row
+    ensures { λ r. ⌜ r ≡ rowOf form ⌝ }
+{
+    let family = form.family;
+    let number = form.number;
+    match family {
+        A => row_a(number),
+        B => row_b(number),
+        F => row_f(number),
+        M => row_m(number),
+        X => row_x(number),
+        _ => NO_ROW,
+    }
+}
+
+pub fn is_none(row: Row) -> bool
+    ensures { λ r. ⌜ r ≡ isNone row ⌝ }
+{
+    let meaning = row.meaning;
+    match meaning {
+        Meaning::None => true,
+        _ => false,
+    }
+}
+
+// A row whose values are times 16, with a sign; no row where they are not.
+pub fn only_times16(row: Row) -> Row
+    ensures { λ r. ⌜ r ≡ onlyTimes16 (row .meaning) row ⌝ }
+{
+    let meaning = row.meaning;
+    match meaning {
+        Meaning::Signed(unit) => if unit == 16 { row } else { NO_ROW },
+        _ => NO_ROW,
+    }
+}
+
+// How many bits the parts have.
+pub fn width(parts: [Part; 6]) -> u32
+    requires { ⌜ T (readable parts) ⌝ }
+    ensures { λ r. ⌜ r ≡ widthOf parts ⌝ }
+{
+    let bits = parts[0].width
+        + parts[1].width
+        + parts[2].width
+        + parts[3].width
+        + parts[4].width
+        + parts[5].width;
+    bits as u32
+}
+
+fn row_a(number: u64) -> Row
+    ensures { λ r. ⌜ r ≡ rowOf (a number) ⌝ }
+{
+    match number {
+        2 => COUNT2,
+        3 => IMM8,
+        4 => IMM14,
+        5 => IMM22,
+        8 => IMM8,
+        10 => COUNT2,
+        _ => NO_ROW,
+    }
+}
+
+fn row_b(number: u64) -> Row
+    ensures { λ r. ⌜ r ≡ rowOf (b number) ⌝ }
+{
+    match number {
+        1 => TARGET25C,
+        2 => TARGET25C,
+        3 => TARGET25C,
+        9 => IMM21,
+        _ => NO_ROW,
+    }
+}
+
+fn row_f(number: u64) -> Row
+    ensures { λ r. ⌜ r ≡ rowOf (f number) ⌝ }
+{
+    match number {
+        14 => TARGET25,
+        15 => IMM21,
+        16 => IMM21,
+        _ => NO_ROW,
+    }
+}
+
+fn row_m(number: u64) -> Row
+    ensures { λ r. ⌜ r ≡ rowOf (m number) ⌝ }
+{
+    match number {
+        3 => IMM9B,
+        5 => IMM9A,
+        8 => IMM9B,
+        10 => IMM9A,
+        15 => IMM9B,
+        17 => INCREMENT,
+        20 => TARGET25B,
+        21 => TARGET25B,
+        22 => TARGET25C,
+        23 => TARGET25C,
+        30 => IMM8,
+        37 => IMM21,
+        44 => IMM24,
+        48 => IMM21,
+        _ => NO_ROW,
+    }
+}
+
+fn row_x(number: u64) -> Row
+    ensures { λ r. ⌜ r ≡ rowOf (x number) ⌝ }
+{
+    match number {
+        1 => IMM62,
+        2 => IMM64,
+        3 => TARGET64,
+        4 => TARGET64,
+        5 => IMM62,
+        _ => NO_ROW,
+    }
+}

@@ -1,0 +1,77 @@
+"""How 000 and the compiled library are asked: 000 through target/oracle/oracle, the library through `probe`."""
+import itertools
+import pathlib
+import re
+import subprocess
+import tempfile
+
+import words
+
+ROOT = pathlib.Path(__file__).resolve().parents[2]
+ORACLE = [ROOT / "target/oracle/oracle"]
+PROBE = [ROOT / "run", "probe"]
+
+
+def place_of_000():
+    """Where 000 is looked for, and whether it stands there."""
+    said = subprocess.run([ROOT / "tests/oracle/given"], stdout=subprocess.PIPE, check=False)
+    return said.stdout.decode().strip(), said.returncode == 0
+
+
+def build():
+    subprocess.run([ROOT / "tests/oracle/build"], check=True, stdout=subprocess.DEVNULL)
+
+
+def answers(command, lines):
+    """What a program writes to these lines, as lines."""
+    with tempfile.TemporaryFile() as given, tempfile.TemporaryFile() as written:
+        given.write(b"\n".join(lines) + b"\n")
+        given.seek(0)
+        subprocess.run(command, stdin=given, stdout=written, check=True)
+        written.seek(0)
+        said = written.read().split(b"\n")
+    if said.pop() or len(said) != len(lines):
+        raise SystemExit(f"oracle: {len(lines)} lines were given to {command[0]} and {len(said)} written")
+    return said
+
+
+def part_of(text):
+    """A part as the oracle writes it, `6..13` or, of the L word, `L0..41`."""
+    l, start, end = re.fullmatch(r"(L?)(\d+)\.\.(\d+)", text).groups()
+    return int(bool(l)), int(start), int(end)
+
+
+def parts():
+    """The parts that 000's reader of each form takes, on some word or other."""
+    some = [0, words.ONES] + [words.with_part(back, *x6, value) for back in (0, words.ONES) for x6 in words.X6 for value in range(64)]
+    said = answers(ORACLE, [b"parts " + words.asked(form, word, word) for form in words.FORMS for word in some])
+    taken = {form: set() for form in words.FORMS}
+    for i, line in enumerate(said):
+        taken[words.FORMS[i // len(some)]].update(map(part_of, line.decode().split()))
+    return {form: sorted(found) for form, found in taken.items()}
+
+
+def parted(questions, said):
+    """Answers to all questions, in their order, as a list for each form and for the cuts."""
+    said = iter(said)
+    return {name: list(itertools.islice(said, len(lines))) for name, lines in questions.items()}
+
+
+def cut_by_000(said):
+    tag, units, *_ = said.split(b" ")
+    return b"cut 2 %s - 0 0 0" % tag if units == b"BadBundle" else b"cut 0 " + said
+
+
+def of_000(questions):
+    """What 000 answers, in `probe`'s words."""
+    lines = [line for name in words.FORMS for line in questions[name]] + [b"cut " + data for data in questions["cuts"]]
+    found = parted(questions, answers(ORACLE, lines))
+    return {name: [cut_by_000(line) if name == "cuts" else b"operands 0 " + line for line in said] for name, said in found.items()}
+
+
+def of_probe(questions):
+    """What the compiled library answers."""
+    bundles = questions["cuts"]
+    code = [b"code %d" % (16 * len(bundles)), b"put 0 " + b"".join(bundles)]
+    lines = [b"operands " + line for name in words.FORMS for line in questions[name]] + [b"cut %d" % n for n in range(len(bundles))]
+    return parted(questions, answers(PROBE, code + lines)[len(code):])

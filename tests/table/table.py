@@ -1,0 +1,38 @@
+"""The tests' table of document 01, as Python has it: read from the text files beside this one, whose first lines say what they hold."""
+import pathlib
+
+HERE = pathlib.Path(__file__).resolve().parent
+
+
+def lines(name):
+    """The fields of each line of a file."""
+    for line in (HERE / name).read_text(encoding="utf-8").splitlines():
+        if not line.startswith("#"):
+            yield [field.strip() for field in line.split("|")]
+
+
+def span(text):
+    """The numbers of `36`, or of `13..19` with both ends."""
+    low, _, high = text.partition("..")
+    return range(int(low), int(high or low) + 1)
+
+
+def part(text):
+    """(1 for the L word and else 0, lowest bit, width, lowest value bit) of `13..19→0` or `L 0..40→21`."""
+    bits, to = text.split("→")
+    place = span(bits.removeprefix("L "))
+    return int(bits.startswith("L")), place[0], len(place), int(to)
+
+
+# the numbers of a family's forms, and the units that they fit
+FORMS = {family: span(numbers) for family, numbers, _ in lines("forms.txt")}
+FITTING = {family: units.split(", ") for family, _, units in lines("forms.txt")}
+
+# the units of a tag; a reserved one has none
+UNITS = {tag: units for tags, units in lines("units.txt") for tag in span(tags)}
+
+# a form's parts, whether it is signed, times and plus; a form without a row has none
+ROWS = {
+    form: ([part(text) for text in parts.split(", ")], {"signed": True, "unsigned": False}[kind], int(times), int(plus))
+    for forms, parts, kind, times, plus in lines("rows.txt") for form in forms.split(", ")
+}
