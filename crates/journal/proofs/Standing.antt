@@ -38,6 +38,11 @@ standing-all test j = go (j .count) (j .records)
     go (suc n) [] t = tt
     go (suc n) (r ∷ rs) t = let s = and-yes (test r) (all test rs) t in yes-and (test r) (all test (take n rs)) (s .0) (go n rs (s .1))
 
+-- they stand at the first places
+pub standing-places : (j : Journal) → standing j ≡ take (j .count) (j .records)
+unfolding standing
+standing-places j = refl
+
 pub journal-counts : (rs : List Record) → journalOf rs .count ≡ length rs
 unfolding journalOf
 journal-counts rs = refl
@@ -170,6 +175,14 @@ module _ (j : Journal) (v : validOf j ≡ true) where
   pub valid-counts : j .count ≡ length (standing j)
   valid-counts = ap (λ (i : Journal). i .count) (sym (valid-is-journal j v)) ∙ journal-counts (standing j)
 
+  pub valid-places : length (j .records) ≡ limit
+  unfolding validOf
+  valid-places =
+      let rs = j .records in
+      let t = and-yes (eqb (length rs) limit && leb (j .count) limit && all mayStand (standing j)) (all isFree (drop (j .count) rs)) (subst T (sym v) tt) in
+      let u = and-yes (eqb (length rs) limit && leb (j .count) limit) (all mayStand (standing j)) (t .0) in
+      eqb→eq (length rs) limit (and-yes (eqb (length rs) limit) (leb (j .count) limit) (u .0) .0)
+
   valid-tests : T (leb (length (standing j)) limit) × T (all mayStand (standing j))
   valid-tests =
       and-yes (leb (length (standing j)) limit) (all mayStand (standing j))
@@ -207,15 +220,19 @@ pub journal-shows : (rs : List Record) → validOf (journalOf rs) ≡ true → v
 unfolding viewOf
 journal-shows rs v = rw (v, journal-stands)
 
+-- a journal shows whether it is valid
+pub view-shows : (j : Journal) → viewOf j .valid ≡ validOf j
+unfolding viewOf
+view-shows j = go (validOf j)
+  where
+    go : (t : Bool) → cond {A = View} t (record { valid = true; count = length (standing j); last = getLastD (standing j) noRecord }) (record { valid = false; count = 0; last = noRecord }) .valid ≡ t
+    go true = refl
+    go false = refl
+
 -- a journal that is shown as valid
 module _ (j : Journal) (v : viewOf j .valid ≡ true) where
-  pub view-valid : validOf j ≡ true
-  unfolding viewOf
-  view-valid = go (validOf j) v
-    where
-      go : (t : Bool) → cond {A = View} t (record { valid = true; count = length (standing j); last = getLastD (standing j) noRecord }) (record { valid = false; count = 0; last = noRecord }) .valid ≡ true → t ≡ true
-      go true e = refl
-      go false e = e
+  view-valid : validOf j ≡ true
+  view-valid = sym (view-shows j) ∙ v
 
   shown : viewOf j ≡ record { valid = true; count = length (standing j); last = getLastD (standing j) noRecord }
   unfolding viewOf

@@ -1,14 +1,14 @@
 -- Loading is the inverse of writing: a journal's sheet loads as that journal, and what loads is the sheet of the journal that it gives.
 -- Both by induction on the lines, of which each is read where it stands. Assumes nothing.
 use mathlib.Core.Path.{_≡_, refl, sym, ap, _∙_, subst}
-use mathlib.Core.Bool.{Bool, true, false, _&&_}
-use mathlib.Core.List.{List, [], _∷_, _++_, append-nil}
+use mathlib.Core.Bool.{Bool, true, false, decide-iff}
+use mathlib.Core.List.{List, [], _∷_, _++_, append-nil, List-discrete}
 use mathlib.Core.Option.{Option, none, some, Option·map, Option·some-injective, Option·none-ne-some}
 use Prim.Native.Nat.{ℕ, zero, suc, _+_, _≤_}
 use native.Mathlib.Omega.{arith}
 use native.Mathlib.Decide.{decLt, ℕ-discrete}
-use lib.Dec.{T, eqb, eqb→eq}
-use lib.ListN.{length, drop}
+use lib.Dec.{T}
+use lib.ListN.{length, take, drop, take-append-drop}
 use lib.Seq.{drop-length}
 use mir.Facts.{and-yes, yes-and}
 use borrow.Author.Tests.{eq-eqb, ne-eqb, le-leb, lt-leb}
@@ -17,15 +17,17 @@ use Rattle.journal.specs.Journal.{limit, mayStand, all, standing, journalOf, va
 use Rattle.journal.specs.declared.records.Journal.{Journal}
 use Rattle.journal.specs.declared.records.Record.{Record}
 use Rattle.journal.proofs.Standing.{journal-stands, journal-valid, valid-is-journal, valid-few, valid-stand}
-use Rattle.text.specs.Ascii.{ascii}
+use Rattle.text.specs.Ascii.{ascii, startsWith}
 use Rattle.text.specs.declared.number.Number.{Number}
 use Rattle.text.specs.declared.number.Number.the-variants.{Read, Refused}
+use Rattle.text.proofs.RoundTrip.{field-read, field-back}
+use Rattle.text.proofs.Stands.{Stands, stands-then, stands-parts}
 use Rattle.sheet.specs.declared.line.Line.{Line}
 use Rattle.sheet.specs.declared.line.Line.the-variants as line
 use Rattle.sheet.specs.RoundTrip.{isHeld, HasSheet, LoadsWritten, LoadsOnlyWritten, RefusesOther}
-use Rattle.sheet.specs.Load.{startsWith, lineAt, recordsAt, headOf, recordsIn, answerOf, loadOf}
+use Rattle.sheet.specs.Load.{lineAt, recordsAt, headOf, recordsIn, answerOf, loadOf}
 use Rattle.sheet.specs.Sheet.{lineOf, linesOf, headerOf, sheetOf}
-use Rattle.sheet.proofs.Stands.{Stands, field, T-true, stands-parts, stands-then, field-back, field-read, line-back, line-read}
+use Rattle.sheet.proofs.Stands.{field, T-true, line-back, line-read}
 
 -- the lines of some records are read as those records
 records-back : (text : List ℕ) (rs : List Record) (at : ℕ) → T (all mayStand rs) → T (all isHeld rs) → Stands text at (linesOf rs) (length text) → recordsAt text at (length rs) ≡ some rs
@@ -52,8 +54,8 @@ begun text count rest few e =
     let s : Stands text 0 (headerOf count ++ rest) (length text) = subst (λ (l : List ℕ). Stands text 0 l (length text)) e (whole-stands text) in
     let p = stands-parts (ascii "patches\t") {b = field count 10 ++ rest} s in
     let q = stands-parts (field count 10) (p .1) in
-    let starts : startsWith (ascii "patches\t") text ≡ true = ap (startsWith (ascii "patches\t")) e in
-    record { at = 8 + length (field count 10); head = rw starts (field-back text 8 count 10 _ (omega arith) (omega arith) (q .0)); lines = q .1 }
+    let starts : startsWith (ascii "patches\t") text ≡ true = ap (startsWith (ascii "patches\t")) e ∙ decide-iff (List-discrete ℕ-discrete (ascii "patches\t") (ascii "patches\t")) .1 refl in
+    record { at = 8 + length (field count 10); head = rw starts (field-back text 8 10 count _ refl (omega arith) (q .0)); lines = q .1 }
 
 pub load-written : LoadsWritten
 unfolding loadOf recordsIn sheetOf
@@ -105,12 +107,9 @@ records-read text (suc left) at rs f = line-then text at left rs (records-read t
 
 -- a text begins with some bytes where it says so
 starts-is : (start text : List ℕ) → startsWith start text ≡ true → text ≡ start ++ drop (length start) text
-starts-is [] text e = refl
-starts-is (c ∷ start) [] e = absurd (let z : _≡_ {A = ℕ} 0 1 = cc in omega arith)
-starts-is (c ∷ start) (d ∷ text) e =
-    let p = and-yes (eqb d c) (startsWith start text) (subst T (sym e) tt) in
-    let s = starts-is start text (T-true (startsWith start text) (p .1)) in
-    λ i. eqb→eq d c (p .0) i ∷ s i
+starts-is start text e =
+    let t : take (length start) text ≡ start = decide-iff (List-discrete ℕ-discrete (take (length start) text) start) .0 e in
+    sym (take-append-drop (length start) text) ∙ ap (λ (l : List ℕ). l ++ drop (length start) text) t
 
 -- the first line that was read
 record Headed (text : List ℕ) (count at : ℕ) : Type 0 where
@@ -123,7 +122,7 @@ headed text count at e = go (startsWith (ascii "patches\t") text) refl
   where
     go : (t : Bool) → startsWith (ascii "patches\t") text ≡ t → Headed text count at
     go false s = absurd (let f : Refused ≡ Read count at = rw s at e in let z : _≡_ {A = ℕ} 0 1 = cc in omega arith)
-    go true s = record { starts = starts-is (ascii "patches\t") text s; counts = field-read text 8 count 10 at (rw s at e) .stands }
+    go true s = record { starts = starts-is (ascii "patches\t") text s; counts = field-read text 8 10 count at (rw s at e) .piece }
 
 -- a text that was read is the sheet of the journal of what was read
 is-sheet : (text : List ℕ) (count at : ℕ) → count ≤ limit → Headed text count at → (rs : List Record) → RecordsRead text at count rs → HasSheet (journalOf rs) × (text ≡ sheetOf (journalOf rs))

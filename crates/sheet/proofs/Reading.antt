@@ -1,60 +1,21 @@
 -- Reading a sheet, a step at a time. By the definitions' tests. Assumes nothing.
-use mathlib.Core.Path.{_≡_, refl}
-use mathlib.Core.Bool.{Bool, true, false, _&&_}
+use mathlib.Core.Path.{_≡_}
+use mathlib.Core.Bool.{true, false}
 use mathlib.Core.List.{List, [], _∷_}
 use mathlib.Core.Option.{none, some, Option·map}
 use Prim.Native.Nat.{ℕ, suc, _+_, _-_, _≤_, _<_}
-use native.Mathlib.Numerals.{add-one}
 use native.Mathlib.Omega.{arith}
-use lib.Dec.{eqb}
-use lib.ListN.{length, getD, drop, drop-of-length-le}
-use lib.Seq.{drop-cons}
-use borrow.Author.Tests.{lt-ltb, le-ltb, le-leb, lt-leb, eq-eqb, ne-eqb}
+use lib.ListN.{length}
+use borrow.Author.Tests.{le-leb, lt-leb, eq-eqb, ne-eqb}
 use Rattle.text.specs.declared.number.Number.the-variants.{Read, Refused}
-use Rattle.text.specs.Number.{numberOf}
+use Rattle.text.specs.Fields.{fieldAt}
 use Rattle.bundle.specs.declared.half.Halves.{Halves}
 use Rattle.journal.specs.Journal.{limit, mayStand}
 use Rattle.journal.specs.declared.records.Journal.{Journal}
 use Rattle.journal.specs.declared.records.Record.{Record}
 use Rattle.sheet.specs.declared.line.Line.the-variants as line
 use Rattle.sheet.specs.declared.line.Pair.the-variants as pair
-use Rattle.sheet.specs.Load.{startsWith, fieldAt, halvesAt, lineAt, recordsAt, headOf, recordsIn, answerOf, loadOf}
-
-and-false : (t : Bool) → (t && false) ≡ false
-and-false true = refl
-and-false false = refl
-
-pub starts-short : (start text : List ℕ) → length text < length start → startsWith start text ≡ false
-starts-short [] text h = absurd (omega arith)
-starts-short (c ∷ start) [] h = refl
-starts-short (c ∷ start) (d ∷ text) h = rw (starts-short start text (omega arith)) (and-false (eqb d c))
-
--- the bytes from place i on
-pub starts-step : (start text : List ℕ) (i : ℕ) → i < length start → i < length text
-    → startsWith (drop i start) (drop i text) ≡ (eqb (getD text i 0) (getD start i 0) && startsWith (drop (i + 1) start) (drop (i + 1) text))
-starts-step start text i h l = rw (drop-cons start i 0 h, drop-cons text i 0 l, add-one)
-
-pub starts-done : (start text : List ℕ) (i : ℕ) → length start ≤ i → startsWith (drop i start) (drop i text) ≡ true
-starts-done start text i h = rw (drop-of-length-le start h)
-
--- a field, by the number that it begins with
-module _ (text : List ℕ) (at end : ℕ) where
-  pub field-none : numberOf text at ≡ Refused → Refused ≡ fieldAt text at end
-  unfolding fieldAt
-  field-none e = rw e
-
-  module _ (n next : ℕ) (e : numberOf text at ≡ Read n next) where
-    pub field-past : length text ≤ next → Refused ≡ fieldAt text at end
-    unfolding fieldAt
-    field-past h = rw (e, le-ltb next (length text) h)
-
-    pub field-other : next < length text → (getD text next 0 ≡ end → ⊥) → Refused ≡ fieldAt text at end
-    unfolding fieldAt
-    field-other h d = rw (e, lt-ltb next (length text) h, ne-eqb (getD text next 0) end d)
-
-    pub field-ended : next < length text → getD text next 0 ≡ end → Read n (next + 1) ≡ fieldAt text at end
-    unfolding fieldAt
-    field-ended h d = rw (e, lt-ltb next (length text) h, eq-eqb (getD text next 0) end d)
+use Rattle.sheet.specs.Load.{halvesAt, lineAt, recordsAt, headOf, recordsIn, answerOf, loadOf}
 
 -- halves, by the fields that they are made of
 module _ (text : List ℕ) (at end : ℕ) where

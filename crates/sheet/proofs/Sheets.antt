@@ -1,7 +1,7 @@
 -- How long the lines of a sheet are, and that they come one after the other. By the definitions. Assumes nothing.
 use mathlib.Core.Path.{_≡_, refl, sym, ap, _∙_}
 use mathlib.Core.List.{List, [], _∷_, _++_, append-assoc, append-nil}
-use Prim.Native.Nat.{ℕ, zero, suc, _+_, _≤_, _<_}
+use Prim.Native.Nat.{ℕ, suc, _+_, _<_}
 use native.Mathlib.Numerals.{add-one}
 use native.Mathlib.Omega.{arith}
 use lib.ListN.{length, getD, take, length-append}
@@ -30,13 +30,6 @@ lines-more rs i h =
     ∙ ap linesOf (take-suc rs i noRecord h)
     ∙ lines-append (take i rs) (getD rs i noRecord ∷ [])
     ∙ ap (λ (l : List ℕ). linesOf (take i rs) ++ l) (append-nil (lineOf (getD rs i noRecord)))
-
--- the line of record i ends within the lines
-pub line-within : (rs : List Record) (i : ℕ) → i < length rs → length (linesOf (take i rs)) + length (lineOf (getD rs i noRecord)) ≤ length (linesOf rs)
-line-within [] i h = absurd (omega arith)
-line-within (r ∷ rs) zero h = rw (length-append (lineOf r) (linesOf rs)) (omega arith)
-line-within (r ∷ rs) (suc i) h =
-    rw (length-append (lineOf r) (linesOf rs), length-append (lineOf r) (linesOf (take i rs))) (omega (arith, line-within rs i (omega arith)))
 
 pub sheet-length : (j : Journal) → length (sheetOf j) ≡ length (decimal (length (standing j))) + 9 + length (linesOf (standing j))
 unfolding sheetOf

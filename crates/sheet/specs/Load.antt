@@ -1,18 +1,18 @@
 -- The journal that a sheet is of: `patches`, a tab, the count, a line for each record, and nothing after it. Assumes nothing.
-use Prim.Native.Nat.{ℕ, zero, suc, _+_}
-use mathlib.Core.Bool.{Bool, true, false, cond, _&&_}
+use Prim.Native.Nat.{ℕ, zero, suc}
+use mathlib.Core.Bool.{cond}
 use mathlib.Core.List.{List, [], _∷_}
 use mathlib.Core.Option.{Option, none, some, Option·map}
-use lib.Dec.{eqb, leb, ltb}
-use lib.ListN.{length, getD}
+use lib.Dec.{eqb, leb}
+use lib.ListN.{length}
 use Rattle.answer.specs.Answer.{accepted, badSheet}
 use Rattle.bundle.specs.declared.half.Halves.{Halves}
 use Rattle.journal.specs.Journal.{limit, mayStand, journalOf}
 use Rattle.journal.specs.declared.records.Edited.{Edited}
 use Rattle.journal.specs.declared.records.Journal.{Journal}
 use Rattle.journal.specs.declared.records.Record.{Record}
-use Rattle.text.specs.Ascii.{ascii}
-use Rattle.text.specs.Number.{numberOf}
+use Rattle.text.specs.Ascii.{ascii, startsWith}
+use Rattle.text.specs.Fields.{afterNumber, fieldAt}
 use Rattle.text.specs.declared.number.Number.{Number}
 use Rattle.sheet.specs.declared.line.Line.{Line}
 use Rattle.sheet.specs.declared.line.Pair.{Pair}
@@ -20,11 +20,7 @@ use Rattle.text.specs.declared.number.Number.the-variants as number
 use Rattle.sheet.specs.declared.line.Line.the-variants as line
 use Rattle.sheet.specs.declared.line.Pair.the-variants as pair
 
--- what is read after a number, or after halves, or after a line; nothing where there is none
-abbrev pub afterNumber {ℓ} : {A : Type ℓ} → Number → (ℕ → ℕ → A) → A → A
-afterNumber (number.Read n next) more other = more n next
-afterNumber number.Refused more other = other
-
+-- what is read after halves, or after a line; nothing where there is none
 abbrev pub afterPair {ℓ} : {A : Type ℓ} → Pair → (Halves → ℕ → A) → A → A
 afterPair (pair.Read h next) more other = more h next
 afterPair pair.Refused more other = other
@@ -32,17 +28,6 @@ afterPair pair.Refused more other = other
 abbrev pub afterLine {ℓ} : {A : Type ℓ} → Line → (Record → ℕ → A) → A → A
 afterLine (line.Read r next) more other = more r next
 afterLine line.Refused more other = other
-
--- whether a text begins with some bytes
-abbrev pub startsWith : List ℕ → List ℕ → Bool
-startsWith [] text = true
-startsWith (c ∷ cs) [] = false
-startsWith (c ∷ cs) (d ∷ text) = eqb d c && startsWith cs text
-
--- a number at a place that the byte `end` ends, and the place after that byte
-unfoldable pub fieldAt : List ℕ → ℕ → ℕ → Number
-fieldAt text at end =
-    afterNumber (numberOf text at) (λ n next. cond (ltb next (length text) && eqb (getD text next 0) end) (number.Read n (next + 1)) number.Refused) number.Refused
 
 -- two numbers parted by a tab
 unfoldable pub halvesAt : List ℕ → ℕ → ℕ → Pair

@@ -7,12 +7,21 @@ use Rattle.answer.specs.Answer.{Refusal, badJournal}
 use Rattle.journal.specs.Journal.{standing, validOf}
 use Rattle.journal.specs.declared.records.Journal.{Journal}
 use Rattle.journal.specs.declared.records.Record.{Record}
-use Rattle.text.specs.Ascii.{ascii, line as row}
+use Rattle.text.specs.Ascii.{ascii, line}
 use Rattle.text.specs.Decimal.{decimal}
+use Rattle.text.specs.Fields.{fields}
 
--- a record's line: bundle, old low, old high, new low, new high
+-- a record's numbers, in the order of its line
+abbrev pub numbersOf : Record → List ℕ
+numbersOf r = r .bundle ∷ r .old .low ∷ r .old .high ∷ r .new .low ∷ r .new .high ∷ []
+
+-- the bytes that end them
+abbrev pub ends : List ℕ
+ends = ascii "\t\t\t\t\n"
+
+-- a record's line
 unfoldable pub lineOf : Record → List ℕ
-lineOf r = row (decimal (r .bundle) ∷ decimal (r .old .low) ∷ decimal (r .old .high) ∷ decimal (r .new .low) ∷ decimal (r .new .high) ∷ [])
+lineOf r = fields (numbersOf r) ends
 
 -- the lines of some records
 abbrev pub linesOf : List Record → List ℕ
@@ -21,7 +30,7 @@ linesOf (r ∷ rs) = lineOf r ++ linesOf rs
 
 -- the first line
 abbrev pub headerOf : ℕ → List ℕ
-headerOf count = row (ascii "patches" ∷ decimal count ∷ [])
+headerOf count = line (ascii "patches" ∷ decimal count ∷ [])
 
 -- the sheet of a journal
 unfoldable pub sheetOf : Journal → List ℕ

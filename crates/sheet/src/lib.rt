@@ -3,14 +3,13 @@ mod line;
 
 ghost use mathlib.Core.Path.{_≡_};
 ghost use mathlib.Core.Bool.{true};
-ghost use Prim.Native.Nat.{_≤_};
 ghost use lib.Dec.{leb};
 ghost use lib.ListN.{length};
 ghost use Rattle.answer.specs.Answer.{badSheet};
 ghost use Rattle.journal.specs.Journal.{validOf};
 ghost use Rattle.text.specs.Put.{Put};
 ghost use Rattle.text.specs.Whole.{wroteOf};
-ghost use Rattle.sheet.specs.Sheet.{sheetOf, capacity, writeRefusals};
+ghost use Rattle.sheet.specs.Sheet.{sheetOf, writeRefusals};
 ghost use Rattle.sheet.specs.Load.{headOf, loadOf};
 use answer::ACCEPTED;
 use answer::BAD_JOURNAL;
@@ -19,6 +18,7 @@ use answer::NO_ROOM;
 use journal::Edited;
 use journal::Journal;
 use line::Line;
+use text::NEWLINE;
 use text::Number;
 use text::Written;
 
@@ -51,7 +51,7 @@ pub fn write(journal: Journal, out: &mut [u8]) -> Written
 
 // Whether the sheet has at most `room` bytes. It is measured only where room may be short.
 fn fits(journal: Journal, room: usize) -> bool
-    requires { ⌜ (validOf journal ≡ true) × (length (sheetOf journal) ≤ capacity) ⌝ }
+    requires { ⌜ validOf journal ≡ true ⌝ }
     ensures { λ r. ⌜ r ≡ leb (length (sheetOf journal)) room ⌝ }
 {
     if CAPACITY <= room {
@@ -63,12 +63,12 @@ fn fits(journal: Journal, room: usize) -> bool
 
 // Writes the sheet as far as there is room, and answers its length.
 fn put_sheet(out: &mut [u8], journal: Journal) -> usize
-    requires { ⌜ (validOf journal ≡ true) × (length (sheetOf journal) ≤ capacity) ⌝ }
+    requires { ⌜ validOf journal ≡ true ⌝ }
     ensures { λ r. ⌜ Put (now (out .entry)) 0 (sheetOf journal) (now (out .exit)) r ⌝ }
 {
     let count = journal.count;
     let start = text::put_text(out, 0, b"patches\t");
-    let mut at = text::put_field(out, start, count, line::NEWLINE);
+    let mut at = text::put_field(out, start, count, NEWLINE);
     let records = journal::places(journal);
     let mut place = 0;
     while place < count {
@@ -123,8 +123,8 @@ fn refused(journal: Journal) -> Edited
 fn read_head(text: &[u8]) -> Number
     ensures { λ r. ⌜ r ≡ headOf (now (text .entry)) ⌝ }
 {
-    if !line::begins(text, b"patches\t") {
+    if !text::begins(text, b"patches\t") {
         return Number::Refused;
     }
-    line::read_field(text, 8, line::NEWLINE)
+    text::read_field(text, 8, NEWLINE)
 }

@@ -1,18 +1,15 @@
 // The lines of a sheet: writing and reading a record, and the fields they are made of.
 ghost use mathlib.Core.Path.{_≡_};
-ghost use Prim.Native.Nat.{_+_, _<_, _^_};
-ghost use lib.ListN.{length};
 ghost use Rattle.text.specs.Put.{Put};
 ghost use Rattle.sheet.specs.Sheet.{lineOf};
-ghost use Rattle.sheet.specs.Load.{startsWith, fieldAt, halvesAt, lineAt};
+ghost use Rattle.sheet.specs.Load.{halvesAt, lineAt};
 use bundle::Halves;
 use journal::Record;
+use text::NEWLINE;
 use text::Number;
-use text::put_field;
-
-pub const TAB: u8 = 9;
-
-pub const NEWLINE: u8 = 10;
+use text::TAB;
+use text::put_fields;
+use text::read_field;
 
 // Two halves of a bundle and the place after them, or that there are none.
 pub enum Pair {
@@ -27,51 +24,16 @@ pub enum Line {
 }
 
 pub fn put_line(out: &mut [u8], at: usize, one: Record) -> usize
-    requires { ⌜ at + length (lineOf one) < 2 ^ 64 ⌝ }
     ensures { λ r. ⌜ Put (now (out .entry)) at (lineOf one) (now (out .exit)) r ⌝ }
 {
     let old = one.old;
     let new = one.new;
-    let mut next = put_field(out, at, one.bundle, TAB);
-    next = put_field(out, next, old.low, TAB);
-    next = put_field(out, next, old.high, TAB);
-    next = put_field(out, next, new.low, TAB);
-    put_field(out, next, new.high, NEWLINE)
-}
-
-// Whether the text begins with `start`.
-pub fn begins(text: &[u8], start: &[u8]) -> bool
-    ensures { λ r. ⌜ r ≡ startsWith (now (start .entry)) (now (text .entry)) ⌝ }
-{
-    if text.len() < start.len() {
-        return false;
-    }
-    let mut i = 0;
-    while i < start.len() {
-        if text[i] != start[i] {
-            return false;
-        }
-        i += 1;
-    }
-    true
-}
-
-// A number, and the byte that ends it.
-pub fn read_field(text: &[u8], at: usize, end: u8) -> Number
-    ensures { λ r. ⌜ r ≡ fieldAt (now (text .entry)) at end ⌝ }
-{
-    let number = text::read_decimal(text, at);
-    let Number::Read(n, next) = number else {
-        return Number::Refused;
-    };
-    if text.len() <= next {
-        return Number::Refused;
-    }
-    if text[next] == end {
-        Number::Read(n, next + 1)
-    } else {
-        Number::Refused
-    }
+    put_fields(
+        out,
+        at,
+        &[one.bundle, old.low, old.high, new.low, new.high],
+        b"\t\t\t\t\n",
+    )
 }
 
 // The low half, a tab, the high half, and the byte that ends them.

@@ -1,19 +1,34 @@
 -- `sheet::fits` meets its contract: no sheet is longer than the capacity, and what writing to an output with no room answers is the
 -- length. Assumes nothing.
-use mathlib.Core.Path.{sym, ap, _∙_}
-use Prim.Native.Nat.{ℕ}
-use native.Mathlib.Nat.{le-trans, zero-add}
-use lib.Dec.{leb}
+use mathlib.Core.Path.{sym, ap}
+use Prim.Native.Nat.{ℕ, _≤_}
+use native.Mathlib.Nat.{le-trans}
+use native.Mathlib.Omega.{arith}
 use borrow.Author.Needs.{needs}
 use borrow.Author.Tests.{le-leb}
+use lib.Dec.{leb}
+use lib.ListN.{length}
+use Rattle.journal.proofs.Standing.{standing-all}
+use Rattle.sheet.specs.RoundTrip.{isHeld}
+use Rattle.sheet.specs.Sheet.{sheetOf, capacity}
+use Rattle.sheet.proofs.Lengths.{sheet-most}
+use Rattle.sheet.proofs.Owned.{owned}
 use Rattle.sheet.proofs.fits.Statement.{statement}
 use Rattle.sheet.proofs.fits.Tie as tie
 
+short : (c : tie.Start) → length (sheetOf (c .args .journal)) ≤ capacity
+short c =
+    let j = c .args .journal in
+    let array = c .good .0 .1 .1 .1 .0 in
+    sheet-most j (record { valid = c .pre; held = standing-all isHeld j (owned (j .records) (array .0) (array .1 .1)) })
+
 returns : tie.Need-returns
-returns c = sym (le-leb _ (c .before .args .room) (le-trans (c .before .pre .1) (c .if1 .taken)))
+returns c = sym (le-leb _ (c .before .args .room) (le-trans (short (c .before)) (c .if1 .taken)))
 
 returns-2 : tie.Need-returns-2
-returns-2 c = ap (λ (n : ℕ). leb n (c .before .before .before .before .args .room)) (c .before .put-sheet .ensures .place ∙ zero-add _)
+returns-2 c =
+    let s = c .before .before .before .before in
+    ap (λ (n : ℕ). leb n (s .args .room)) (omega (arith, c .before .put-sheet .ensures .place, short s))
 
 pub fits-spec : {M : Type 1} → statement M
 fits-spec = tie.close (tie.spec returns (λ c. search needs) (λ c κs. search needs) returns-2)

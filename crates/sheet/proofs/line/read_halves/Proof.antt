@@ -2,7 +2,7 @@
 use mathlib.Core.Path.{_≡_, sym, _∙_}
 use borrow.Author.Needs.{needs}
 use Rattle.text.specs.declared.number.Number.the-variants.{Read}
-use Rattle.sheet.specs.Load.{fieldAt}
+use Rattle.text.specs.Fields.{fieldAt}
 use Rattle.sheet.proofs.Reading.{halves-none, halves-one, halves-both}
 use Rattle.sheet.proofs.line.read_halves.Statement.{statement}
 use Rattle.sheet.proofs.line.read_halves.Tie as tie

@@ -3,7 +3,8 @@ use mathlib.Core.Path.{_≡_, sym, _∙_}
 use borrow.Author.Needs.{needs}
 use Rattle.text.specs.declared.number.Number.the-variants.{Read}
 use Rattle.sheet.specs.declared.line.Pair.the-variants as pair
-use Rattle.sheet.specs.Load.{fieldAt, halvesAt}
+use Rattle.text.specs.Fields.{fieldAt}
+use Rattle.sheet.specs.Load.{halvesAt}
 use Rattle.sheet.proofs.Reading.{line-none, line-no-old, line-no-new, line-unfit, line-whole}
 use Rattle.sheet.proofs.line.read_line.Statement.{statement}
 use Rattle.sheet.proofs.line.read_line.Tie as tie
