@@ -18,7 +18,8 @@ use Rattle.journal.specs.Journal.{limit, mayStand, all, standing, journalOf, va
 use Rattle.journal.specs.declared.records.Journal.{Journal}
 use Rattle.journal.specs.declared.records.Record.{Record}
 use Rattle.journal.proofs.Standing.{journal-stands, journal-valid, valid-is-journal, valid-few, valid-stand}
-use Rattle.text.specs.Ascii.{ascii, newline, startsWith}
+use Rattle.table.specs.Ascii.{ascii}
+use Rattle.text.specs.Ascii.{newline, startsWith}
 use Rattle.text.specs.Decimal.{decimal}
 use Rattle.text.specs.declared.number.Number.{Number}
 use Rattle.text.specs.declared.number.Number.the-variants.{Read, Refused}

@@ -10,7 +10,8 @@ use Rattle.journal.specs.Journal.{limit, mayStand, journalOf}
 use Rattle.journal.specs.declared.records.Edited.{Edited}
 use Rattle.journal.specs.declared.records.Journal.{Journal}
 use Rattle.journal.specs.declared.records.Record.{Record}
-use Rattle.text.specs.Ascii.{ascii, newline, startsWith}
+use Rattle.table.specs.Ascii.{ascii}
+use Rattle.text.specs.Ascii.{newline, startsWith}
 use Rattle.text.specs.Fields.{afterNumber, fieldAt, fieldsAt}
 use Rattle.text.specs.declared.number.Number.{Number}
 use Rattle.sheet.specs.Sheet.{ends}
