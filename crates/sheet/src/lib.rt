@@ -68,10 +68,10 @@ fn put_sheet(out: &mut [u8], journal: Journal) -> usize
     let count = journal.count;
     let start = text::put_text(out, 0, b"patches\t");
     let mut at = text::put_field(out, start, count, NEWLINE);
-    let mut place = 0;
-    while place < count {
-        at = line::put_line(out, at, journal::record_at(journal, place));
-        place += 1;
+    let mut i = 0;
+    while i < count {
+        at = line::put_line(out, at, journal::record_at(journal, i));
+        i += 1;
     }
     at
 }

@@ -1,5 +1,5 @@
 -- `sheet::put_sheet` meets its contract: the first line and the records' lines, one after the other. The loop's invariant: the lines of
--- the records before this place are written. Assumes nothing.
+-- the first `i` records are written. Assumes nothing.
 use mathlib.Core.Path.{_≡_, _∙_}
 use Prim.Native.Nat.{_-_, _^_, _≤_, _<_}
 use native.Mathlib.Omega.{arith}
@@ -16,10 +16,10 @@ use Rattle.sheet.proofs.put_sheet.Statement.{statement}
 use Rattle.sheet.proofs.put_sheet.Tie as tie
 
 abbrev Inv-loop : tie.InvT-loop
-Inv-loop out₀ journal count start at₀ place₀ out at place = (place ≤ count) × Put out₀ at₀ (linesOf (take place (standing journal))) out at
+Inv-loop out₀ journal count start at₀ i₀ out at i = (i ≤ count) × Put out₀ at₀ (linesOf (take i (standing journal))) out at
 
 abbrev μ-loop : tie.MeasureT-loop
-μ-loop out₀ journal count start at₀ place₀ out at place = count - place
+μ-loop out₀ journal count start at₀ i₀ out at i = count - i
 
 abbrev entry : tie.At-loop Inv-loop μ-loop → tie.Start Inv-loop μ-loop
 entry l = l .before .before .before .before .before .before .before .before .before .before .before
@@ -29,10 +29,10 @@ counts : (c : tie.Start Inv-loop μ-loop) → c .args .journal .count ≡ length
 counts c = valid-counts (c .args .journal) (c .pre)
 
 -- the record that is read in a turn
-turn : (c : tie.After-record-at Inv-loop μ-loop) → let l = c .before .before .before in c .record-at .result ≡ getD (standing (entry l .args .journal)) (l .loop .place) noRecord
-turn c = let l = c .before .before .before in c .record-at .ensures ∙ valid-reads (entry l .args .journal) (entry l .pre) (l .loop .place)
+turn : (c : tie.After-record-at Inv-loop μ-loop) → let l = c .before .before .before in c .record-at .result ≡ getD (standing (entry l .args .journal)) (l .loop .i) noRecord
+turn c = let l = c .before .before .before in c .record-at .ensures ∙ valid-reads (entry l .args .journal) (entry l .pre) (l .loop .i)
 
-turn-stands : (c : tie.In-loop Inv-loop μ-loop) → c .before .loop .place < length (standing (entry (c .before) .args .journal))
+turn-stands : (c : tie.In-loop Inv-loop μ-loop) → c .before .loop .i < length (standing (entry (c .before) .args .journal))
 turn-stands c = omega (arith, counts (entry (c .before)), c .loop-test .taken)
 
 short : (c : tie.Start Inv-loop μ-loop) → length (c .args .out .now) < 2 ^ 64
@@ -52,7 +52,7 @@ loop-again c =
     let l = t .before in
     let rs = standing (entry l .args .journal) in
     let put = rw (turn r) at (c .before .before .put-line .ensures) in
-    (search needs, rw (lines-more rs (l .loop .place) (turn-stands t)) (put-then (omega (arith, short (entry l), room l)) (l .loop .inv .1) put))
+    (search needs, rw (lines-more rs (l .loop .i) (turn-stands t)) (put-then (omega (arith, short (entry l), room l)) (l .loop .inv .1) put))
 
 same-length : tie.Need-same-length Inv-loop μ-loop
 same-length c =
@@ -64,7 +64,7 @@ unfolding sheetOf
 returns c =
     let l = c .before in
     let rs = standing (entry l .args .journal) in
-    let all = take-all (l .loop .place) rs (omega (arith, counts (entry l), c .loop-test .left)) in
+    let all = take-all (l .loop .i) rs (omega (arith, counts (entry l), c .loop-test .left)) in
     let count = counts (entry l) in
     put-then (short (entry l)) (put-then (short (entry l)) (l .before .before .before .before .before .before .before .put-text .ensures) (rw count at (l .before .before .before .put-field .ensures))) (rw all at (l .loop .inv .1))
 
