@@ -1,8 +1,8 @@
--- A plan carried out is the call: its refusals are the call's, since of a journal that isn't valid nothing else is asked, and what it
--- writes is what the call comes to. Assumes nothing.
+-- A plan carried out is the call: its refusals are the call's, and what it writes is what the call comes to, by the laws of the journal's
+-- view. Assumes nothing.
 use mathlib.Core.Path.{_≡_, refl, sym, ap, ap₂, _∙_, subst}
 use mathlib.Core.Bool.{Bool, true, false, cond, not}
-use mathlib.Core.List.{List, [], _∷_, _++_, getLastD}
+use mathlib.Core.List.{List, [], _∷_, _++_}
 use Prim.Native.Nat.{ℕ, _+_, _-_, _*_, _≤_, _<_, _^_}
 use native.Mathlib.Decide.{ℕ-discrete}
 use borrow.Author.Tests.{leb-false, ltb-false, eqb-true, eqb-false, not-false}
@@ -19,12 +19,12 @@ use Rattle.form.specs.declared.Edit.{Edit}
 use Rattle.immediate.specs.Immediate.{changeRefusals, changedNumber}
 use Rattle.immediate.proofs.Laws.{changed-lt}
 use Rattle.journal.specs.Edit.{Outcome, codeRefusals, rewritten, made, recordOf, roomRefusals, editRefusals, editOf, undoRefusals, undoOf}
-use Rattle.journal.specs.Journal.{limit, noRecord, standing, journalOf, validOf, recordAt, withRecord}
+use Rattle.journal.specs.Journal.{limit, standing, journalOf, viewOf, withRecord}
 use Rattle.journal.specs.Plan.{refusedPlan, editPlanOf, undoPlanOf, carriedOut}
 use Rattle.journal.specs.declared.plan.Plan.{Plan}
 use Rattle.journal.specs.declared.records.Journal.{Journal}
-use Rattle.journal.specs.declared.records.Record.{Record}
-use Rattle.journal.proofs.Standing.{valid-counts, valid-last, valid-pushes, valid-pops}
+use Rattle.journal.specs.declared.records.View.{View}
+use Rattle.journal.proofs.Standing.{view-pushes, view-pops}
 
 -- an outcome that is refused, whatever would be done
 pub refused-is {ℓ} : {A : Type ℓ} (refused : ℕ → A) (done : A) (a b : ℕ) → b ≡ a → (a ≡ accepted → ⊥) → refused a ≡ outcome b done (refused b)
@@ -43,15 +43,6 @@ pub first-past : (rs qs ps : List Refusal) → first qs ≡ first ps → first (
 first-past [] qs ps e = e
 first-past (r ∷ rs) qs ps e = ap (λ (n : ℕ). cond (r .1) (r .0) n) (first-past rs qs ps e)
 
--- of a journal that isn't valid nothing else is asked
-room-same : (v : Bool) (m n : ℕ) → (v ≡ true → m ≡ n) → first (roomRefusals v m) ≡ first (roomRefusals v n)
-room-same true m n f = ap (λ (k : ℕ). first (roomRefusals true k)) (f refl)
-room-same false m n f = refl
-
-undo-same : (code : List ℕ) (v : Bool) (m n : ℕ) (r q : Record) → (v ≡ true → (m ≡ n) × (r ≡ q)) → first (undoRefusals code v m r) ≡ first (undoRefusals code v n q)
-undo-same code true m n r q f = ap₂ (λ (k : ℕ) (s : Record). first (undoRefusals code true k s)) (f refl .0) (f refl .1)
-undo-same code false m n r q f = refl
-
 -- a plan that is accepted or refused by a
 module _ (code : List ℕ) (plan : Plan) (a : ℕ) where
   abbrev Decided : Plan
@@ -65,12 +56,12 @@ module _ (code : List ℕ) (plan : Plan) (a : ℕ) where
       go true e q = f (eqb-true a accepted e)
       go false e q = absurd (eqb-false a accepted e q)
 
-  -- what carrying it out comes to, where its answer is b and it leaves this journal and this code
-  decided-carried : (j after : Journal) (written : List ℕ) (b : ℕ) → plan .answer ≡ accepted → a ≡ b
+  -- what carrying it out comes to, where it leaves this journal and this code
+  decided-carried : (j after : Journal) (written : List ℕ) → plan .answer ≡ accepted
       → (a ≡ accepted → (withRecord j (plan .place) (plan .kept) (plan .count) ≡ after) × (rewritten code (plan .bundle) (whole (plan .halves)) ≡ written))
-      → carriedOut code j Decided ≡ outcome b (record { answer = accepted; journal = after; code = written }) (record { answer = b; journal = j; code = code })
+      → carriedOut code j Decided ≡ outcome a (record { answer = accepted; journal = after; code = written }) (record { answer = a; journal = j; code = code })
   unfolding carriedOut
-  decided-carried j after written b h e f = go (eqb a accepted) refl ∙ ap (λ (n : ℕ). outcome n done (record { answer = n; journal = j; code = code })) e
+  decided-carried j after written h f = go (eqb a accepted) refl
     where
       done : Outcome
       done = record { answer = accepted; journal = after; code = written }
@@ -93,40 +84,34 @@ module _ (code : List ℕ) (e : Edit) (taken : first (codeRefusals code e) ≡ a
 
 -- an edit's plan carried out is the edit
 module _ (code : List ℕ) (e : Edit) where
-  pub edit-found : (valid : Bool) (count : ℕ) → editPlanOf code valid count e .answer ≡ accepted → findAnswer code (editPlanOf code valid count e .bundle) ≡ accepted
+  pub edit-found : (view : View) → editPlanOf code view e .answer ≡ accepted → findAnswer code (editPlanOf code view e .bundle) ≡ accepted
   unfolding editPlanOf
-  edit-found valid count =
-      decided-found code _ (first (editRefusals code valid count e))
-      (λ a. taken-found code e (parts-accept (codeRefusals code e) (roomRefusals valid count) tt a .0))
+  edit-found view =
+      decided-found code _ (first (editRefusals code view e)) (λ a. taken-found code e (parts-accept (codeRefusals code e) (roomRefusals view) tt a .0))
 
-  pub edit-carried : Bytes code → (j : Journal) → carriedOut code j (editPlanOf code (validOf j) (j .count) e) ≡ editOf code j e
+  pub edit-carried : Bytes code → (j : Journal) → carriedOut code j (editPlanOf code (viewOf j) e) ≡ editOf code j e
   unfolding editPlanOf editOf made
   edit-carried b j =
-      decided-carried code _ (first (editRefusals code (validOf j) (j .count) e)) j _ _ _ refl
-      (first-past (codeRefusals code e) (roomRefusals (validOf j) (j .count)) (roomRefusals (validOf j) (length (standing j))) (room-same (validOf j) (j .count) (length (standing j)) (valid-counts j)))
+      decided-carried code _ (first (editRefusals code (viewOf j) e)) j _ _ refl
       (λ a.
-      let p = parts-accept (codeRefusals code e) (roomRefusals (validOf j) (j .count)) tt a in
-      let n = none-applies (roomRefusals (validOf j) (j .count)) tt (p .1) in (
-        valid-pushes j (not-false _ (n .0)) (recordOf code e) (leb-false limit (j .count) (n .1 .0)),
+      let p = parts-accept (codeRefusals code e) (roomRefusals (viewOf j)) tt a in
+      let n = none-applies (roomRefusals (viewOf j)) tt (p .1) in (
+        view-pushes j (not-false _ (n .0)) (recordOf code e) (leb-false limit (viewOf j .count) (n .1 .0)),
         ap (rewritten code (e .bundle)) (whole-halves _ (taken-lt code e (p .0) b)),
       ))
 
 -- an undo's plan carried out is the undo
 module _ (code : List ℕ) where
-  pub undo-found : (valid : Bool) (count : ℕ) (last : Record) → undoPlanOf code valid count last .answer ≡ accepted → findAnswer code (undoPlanOf code valid count last .bundle) ≡ accepted
+  pub undo-found : (view : View) → undoPlanOf code view .answer ≡ accepted → findAnswer code (undoPlanOf code view .bundle) ≡ accepted
   unfolding undoPlanOf
-  undo-found valid count last =
-      decided-found code _ (first (undoRefusals code valid count last))
+  undo-found view =
+      decided-found code _ (first (undoRefusals code view))
       (λ e.
-      let n = none-applies (undoRefusals code valid count last) tt e in
-      found-when code (last .bundle) (record { short = ltb-false _ _ (n .0); within = ltb-false _ _ (n .1 .1 .1 .0) }))
+      let n = none-applies (undoRefusals code view) tt e in
+      found-when code (view .last .bundle) (record { short = ltb-false _ _ (n .0); within = ltb-false _ _ (n .1 .1 .1 .0) }))
 
-  pub undo-carried : (j : Journal) → carriedOut code j (undoPlanOf code (validOf j) (j .count) (recordAt j (j .count - 1))) ≡ undoOf code j
+  pub undo-carried : (j : Journal) → carriedOut code j (undoPlanOf code (viewOf j)) ≡ undoOf code j
   unfolding undoPlanOf undoOf
   undo-carried j =
-      let last = recordAt j (j .count - 1) in
-      decided-carried code _ (first (undoRefusals code (validOf j) (j .count) last)) j _ _ _ refl
-      (undo-same code (validOf j) (j .count) (length (standing j)) last (getLastD (standing j) noRecord) (λ v. (valid-counts j v, valid-last j v)))
-      (λ e.
-      let v = not-false _ (none-applies (undoRefusals code (validOf j) (j .count) last) tt e .1 .0) in
-      (valid-pops j v, ap (λ (r : Record). rewritten code (r .bundle) (whole (r .old))) (valid-last j v)))
+      decided-carried code _ (first (undoRefusals code (viewOf j))) j _ _ refl
+      (λ e. (view-pops j (not-false _ (none-applies (undoRefusals code (viewOf j)) tt e .1 .0)), refl))

@@ -24,14 +24,14 @@ use Rattle.form.specs.declared.Edit.{Edit}
 use Rattle.row.specs.Row.{rowOf}
 use Rattle.immediate.specs.Immediate.{valueIn, changedNumber}
 use Rattle.immediate.proofs.Laws.{changed-value, changed-bit}
-use Rattle.journal.specs.Journal.{limit, highest, noRecord, mayStand, all, standing, journalOf, validOf}
+use Rattle.journal.specs.Journal.{limit, highest, noRecord, mayStand, all, standing, journalOf, validOf, viewOf}
 use Rattle.journal.specs.Edit.{Outcome, codeRefusals, rewritten, made, sameHalves, roomRefusals, editOf, undoRefusals, undoOf, recordOf}
 use Rattle.journal.specs.Demand3.{Call, edit, undo, step, run, madeAll, answerTo, taken, after, standingEdits, recordsOf, expected, SetsOnlyItsBits, thenUndo, Holds, Demand3}
 use Rattle.journal.specs.declared.records.Record.{Record}
 use Rattle.journal.specs.declared.records.Journal.{Journal}
 use Rattle.journal.proofs.Laws.{taken-found, taken-changes, taken-lt, parts-accept, first-past}
 use Rattle.journal.proofs.Rewritten.{rewritten-before, rewritten-past, rewritten-number, rewritten-length, rewritten-twice, rewritten-bytes, rewritten-own}
-use Rattle.journal.proofs.Standing.{journal-stands, journal-valid, all-append, drop-last-snoc, last-snoc}
+use Rattle.journal.proofs.Standing.{journal-stands, journal-valid, journal-shows, all-append, drop-last-snoc, last-snoc}
 
 -- the code takes the edit
 abbrev Fits : List ℕ → Edit → Type 0
@@ -92,6 +92,9 @@ Stands code (e ∷ es) = Fits (madeAll code es) e × (length es < limit) × Stan
 
 -- calls with a valid journal of some records
 module _ (code : List ℕ) (rs : List Record) (valid : validOf (journalOf rs) ≡ true) where
+  shown : viewOf (journalOf rs) ≡ record { valid = true; count = length rs; last = getLastD rs noRecord }
+  shown = journal-shows rs valid
+
   -- an edit
   module _ (e : Edit) where
     edit-of : (a : ℕ) → first (codeRefusals code e ++ (full, leb limit (length rs)) ∷ []) ≡ a
@@ -100,14 +103,14 @@ module _ (code : List ℕ) (rs : List Record) (valid : validOf (journalOf rs) �
         (record { answer = accepted; journal = journalOf (rs ++ (recordOf code e ∷ [])); code = made code e })
         (record { answer = a; journal = journalOf rs; code = code })
     unfolding editOf made
-    edit-of a q = rw (valid, journal-stands, first-past (codeRefusals code e) (roomRefusals true (length rs)) ((full, leb limit (length rs)) ∷ []) refl, q)
+    edit-of a q = rw (shown, journal-stands, first-past (codeRefusals code e) (roomRefusals (record { valid = true; count = length rs; last = getLastD rs noRecord })) ((full, leb limit (length rs)) ∷ []) refl, q)
 
   -- undoing a last record
-  undo-of : (last : Record) (a : ℕ) → getLastD rs noRecord ≡ last → first (undoRefusals code true (length rs) last) ≡ a
+  undo-of : (last : Record) (a : ℕ) → getLastD rs noRecord ≡ last → first (undoRefusals code (record { valid = true; count = length rs; last = last })) ≡ a
       → undoOf code (journalOf rs)
       ≡ outcome a (record { answer = accepted; journal = journalOf (dropLast rs); code = rewritten code (last .bundle) (whole (last .old)) }) (record { answer = a; journal = journalOf rs; code = code })
   unfolding undoOf
-  undo-of last a e q = rw (valid, journal-stands, e, q)
+  undo-of last a e q = rw (shown, journal-stands, e, q)
 
 same-halves : (h : Halves) → sameHalves h h ≡ true
 same-halves h = ap₂ (λ (a b : Bool). a && b) (eq-eqb (h .low) (h .low) refl) (eq-eqb (h .high) (h .high) refl)
@@ -176,7 +179,7 @@ module _ (code : List ℕ) (b : Bytes code) (short : length code ≤ longestCode
 
   -- the last record is of a bundle that stands as it says
   last-stands : (e : Edit) (es : List Edit) → Stands code (e ∷ es)
-      → first (undoRefusals (madeAll code (e ∷ es)) true (length (recordsOf code (e ∷ es))) (recordOf (madeAll code es) e)) ≡ accepted
+      → first (undoRefusals (madeAll code (e ∷ es)) (record { valid = true; count = length (recordsOf code (e ∷ es)); last = recordOf (madeAll code es) e })) ≡ accepted
   last-stands e es s =
       let l = made-lies (madeAll code es) e (s .0) in
       let new = ap (λ (n : ℕ). sameHalves (halvesOf n) (halvesOf (newNumber (madeAll code es) e))) (made-number (madeAll code es) e (s .0) (all-bytes es (s .2))) ∙ same-halves (halvesOf (newNumber (madeAll code es) e)) in
@@ -256,12 +259,9 @@ module _ (code : List ℕ) (b : Bytes code) (short : length code ≤ longestCode
       answer : (call : Call) → run code (call ∷ calls) .answer ≡ answerTo code (standingEdits code calls) call
       answer call = ap (λ (o : Outcome). o .answer) (next calls call)
 
-  -- a run's journal is valid, and at most `limit` edits stand
+  -- a run's journal is valid
   pub run-valid : (calls : List Call) → validOf (run code calls .journal) ≡ true
   run-valid calls = ap validOf (reached calls .1) ∙ valid (standingEdits code calls) (all-stand calls)
-
-  pub run-most : (calls : List Call) → length (standingEdits code calls) ≤ limit
-  run-most calls = at-most (standingEdits code calls) (all-stand calls)
 
 pub demand-3 : Demand3
 demand-3 = holds

@@ -1,18 +1,19 @@
 -- The laws of the journal's view. A journal's places are its records and free places after them, `limit` together; so a record is added
 -- where the free places begin and taken where the records end. Assumes nothing.
 use mathlib.Core.Path.{_≡_, refl, sym, ap, ap₂, _∙_, subst}
-use mathlib.Core.Bool.{Bool, true, false, _&&_, and-true, and-false, and-assoc}
+use mathlib.Core.Bool.{Bool, true, false, cond, _&&_, and-true, and-false, and-assoc}
 use mathlib.Core.List.{List, [], _∷_, _++_, append-assoc, dropLast, getLastD}
 use Prim.Native.Nat.{ℕ, zero, suc, _+_, _-_, _≤_, _<_}
 use native.Mathlib.Omega.{arith}
 use borrow.Author.Tests.{le-leb, leb-true, eq-eqb}
 use lib.Dec.{T, eqb, leb, leb→le, eqb→eq}
-use lib.ListN.{length, getD, set, take, drop, replicate, length-append, length-replicate, length-drop, take-append-drop}
+use lib.ListN.{length, getD, set, take, drop, replicate, length-append, length-replicate, length-drop, take-append-drop, List·getD-eq-default}
 use lib.Seq.{set-at, getD-at, take-append-seam, drop-append-seam, length-take-le}
 use mir.Facts.{and-yes, yes-and}
-use Rattle.journal.specs.Journal.{limit, noRecord, isZero, isFree, mayStand, all, standing, journalOf, validOf, recordAt, withRecord, JournalStands, JournalValid, ValidIsJournal, JournalReads, JournalPushes, JournalPops}
+use Rattle.journal.specs.Journal.{limit, noRecord, isZero, isFree, mayStand, all, standing, journalOf, validOf, viewOf, recordAt, withRecord, JournalStands, JournalValid, ValidIsJournal, JournalReads, JournalPushes, JournalPops}
 use Rattle.journal.specs.declared.records.Record.{Record}
 use Rattle.journal.specs.declared.records.Journal.{Journal}
+use Rattle.journal.specs.declared.records.View.{View}
 
 -- the free places after n records
 abbrev free : ℕ → List Record
@@ -36,6 +37,11 @@ standing-all test j = go (j .count) (j .records)
     go zero rs t = tt
     go (suc n) [] t = tt
     go (suc n) (r ∷ rs) t = let s = and-yes (test r) (all test rs) t in yes-and (test r) (all test (take n rs)) (s .0) (go n rs (s .1))
+
+-- they stand at the first places
+pub standing-places : (j : Journal) → standing j ≡ take (j .count) (j .records)
+unfolding standing
+standing-places j = refl
 
 pub journal-counts : (rs : List Record) → journalOf rs .count ≡ length rs
 unfolding journalOf
@@ -169,6 +175,14 @@ module _ (j : Journal) (v : validOf j ≡ true) where
   pub valid-counts : j .count ≡ length (standing j)
   valid-counts = ap (λ (i : Journal). i .count) (sym (valid-is-journal j v)) ∙ journal-counts (standing j)
 
+  pub valid-places : length (j .records) ≡ limit
+  unfolding validOf
+  valid-places =
+      let rs = j .records in
+      let t = and-yes (eqb (length rs) limit && leb (j .count) limit && all mayStand (standing j)) (all isFree (drop (j .count) rs)) (subst T (sym v) tt) in
+      let u = and-yes (eqb (length rs) limit && leb (j .count) limit) (all mayStand (standing j)) (t .0) in
+      eqb→eq (length rs) limit (and-yes (eqb (length rs) limit) (leb (j .count) limit) (u .0) .0)
+
   valid-tests : T (leb (length (standing j)) limit) × T (all mayStand (standing j))
   valid-tests =
       and-yes (leb (length (standing j)) limit) (all mayStand (standing j))
@@ -183,15 +197,54 @@ module _ (j : Journal) (v : validOf j ≡ true) where
   pub valid-reads : (i : ℕ) → recordAt j i ≡ getD (standing j) i noRecord
   valid-reads i = ap (λ (j : Journal). recordAt j i) (sym (valid-is-journal j v)) ∙ journal-reads (standing j) i
 
-  pub valid-last : recordAt j (j .count - 1) ≡ getLastD (standing j) noRecord
+  valid-last : recordAt j (j .count - 1) ≡ getLastD (standing j) noRecord
   valid-last = ap (λ (n : ℕ). recordAt j (n - 1)) valid-counts ∙ valid-reads (length (standing j) - 1) ∙ sym (last-at (standing j))
 
-  pub valid-pushes : (r : Record) → j .count < limit → withRecord j (j .count) r (j .count + 1) ≡ journalOf (standing j ++ (r ∷ []))
-  valid-pushes r h =
-      ap₂ (λ (j : Journal) (n : ℕ). withRecord j n r (n + 1)) (sym (valid-is-journal j v)) valid-counts
-      ∙ journal-pushes (standing j) r (subst (λ (n : ℕ). n < limit) valid-counts h)
+  -- what is shown of it
+  pub valid-view : viewOf j ≡ record { valid = true; count = j .count; last = recordAt j (j .count - 1) }
+  unfolding viewOf
+  valid-view = rw v (λ i. record { valid = true; count = sym valid-counts i; last = sym valid-last i })
 
-  pub valid-pops : withRecord j (j .count - 1) noRecord (j .count - 1) ≡ journalOf (dropLast (standing j))
-  valid-pops =
-      ap₂ (λ (j : Journal) (n : ℕ). withRecord j (n - 1) noRecord (n - 1)) (sym (valid-is-journal j v)) valid-counts
-      ∙ journal-pops (standing j) valid-few
+  pub empty-view : j .count ≡ 0 → viewOf j ≡ record { valid = true; count = 0; last = noRecord }
+  empty-view e =
+      let none : length (standing j) ≤ j .count - 1 = omega (arith, valid-counts) in
+      let last = valid-reads (j .count - 1) ∙ List·getD-eq-default (standing j) noRecord none in
+      valid-view ∙ (λ i. record { valid = true; count = e i; last = last i })
+
+pub invalid-view : (j : Journal) → validOf j ≡ false → viewOf j ≡ record { valid = false; count = 0; last = noRecord }
+unfolding viewOf
+invalid-view j e = rw e
+
+-- what a valid journal of some records shows
+pub journal-shows : (rs : List Record) → validOf (journalOf rs) ≡ true → viewOf (journalOf rs) ≡ record { valid = true; count = length rs; last = getLastD rs noRecord }
+unfolding viewOf
+journal-shows rs v = rw (v, journal-stands)
+
+-- a journal shows whether it is valid
+pub view-shows : (j : Journal) → viewOf j .valid ≡ validOf j
+unfolding viewOf
+view-shows j = go (validOf j)
+  where
+    go : (t : Bool) → cond {A = View} t (record { valid = true; count = length (standing j); last = getLastD (standing j) noRecord }) (record { valid = false; count = 0; last = noRecord }) .valid ≡ t
+    go true = refl
+    go false = refl
+
+-- a journal that is shown as valid
+module _ (j : Journal) (v : viewOf j .valid ≡ true) where
+  view-valid : validOf j ≡ true
+  view-valid = sym (view-shows j) ∙ v
+
+  shown : viewOf j ≡ record { valid = true; count = length (standing j); last = getLastD (standing j) noRecord }
+  unfolding viewOf
+  shown = rw view-valid
+
+  pub view-pushes : (r : Record) → viewOf j .count < limit → withRecord j (viewOf j .count) r (viewOf j .count + 1) ≡ journalOf (standing j ++ (r ∷ []))
+  view-pushes r h =
+      let count = ap (λ (w : View). w .count) shown in
+      ap₂ (λ (j : Journal) (n : ℕ). withRecord j n r (n + 1)) (sym (valid-is-journal j view-valid)) count
+      ∙ journal-pushes (standing j) r (subst (λ (n : ℕ). n < limit) count h)
+
+  pub view-pops : withRecord j (viewOf j .count - 1) noRecord (viewOf j .count - 1) ≡ journalOf (dropLast (standing j))
+  view-pops =
+      ap₂ (λ (j : Journal) (n : ℕ). withRecord j (n - 1) noRecord (n - 1)) (sym (valid-is-journal j view-valid)) (ap (λ (w : View). w .count) shown)
+      ∙ journal-pops (standing j) (valid-few j view-valid)

@@ -1,7 +1,7 @@
 -- The calls `edit` and `undo`. Assumes nothing.
 use Prim.Native.Nat.{ℕ, _+_, _*_}
 use mathlib.Core.Bool.{Bool, true, false, not, _&&_}
-use mathlib.Core.List.{List, [], _∷_, _++_, dropLast, getLastD}
+use mathlib.Core.List.{List, [], _∷_, _++_, dropLast}
 use lib.Dec.{eqb, leb, ltb}
 use lib.ListN.{length, take, drop}
 use Rattle.answer.specs.Answer.{Refusal, first, outcome, accepted, exhaustedInput, full, empty, stale, tooLong, badJournal}
@@ -10,9 +10,10 @@ use Rattle.bundle.specs.Bundle.{longestCode, numberAt, findRefusals, halvesOf, 
 use Rattle.bundle.specs.declared.half.Halves.{Halves}
 use Rattle.form.specs.declared.Edit.{Edit}
 use Rattle.immediate.specs.Immediate.{changeRefusals, changedNumber}
-use Rattle.journal.specs.Journal.{limit, noRecord, standing, journalOf, validOf}
+use Rattle.journal.specs.Journal.{limit, standing, journalOf, viewOf}
 use Rattle.journal.specs.declared.records.Record.{Record}
 use Rattle.journal.specs.declared.records.Journal.{Journal}
+use Rattle.journal.specs.declared.records.View.{View}
 
 -- the code with bundle k made anew
 unfoldable pub rewritten : List ℕ → ℕ → ℕ → List ℕ
@@ -32,13 +33,13 @@ pub record Outcome : Type 0 where
   pub journal : Journal
   pub code : List ℕ
 
--- when there is no room for a record, by whether the journal is valid and how many stand
-abbrev pub roomRefusals : Bool → ℕ → List Refusal
-roomRefusals valid count = (badJournal, not valid) ∷ (full, leb limit count) ∷ []
+-- when there is no room for a record, by what the journal shows
+abbrev pub roomRefusals : View → List Refusal
+roomRefusals view = (badJournal, not (view .valid)) ∷ (full, leb limit (view .count)) ∷ []
 
 -- when an edit is refused
-abbrev pub editRefusals : List ℕ → Bool → ℕ → Edit → List Refusal
-editRefusals code valid count e = codeRefusals code e ++ roomRefusals valid count
+abbrev pub editRefusals : List ℕ → View → Edit → List Refusal
+editRefusals code view e = codeRefusals code e ++ roomRefusals view
 
 -- the record of an edit
 abbrev pub recordOf : List ℕ → Edit → Record
@@ -47,22 +48,22 @@ recordOf code e = let n = numberAt code (e .bundle) in record { bundle = e .bund
 -- what `edit` comes to: one record more
 unfoldable pub editOf : List ℕ → Journal → Edit → Outcome
 editOf code journal e =
-    let rs = standing journal in
-    let answer = first (editRefusals code (validOf journal) (length rs) e) in
+    let answer = first (editRefusals code (viewOf journal) e) in
     outcome answer
-    (record { answer = accepted; journal = journalOf (rs ++ (recordOf code e ∷ [])); code = made code e })
+    (record { answer = accepted; journal = journalOf (standing journal ++ (recordOf code e ∷ [])); code = made code e })
     (record { answer = answer; journal = journal; code = code })
 
 -- the same two halves
 abbrev pub sameHalves : Halves → Halves → Bool
 sameHalves a b = eqb (a .low) (b .low) && eqb (a .high) (b .high)
 
--- when undoing is refused, by whether the journal is valid, how many stand and the last of them
-abbrev pub undoRefusals : List ℕ → Bool → ℕ → Record → List Refusal
-undoRefusals code valid count last =
+-- when undoing is refused, by what the journal shows
+abbrev pub undoRefusals : List ℕ → View → List Refusal
+undoRefusals code view =
+    let last = view .last in
     (tooLong, ltb longestCode (length code))
-    ∷ (badJournal, not valid)
-    ∷ (empty, eqb count 0)
+    ∷ (badJournal, not (view .valid))
+    ∷ (empty, eqb (view .count) 0)
     ∷ (exhaustedInput, ltb (length code) (16 * last .bundle + 16))
     ∷ (stale, not (sameHalves (halvesOf (numberAt code (last .bundle))) (last .new)))
     ∷ []
@@ -70,9 +71,9 @@ undoRefusals code valid count last =
 -- what `undo` comes to: the last record's old bundle, and one record less
 unfoldable pub undoOf : List ℕ → Journal → Outcome
 undoOf code journal =
-    let rs = standing journal in
-    let last = getLastD rs noRecord in
-    let answer = first (undoRefusals code (validOf journal) (length rs) last) in
+    let view = viewOf journal in
+    let last = view .last in
+    let answer = first (undoRefusals code view) in
     outcome answer
-    (record { answer = accepted; journal = journalOf (dropLast rs); code = rewritten code (last .bundle) (whole (last .old)) })
+    (record { answer = accepted; journal = journalOf (dropLast (standing journal)); code = rewritten code (last .bundle) (whole (last .old)) })
     (record { answer = answer; journal = journal; code = code })

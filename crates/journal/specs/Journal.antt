@@ -4,12 +4,13 @@
 use Prim.Native.Nat.{ℕ, _+_, _-_, _≤_, _<_}
 use mathlib.Core.Path.{_≡_}
 use mathlib.Core.Bool.{Bool, true, false, cond, _&&_}
-use mathlib.Core.List.{List, [], _∷_, _++_, dropLast}
+use mathlib.Core.List.{List, [], _∷_, _++_, dropLast, getLastD}
 use lib.Dec.{eqb, leb}
 use lib.ListN.{length, getD, set, take, drop, replicate}
 use Rattle.bundle.specs.declared.half.Halves.{Halves}
 use Rattle.journal.specs.declared.records.Record.{Record}
 use Rattle.journal.specs.declared.records.Journal.{Journal}
+use Rattle.journal.specs.declared.records.View.{View}
 
 -- so many records may stand
 abbrev pub limit : ℕ
@@ -49,6 +50,10 @@ journalOf rs = record { count = length rs; records = rs ++ replicate (limit - le
 -- a valid journal, of `limit` places: the count is at most the limit, those that stand may, and the places past the count are free
 unfoldable pub validOf : Journal → Bool
 validOf j = eqb (length (j .records)) limit && leb (j .count) limit && all mayStand (standing j) && all isFree (drop (j .count) (j .records))
+
+-- what a journal shows: that it is valid, how many records stand and the last of them; nothing of one that isn't valid
+unfoldable pub viewOf : Journal → View
+viewOf j = cond (validOf j) (record { valid = true; count = length (standing j); last = getLastD (standing j) noRecord }) (record { valid = false; count = 0; last = noRecord })
 
 -- what a place has to hold, by whether its record stands
 abbrev pub placeValid : Bool → Record → Bool

@@ -1,14 +1,14 @@
--- How `edit` and `undo` go about it: a plan decided on values, and then carried out. What they come to is said in `Edit.antt`. Assumes nothing.
+-- How `edit` and `undo` go about it: a plan, decided by the code and what the journal shows, and then carried out. What they come to is
+-- said in `Edit.antt`. Assumes nothing.
 use Prim.Native.Nat.{ℕ, _+_, _-_}
-use mathlib.Core.Bool.{Bool}
 use mathlib.Core.List.{List}
 use Rattle.answer.specs.Answer.{first, outcome, accepted}
 use Rattle.bundle.specs.Bundle.{halvesOf, whole}
 use Rattle.form.specs.declared.Edit.{Edit}
 use Rattle.journal.specs.Journal.{noRecord, withRecord}
 use Rattle.journal.specs.Edit.{Outcome, rewritten, recordOf, editRefusals, undoRefusals}
-use Rattle.journal.specs.declared.records.Record.{Record}
 use Rattle.journal.specs.declared.records.Journal.{Journal}
+use Rattle.journal.specs.declared.records.View.{View}
 use Rattle.journal.specs.declared.plan.Plan.{Plan}
 
 -- a refused plan: zeros but for its answer
@@ -16,18 +16,19 @@ abbrev pub refusedPlan : ℕ → Plan
 refusedPlan answer = record { answer = answer; bundle = 0; halves = halvesOf 0; place = 0; kept = noRecord; count = 0 }
 
 -- an edit keeps its record at the first free place
-unfoldable pub editPlanOf : List ℕ → Bool → ℕ → Edit → Plan
-editPlanOf code valid count e =
-    let answer = first (editRefusals code valid count e) in
+unfoldable pub editPlanOf : List ℕ → View → Edit → Plan
+editPlanOf code view e =
+    let answer = first (editRefusals code view e) in
     let r = recordOf code e in
-    outcome answer (record { answer = accepted; bundle = e .bundle; halves = r .new; place = count; kept = r; count = count + 1 }) (refusedPlan answer)
+    outcome answer (record { answer = accepted; bundle = e .bundle; halves = r .new; place = view .count; kept = r; count = view .count + 1 }) (refusedPlan answer)
 
 -- an undo frees the last record's place
-unfoldable pub undoPlanOf : List ℕ → Bool → ℕ → Record → Plan
-undoPlanOf code valid count last =
-    let answer = first (undoRefusals code valid count last) in
+unfoldable pub undoPlanOf : List ℕ → View → Plan
+undoPlanOf code view =
+    let answer = first (undoRefusals code view) in
+    let r = view .last in
     outcome answer
-    (record { answer = accepted; bundle = last .bundle; halves = last .old; place = count - 1; kept = noRecord; count = count - 1 })
+    (record { answer = accepted; bundle = r .bundle; halves = r .old; place = view .count - 1; kept = noRecord; count = view .count - 1 })
     (refusedPlan answer)
 
 -- the bundle of an accepted plan written to the code, and its record kept in the journal

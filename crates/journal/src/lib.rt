@@ -5,14 +5,16 @@ mod records;
 pub use records::Edited;
 pub use records::Journal;
 pub use records::LIMIT;
+pub use records::NONE;
 pub use records::Record;
+pub use records::View;
 pub use records::empty;
+pub use records::journal_of;
 pub use records::may_stand;
-pub use records::record_at;
-pub use records::valid;
+pub use records::places;
+pub use records::view_of;
 pub use records::with_record;
 ghost use mathlib.Core.Path.{_≡_};
-ghost use Prim.Native.Nat.{_-_};
 ghost use Rattle.answer.specs.Answer.{accepted};
 ghost use Rattle.bundle.specs.Bundle.{findAnswer, whole};
 ghost use Rattle.journal.specs.Edit.{Outcome, rewritten, editOf, undoOf};
@@ -26,8 +28,7 @@ use plan::Plan;
 pub fn edit(code: &mut [u8], journal: Journal, edit: Edit) -> Edited
     ensures { λ r. ⌜ _≡_ {A = Outcome} (record { answer = r .answer; journal = r .journal; code = now (code .exit) }) (editOf (now (code .entry)) journal edit) ⌝ }
 {
-    let count = journal.count;
-    let plan = plan::edit_plan(code, valid(journal), count, edit);
+    let plan = plan::edit_plan(code, view_of(journal), edit);
     carry_out(code, journal, plan)
 }
 
@@ -35,9 +36,7 @@ pub fn edit(code: &mut [u8], journal: Journal, edit: Edit) -> Edited
 pub fn undo(code: &mut [u8], journal: Journal) -> Edited
     ensures { λ r. ⌜ _≡_ {A = Outcome} (record { answer = r .answer; journal = r .journal; code = now (code .exit) }) (undoOf (now (code .entry)) journal) ⌝ }
 {
-    let count = journal.count;
-    let last = record_at(journal, one_less(count));
-    let plan = plan::undo_plan(code, valid(journal), count, last);
+    let plan = plan::undo_plan(code, view_of(journal));
     carry_out(code, journal, plan)
 }
 
@@ -50,11 +49,11 @@ fn carry_out(code: &mut [u8], journal: Journal, plan: Plan) -> Edited
     if answer != ACCEPTED {
         return Edited { answer, journal };
     }
+    let kept = plan.kept;
+    let edited = with_record(journal, plan.place, kept, plan.count);
     let halves = plan.halves;
     rewrite(code, plan.bundle, halves);
-    let kept = plan.kept;
-    let journal = with_record(journal, plan.place, kept, plan.count);
-    Edited { answer, journal }
+    edited
 }
 
 // Lends a bundle's sixteen bytes on to be written.
@@ -64,13 +63,4 @@ fn rewrite(code: &mut [u8], bundle: u64, halves: Halves)
 {
     let at = bundle as usize * 16;
     bundle::write(&mut code[at..at + 16], halves);
-}
-
-fn one_less(count: u64) -> u64
-    ensures { λ r. ⌜ r ≡ count - 1 ⌝ }
-{
-    if count == 0 {
-        return 0;
-    }
-    count - 1
 }

@@ -6,6 +6,7 @@ ghost use Rattle.journal.specs.Plan.{refusedPlan, editPlanOf, undoPlanOf
 use crate::records::LIMIT;
 use crate::records::NONE;
 use crate::records::Record;
+use crate::records::View;
 use answer::ACCEPTED;
 use answer::BAD_JOURNAL;
 use answer::EMPTY;
@@ -40,8 +41,8 @@ fn refused(answer: u8) -> Plan
 }
 
 // An edit keeps its record at the first free place.
-pub fn edit_plan(code: &[u8], valid: bool, count: u64, edit: Edit) -> Plan
-    ensures { λ r. ⌜ r ≡ editPlanOf (now (code .entry)) valid count edit ⌝ }
+pub fn edit_plan(code: &[u8], view: View, edit: Edit) -> Plan
+    ensures { λ r. ⌜ r ≡ editPlanOf (now (code .entry)) view edit ⌝ }
 {
     let bundle = edit.bundle;
     let loaded = bundle::load(code, bundle);
@@ -55,7 +56,8 @@ pub fn edit_plan(code: &[u8], valid: bool, count: u64, edit: Edit) -> Plan
     if unfit != ACCEPTED {
         return refused(unfit);
     }
-    let answer = room_refusal(valid, count);
+    let count = view.count;
+    let answer = room_refusal(view);
     if answer != ACCEPTED {
         return refused(answer);
     }
@@ -71,28 +73,29 @@ pub fn edit_plan(code: &[u8], valid: bool, count: u64, edit: Edit) -> Plan
 }
 
 // Why no record can be added.
-fn room_refusal(valid: bool, count: u64) -> u8
-    ensures { λ r. ⌜ r ≡ first (roomRefusals valid count) ⌝ }
+fn room_refusal(view: View) -> u8
+    ensures { λ r. ⌜ r ≡ first (roomRefusals view) ⌝ }
 {
-    if !valid {
+    if !view.valid {
         return BAD_JOURNAL;
     }
-    if LIMIT <= count {
+    if LIMIT <= view.count {
         return FULL;
     }
     ACCEPTED
 }
 
 // An undo frees the last record's place.
-pub fn undo_plan(code: &[u8], valid: bool, count: u64, last: Record) -> Plan
-    ensures { λ r. ⌜ r ≡ undoPlanOf (now (code .entry)) valid count last ⌝ }
+pub fn undo_plan(code: &[u8], view: View) -> Plan
+    ensures { λ r. ⌜ r ≡ undoPlanOf (now (code .entry)) view ⌝ }
 {
-    let answer = undo_refusal(code, valid, count, last);
+    let answer = undo_refusal(code, view);
     if answer != ACCEPTED {
         return refused(answer);
     }
+    let last = view.last;
     let halves = last.old;
-    let place = count - 1;
+    let place = view.count - 1;
     Plan {
         answer,
         bundle: last.bundle,
@@ -104,18 +107,19 @@ pub fn undo_plan(code: &[u8], valid: bool, count: u64, last: Record) -> Plan
 }
 
 // Why the last record can't be undone.
-fn undo_refusal(code: &[u8], valid: bool, count: u64, last: Record) -> u8
-    ensures { λ r. ⌜ r ≡ first (undoRefusals (now (code .entry)) valid count last) ⌝ }
+fn undo_refusal(code: &[u8], view: View) -> u8
+    ensures { λ r. ⌜ r ≡ first (undoRefusals (now (code .entry)) view) ⌝ }
 {
     if bundle::LONGEST_CODE < code.len() {
         return TOO_LONG;
     }
-    if !valid {
+    if !view.valid {
         return BAD_JOURNAL;
     }
-    if count == 0 {
+    if view.count == 0 {
         return EMPTY;
     }
+    let last = view.last;
     let loaded = bundle::load(code, last.bundle);
     if loaded.answer != ACCEPTED {
         return EXHAUSTED_INPUT;

@@ -1,7 +1,11 @@
 // The journal: the records that stand, the oldest first, and zeros in the places that are free.
 ghost use mathlib.Core.Path.{_≡_};
 ghost use mathlib.Core.List.{[]};
-ghost use Rattle.journal.specs.Journal.{isZero, isFree, mayStand, placeValid, validOf, journalOf, recordAt, withRecord};
+ghost use Prim.Native.Nat.{_≤_};
+ghost use lib.ListN.{take};
+ghost use Rattle.answer.specs.Answer.{accepted};
+ghost use Rattle.journal.specs.Journal.{limit, isZero, isFree, mayStand, placeValid, journalOf, viewOf, withRecord};
+use answer::ACCEPTED;
 use bundle::Halves;
 
 // So many records may stand.
@@ -17,9 +21,17 @@ pub struct Record {
     pub new: Halves,
 }
 
+// Only the functions of this file reach its records.
 pub struct Journal {
     pub count: u64,
-    pub records: [Record; LIMIT as usize],
+    records: [Record; LIMIT as usize],
+}
+
+// What a journal shows: whether it is valid, how many records stand, and the last of them.
+pub struct View {
+    pub valid: bool,
+    pub count: u64,
+    pub last: Record,
 }
 
 // What a call answers, and the journal after it.
@@ -44,26 +56,39 @@ pub fn empty() -> Journal
     }
 }
 
-// The record at a place.
-pub fn record_at(journal: Journal, place: u64) -> Record
-    ensures { λ r. ⌜ r ≡ recordAt journal place ⌝ }
+// What a journal holds at its places, of which the first `count` are the standing records.
+pub fn places(journal: Journal) -> [Record; LIMIT as usize]
+    ensures { λ r. ⌜ r ≡ journal .records ⌝ }
 {
-    if place < LIMIT {
-        journal.records[place as usize]
-    } else {
-        NONE
-    }
+    let records = journal.records;
+    records
 }
 
-// The journal with a record at a place, and so many standing.
-pub fn with_record(mut journal: Journal, place: u64, one: Record, count: u64) -> Journal
-    ensures { λ r. ⌜ r ≡ withRecord journal place one count ⌝ }
+// The journal of the first `count` of some records.
+pub fn journal_of(count: u64, mut records: [Record; LIMIT as usize]) -> Journal
+    requires { ⌜ count ≤ limit ⌝ }
+    ensures { λ r. ⌜ r ≡ journalOf (take count records) ⌝ }
+{
+    let mut place = count;
+    while place < LIMIT {
+        records[place as usize] = NONE;
+        place += 1;
+    }
+    Journal { count, records }
+}
+
+// An accepted answer, with a record set at a place of the journal, and so many standing.
+pub fn with_record(mut journal: Journal, place: u64, one: Record, count: u64) -> Edited
+    ensures { λ r. ⌜ r ≡ record { answer = accepted; journal = withRecord journal place one count } ⌝ }
 {
     if place < LIMIT {
         journal.records[place as usize] = one;
     }
     journal.count = count;
-    journal
+    Edited {
+        answer: ACCEPTED,
+        journal,
+    }
 }
 
 fn is_zero(halves: Halves) -> bool
@@ -101,16 +126,25 @@ fn place_valid(stands: bool, one: Record) -> bool
     if stands { may_stand(one) } else { is_free(one) }
 }
 
-// The count is at most the limit, the records that stand may, and the places past the count are free.
-pub fn valid(journal: Journal) -> bool
-    ensures { λ r. ⌜ r ≡ validOf journal ⌝ }
+// Whether the count is at most the limit, the records that stand may, and the places past the count are free; and if so what is shown.
+pub fn view_of(journal: Journal) -> View
+    ensures { λ r. ⌜ r ≡ viewOf journal ⌝ }
 {
     let count = journal.count;
     let mut valid = count <= LIMIT;
     let mut place = 0;
     while place < LIMIT {
-        valid = valid & place_valid(place < count, record_at(journal, place));
+        let one = journal.records[place as usize];
+        valid = valid & place_valid(place < count, one);
         place += 1;
     }
-    valid
+    if !valid || count == 0 {
+        return View {
+            valid,
+            count: 0,
+            last: NONE,
+        };
+    }
+    let last = journal.records[(count - 1) as usize];
+    View { valid, count, last }
 }

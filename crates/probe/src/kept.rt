@@ -37,7 +37,8 @@ pub fn journal(kept: &[u64]) -> Journal {
     let mut j = journal::empty();
     let mut i = 0;
     while i < journal::LIMIT {
-        j = journal::with_record(j, i, place(kept, i as usize * 5), count);
+        let edited = journal::with_record(j, i, place(kept, i as usize * 5), count);
+        j = edited.journal;
         i += 1;
     }
     j
@@ -69,9 +70,11 @@ pub fn keep(kept: &mut [u64], edited: Edited) -> u8 {
 
 fn set_journal(kept: &mut [u64], j: Journal) {
     set(kept, 0, j.count);
+    let records = journal::places(j);
     let mut i = 0;
-    while i < journal::LIMIT {
-        set_place(kept, i as usize * 5 + 1, numbers(journal::record_at(j, i)));
+    while i < journal::LIMIT as usize {
+        let one = records[i];
+        set_place(kept, i * 5 + 1, numbers(one));
         i += 1;
     }
 }

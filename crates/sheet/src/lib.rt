@@ -29,7 +29,8 @@ pub const CAPACITY: usize = 5707;
 pub fn write(journal: Journal, out: &mut [u8]) -> Written
     ensures { λ r. ⌜ (r, now (out .exit)) ≡ wroteOf (writeRefusals journal) (sheetOf journal) (now (out .entry)) ⌝ }
 {
-    if !journal::valid(journal) {
+    let view = journal::view_of(journal);
+    if !view.valid {
         return Written {
             answer: BAD_JOURNAL,
             length: 0,
@@ -68,10 +69,12 @@ fn put_sheet(out: &mut [u8], journal: Journal) -> usize
     let count = journal.count;
     let start = text::put_text(out, 0, b"patches\t");
     let mut at = text::put_field(out, start, count, NEWLINE);
-    let mut i = 0;
-    while i < count {
-        at = line::put_line(out, at, journal::record_at(journal, i));
-        i += 1;
+    let records = journal::places(journal);
+    let mut place = 0;
+    while place < count {
+        let one = records[place as usize];
+        at = line::put_line(out, at, one);
+        place += 1;
     }
     at
 }
@@ -87,7 +90,7 @@ pub fn load(journal: Journal, text: &[u8]) -> Edited
     if journal::LIMIT < count {
         return refused(journal);
     }
-    let mut loaded = journal::empty();
+    let mut records = [journal::NONE; journal::LIMIT as usize];
     let mut at = first;
     let mut place = 0;
     while place < count {
@@ -95,7 +98,7 @@ pub fn load(journal: Journal, text: &[u8]) -> Edited
         let Line::Read(one, next) = line else {
             return refused(journal);
         };
-        loaded = journal::with_record(loaded, place, one, place + 1);
+        records[place as usize] = one;
         at = next;
         place += 1;
     }
@@ -104,7 +107,7 @@ pub fn load(journal: Journal, text: &[u8]) -> Edited
     }
     Edited {
         answer: ACCEPTED,
-        journal: loaded,
+        journal: journal::journal_of(count, records),
     }
 }
 

@@ -11,16 +11,17 @@ unfolding carriedOut
 returns c = sym (refuses _ _ _ (c .if1 .taken))
 
 rewrite-requires : tie.Need-rewrite-requires
-rewrite-requires c κs = let e = c .before .before in e .before .before .pre (e .if1 .left)
+rewrite-requires c κs = let e = c .before .before .before .before in e .before .before .pre (e .if1 .left)
 
 returns-2 : tie.Need-returns-2
 unfolding carriedOut
 returns-2 c =
-    let w = c .before .before .before .before in
-    let e = w .before .before .before in
-    let kept = c .with-record .ensures in
+    let w = c .before .before in
+    let k = w .before .before .before in
+    let e = k .before .before in
+    let edited = k .with-record .ensures in
     let code = w .rewrite .ensures in
-    (λ i. record { answer = e .if1 .left i; journal = kept i; code = code i }) ∙ sym (accepts _ _ _ (e .if1 .left))
+    (λ i. record { answer = edited i .answer; journal = edited i .journal; code = code i }) ∙ sym (accepts _ _ _ (e .if1 .left))
 
 pub carry-out-spec : {M : Type 1} → statement M
-carry-out-spec = tie.close (tie.spec returns rewrite-requires (λ c κs. search needs) (λ c. search needs) returns-2)
+carry-out-spec = tie.close (tie.spec returns (λ c κs. search needs) rewrite-requires (λ c. search needs) returns-2)

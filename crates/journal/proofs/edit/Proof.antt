@@ -1,31 +1,29 @@
 -- `edit` meets its contract: the plan of an edit, carried out, is the edit. Assumes nothing.
 use mathlib.Core.Path.{_≡_, _∙_, ap, subst, sym}
-use mathlib.Core.Bool.{Bool}
 use borrow.Author.Needs.{needs}
 use denote.Ref.{now}
 use Rattle.bundle.specs.Bundle.{findAnswer}
 use Rattle.answer.specs.Answer.{accepted}
-use Rattle.journal.specs.Journal.{validOf}
+use Rattle.journal.specs.Journal.{viewOf}
 use Rattle.journal.specs.Plan.{editPlanOf, carriedOut}
 use Rattle.journal.specs.declared.plan.Plan.{Plan}
+use Rattle.journal.specs.declared.records.View.{View}
 use Rattle.journal.proofs.Laws.{edit-found, edit-carried}
 use Rattle.journal.proofs.edit.Statement.{statement}
 use Rattle.journal.proofs.edit.Tie as tie
 
 -- the plan that was made
-planned : (c : tie.After-edit-plan) →
-    let a = c .before .before .before .before .args in
-    c .edit-plan .result ≡ editPlanOf (now (a .code)) (validOf (a .journal)) (a .journal .count) (a .edit)
+planned : (c : tie.After-edit-plan) → let a = c .before .before .before .before .args in c .edit-plan .result ≡ editPlanOf (now (a .code)) (viewOf (a .journal)) (a .edit)
 planned c =
     let a = c .before .before .before .before .args in
-    c .edit-plan .ensures ∙ ap (λ (v : Bool). editPlanOf (now (a .code)) v (a .journal .count) (a .edit)) (c .before .valid .ensures)
+    c .edit-plan .ensures ∙ ap (λ (v : View). editPlanOf (now (a .code)) v (a .edit)) (c .before .view-of .ensures)
 
 carry-out-requires : tie.Need-carry-out-requires
 carry-out-requires c κs =
     let p = c .before in
     let a = p .before .before .before .before .args in
     subst (λ (plan : Plan). plan .answer ≡ accepted → findAnswer (now (a .code)) (plan .bundle) ≡ accepted) (sym (planned p))
-    (edit-found (now (a .code)) (a .edit) (validOf (a .journal)) (a .journal .count))
+    (edit-found (now (a .code)) (a .edit) (viewOf (a .journal)))
 
 returns : tie.Need-returns
 returns c =

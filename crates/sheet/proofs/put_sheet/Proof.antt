@@ -1,13 +1,14 @@
 -- `sheet::put_sheet` meets its contract: the first line and the records' lines, one after the other. The loop's invariant: the lines of
--- the first `i` records are written. Assumes nothing.
-use mathlib.Core.Path.{_≡_, _∙_}
-use Prim.Native.Nat.{_-_, _^_, _≤_, _<_}
+-- the records before this place are written. Assumes nothing.
+use mathlib.Core.Path.{_≡_, sym, ap, ap₂, _∙_}
+use mathlib.Core.List.{List}
+use Prim.Native.Nat.{ℕ, _-_, _^_, _≤_, _<_}
 use native.Mathlib.Omega.{arith}
 use borrow.Author.Needs.{needs}
-use lib.ListN.{length, getD, take}
-use lib.Seq.{take-all}
-use Rattle.journal.specs.Journal.{noRecord, standing}
-use Rattle.journal.proofs.Standing.{valid-counts, valid-reads}
+use lib.ListN.{length, take}
+use Rattle.journal.specs.Journal.{limit, standing}
+use Rattle.journal.specs.declared.records.Record.{Record}
+use Rattle.journal.proofs.Standing.{standing-places, valid-counts, valid-few, valid-places}
 use Rattle.text.specs.Put.{Put}
 use Rattle.text.proofs.Writing.{put-none, put-then, put-length}
 use Rattle.sheet.specs.Sheet.{linesOf, sheetOf}
@@ -16,57 +17,62 @@ use Rattle.sheet.proofs.put_sheet.Statement.{statement}
 use Rattle.sheet.proofs.put_sheet.Tie as tie
 
 abbrev Inv-loop : tie.InvT-loop
-Inv-loop out₀ journal count start at₀ i₀ out at i = (i ≤ count) × Put out₀ at₀ (linesOf (take i (standing journal))) out at
+Inv-loop out₀ count start at₀ records place₀ out at place = (place ≤ count) × Put out₀ at₀ (linesOf (take place records)) out at
 
 abbrev μ-loop : tie.MeasureT-loop
-μ-loop out₀ journal count start at₀ i₀ out at i = count - i
+μ-loop out₀ count start at₀ records place₀ out at place = count - place
 
 abbrev entry : tie.At-loop Inv-loop μ-loop → tie.Start Inv-loop μ-loop
-entry l = l .before .before .before .before .before .before .before .before .before .before .before
+entry l = l .before .before .before .before .before .before .before .before .before .before .before .before
 
--- as many records stand as the journal counts
-counts : (c : tie.Start Inv-loop μ-loop) → c .args .journal .count ≡ length (standing (c .args .journal))
-counts c = valid-counts (c .args .journal) (c .pre)
+-- as many records stand as the journal counts, and there are as many places as may stand
+module _ (l : tie.At-loop Inv-loop μ-loop) where
+  counts : entry l .args .journal .count ≡ length (standing (entry l .args .journal))
+  counts = valid-counts (entry l .args .journal) (entry l .pre)
 
--- the record that is read in a turn
-turn : (c : tie.After-record-at Inv-loop μ-loop) → let l = c .before .before .before in c .record-at .result ≡ getD (standing (entry l .args .journal)) (l .loop .i) noRecord
-turn c = let l = c .before .before .before in c .record-at .ensures ∙ valid-reads (entry l .args .journal) (entry l .pre) (l .loop .i)
+  few : entry l .args .journal .count ≤ limit
+  few = omega (arith, counts, valid-few (entry l .args .journal) (entry l .pre))
 
-turn-stands : (c : tie.In-loop Inv-loop μ-loop) → c .before .loop .i < length (standing (entry (c .before) .args .journal))
-turn-stands c = omega (arith, counts (entry (c .before)), c .loop-test .taken)
+  places : length (l .before .places .result) ≡ limit
+  places = ap length (l .before .places .ensures) ∙ valid-places (entry l .args .journal) (entry l .pre)
 
 short : (c : tie.Start Inv-loop μ-loop) → length (c .args .out .now) < 2 ^ 64
 short c = omega arith
 
 -- the output is as long after the first line as before it
-room : (l : tie.At-loop Inv-loop μ-loop) → length (l .before .before .before .put-field .last .0) ≡ length (entry l .args .out .now)
-room l = put-length (l .before .before .before .put-field .ensures) ∙ put-length (l .before .before .before .before .before .before .before .put-text .ensures)
+room : (l : tie.At-loop Inv-loop μ-loop) → length (l .before .before .before .before .put-field .last .0) ≡ length (entry l .args .out .now)
+room l = put-length (l .before .before .before .before .put-field .ensures) ∙ put-length (l .before .before .before .before .before .before .before .before .put-text .ensures)
 
 loop-holds : tie.Need-loop-holds Inv-loop μ-loop
-loop-holds c = (search needs, put-none (omega (arith, c .before .before .put-field .ensures .place)))
+loop-holds c = (search needs, put-none (omega (arith, c .before .before .before .put-field .ensures .place)))
 
 loop-again : tie.Need-loop-again Inv-loop μ-loop
 loop-again c =
-    let r = c .before .before .before in
-    let t = r .before .before in
+    let t = c .before .before .before .before .before in
     let l = t .before in
-    let rs = standing (entry l .args .journal) in
-    let put = rw (turn r) at (c .before .before .put-line .ensures) in
-    (search needs, rw (lines-more rs (l .loop .i) (turn-stands t)) (put-then (omega (arith, short (entry l), room l)) (l .loop .inv .1) put))
+    let more = lines-more (l .before .places .result) (l .loop .place) (omega (arith, places l, few l, t .loop-test .taken)) in
+    (search needs, rw more (put-then (omega (arith, short (entry l), room l)) (l .loop .inv .1) (c .before .before .put-line .ensures)))
 
 same-length : tie.Need-same-length Inv-loop μ-loop
 same-length c =
     let l = c .before in
     put-length (l .loop .inv .1) ∙ room l
 
+-- the records that were written
+written : (c : tie.After-loop Inv-loop μ-loop) → let l = c .before in take (l .loop .place) (l .before .places .result) ≡ standing (entry l .args .journal)
+written c =
+    let l = c .before in
+    let j = entry l .args .journal in
+    let all : l .loop .place ≡ j .count = omega (arith, l .loop .inv .0, c .loop-test .left) in
+    ap₂ (λ (n : ℕ) (rs : List Record). take n rs) all (l .before .places .ensures) ∙ sym (standing-places j)
+
 returns : tie.Need-returns Inv-loop μ-loop
 unfolding sheetOf
 returns c =
     let l = c .before in
-    let rs = standing (entry l .args .journal) in
-    let all = take-all (l .loop .i) rs (omega (arith, counts (entry l), c .loop-test .left)) in
-    let count = counts (entry l) in
-    put-then (short (entry l)) (put-then (short (entry l)) (l .before .before .before .before .before .before .before .put-text .ensures) (rw count at (l .before .before .before .put-field .ensures))) (rw all at (l .loop .inv .1))
+    let count = counts l in
+    let records = written c in
+    put-then (short (entry l)) (put-then (short (entry l)) (l .before .before .before .before .before .before .before .before .put-text .ensures) (rw count at (l .before .before .before .before .put-field .ensures))) (rw records at (l .loop .inv .1))
 
 pub put-sheet-spec : {M : Type 1} → statement M
 put-sheet-spec =
@@ -77,8 +83,10 @@ put-sheet-spec =
     (λ c. search needs)
     (λ c κs. search needs)
     (λ c κs. search needs)
-    loop-holds
     (λ c κs. search needs)
+    loop-holds
+    (λ c. omega (arith, few (c .before), c .loop-test .taken))
+    (λ c. omega (arith, few (c .before), c .loop-test .taken))
     (λ c κs. search needs)
     (λ c. search needs)
     (λ c. search needs)

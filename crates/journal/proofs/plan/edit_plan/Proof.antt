@@ -32,7 +32,7 @@ module _ (c : tie.After-load) where
   changing = changeRefusals (numberAt (now (c .before .before .args .code)) (c .before .before .args .edit .bundle)) (c .before .before .args .edit)
 
   room : List Refusal
-  room = roomRefusals (c .before .before .args .valid) (c .before .before .args .count)
+  room = roomRefusals (c .before .before .args .view)
 
   is-loaded : Loading (now (c .before .before .args .code)) (c .before .before .args .edit .bundle) (c .load .result)
   is-loaded = let known = c .before in loading (now (known .before .args .code)) (known .before .args .edit .bundle) (λ i. known .shared-slice-known .given i .fits) (c .load .ensures)
@@ -75,7 +75,7 @@ returns-2 c =
 -- what the journal answers, once the change is accepted
 answers : (c : tie.After-room-refusal) →
     let a = c .before .before .before .before .before .before .before .args in
-    first (editRefusals (now (a .code)) (a .valid) (a .count) (a .edit)) ≡ c .room-refusal .result
+    first (editRefusals (now (a .code)) (a .view) (a .edit)) ≡ c .room-refusal .result
 unfolding finding changing room
 answers c =
     let p = c .before .before in
@@ -91,7 +91,7 @@ add-count : tie.Need-add-t15
 add-count c =
     let e = c .before in
     let a = e .before .before .before .before .before .before .before .before .args in
-    omega (arith, leb-false limit (a .count) (none-applies (roomRefusals (a .valid) (a .count)) tt (sym (e .before .room-refusal .ensures) ∙ e .if3 .left) .1 .0))
+    omega (arith, leb-false limit (a .view .count) (none-applies (roomRefusals (a .view)) tt (sym (e .before .room-refusal .ensures) ∙ e .if3 .left) .1 .0))
 
 returns-4 : tie.Need-returns-4
 unfolding editPlanOf changing findAnswer finding
@@ -107,9 +107,9 @@ returns-4 c =
       answer = e .if3 .left i;
       bundle = a .edit .bundle;
       halves = change i .bundle;
-      place = a .count;
+      place = a .view .count;
       kept = record { bundle = a .edit .bundle; old = loaded i .halves; new = change i .bundle };
-      count = a .count + 1;
+      count = a .view .count + 1;
     })
     ∙ sym (accepts _ _ _ (answers r ∙ e .if3 .left))
 

@@ -17,13 +17,14 @@ returns : tie.Need-returns
 unfolding undoPlanOf
 returns c = c .refused .ensures ∙ refused-is refusedPlan _ _ _ (sym (c .before .before .undo-refusal .ensures)) (c .before .if1 .taken)
 
-can-undo : (c : tie.Else1) → let a = c .before .before .before .args in first (undoRefusals (now (a .code)) (a .valid) (a .count) (a .last)) ≡ accepted
+can-undo : (c : tie.Else1) → let a = c .before .before .before .args in first (undoRefusals (now (a .code)) (a .view)) ≡ accepted
 can-undo c = sym (c .before .undo-refusal .ensures) ∙ c .if1 .left
 
 some-stand : tie.Need-sub-place
 some-stand c =
-    let a = c .before .before .before .before .args in
-    some (a .count) (eqb-false (a .count) 0 (none-applies (undoRefusals (now (a .code)) (a .valid) (a .count) (a .last)) tt (can-undo (c .before)) .1 .1 .0))
+    let e = c .before .before .before in
+    let a = e .before .before .before .args in
+    some (a .view .count) (eqb-false (a .view .count) 0 (none-applies (undoRefusals (now (a .code)) (a .view)) tt (can-undo e) .1 .1 .0))
   where
     some : (n : ℕ) → (n ≡ 0 → ⊥) → 1 ≤ n
     some zero d = absurd (d refl)
@@ -32,9 +33,9 @@ some-stand c =
 returns-2 : tie.Need-returns-2
 unfolding undoPlanOf
 returns-2 c =
-    let e = c .before in
+    let e = c .before .before .before in
     let a = e .before .before .before .args in
-    (λ i. record { answer = e .if1 .left i; bundle = a .last .bundle; halves = a .last .old; place = a .count - 1; kept = noRecord; count = a .count - 1 })
+    (λ i. record { answer = e .if1 .left i; bundle = a .view .last .bundle; halves = a .view .last .old; place = a .view .count - 1; kept = noRecord; count = a .view .count - 1 })
     ∙ sym (accepts _ _ _ (can-undo e))
 
 pub undo-plan-spec : {M : Type 1} → statement M

@@ -19,60 +19,71 @@ returns : tie.Need-returns
 returns c = rw (lt-ltb _ _ (c .if1 .taken))
 
 returns-2 : tie.Need-returns-2
-returns-2 c = rw (le-ltb _ _ (c .before .if1 .left), not-true (c .before .before .before .args .valid) (c .if2 .taken))
+returns-2 c =
+    let e = c .before .before in
+    rw (le-ltb _ _ (e .if1 .left), not-true (e .before .before .args .view .valid) (c .if2 .taken))
 
 returns-3 : tie.Need-returns-3
-returns-3 c = rw (le-ltb _ _ (c .before .before .if1 .left), not-false (c .before .before .before .before .args .valid) (c .before .if2 .left), eq-eqb _ 0 (c .if3 .taken))
+returns-3 c =
+    let e = c .before .before in
+    let d = e .before .before in
+    rw (le-ltb _ _ (d .if1 .left), not-false (d .before .before .args .view .valid) (e .if2 .left), eq-eqb _ 0 (c .if3 .taken))
 
 -- the refusals of the last record, where the others don't apply
 of-last : (c : tie.Else3) →
-    let a = c .before .before .before .before .args in
-    first (undoRefusals (now (a .code)) (a .valid) (a .count) (a .last)) ≡ first (drop 3 (undoRefusals (now (a .code)) (a .valid) (a .count) (a .last)))
+    let a = c .before .before .before .before .before .before .args in
+    first (undoRefusals (now (a .code)) (a .view)) ≡ first (drop 3 (undoRefusals (now (a .code)) (a .view)))
 of-last c =
-    let a = c .before .before .before .before .args in
-    rw (le-ltb _ _ (c .before .before .if1 .left), not-false (a .valid) (c .before .if2 .left), ne-eqb (a .count) 0 (c .if3 .left))
+    let e = c .before .before in
+    let d = e .before .before in
+    let a = d .before .before .args in
+    rw (le-ltb _ _ (d .if1 .left), not-false (a .view .valid) (e .if2 .left), ne-eqb (a .view .count) 0 (c .if3 .left))
+
+abbrev entry : tie.After-load → tie.Start
+entry c = c .before .before .before .before .before .before .before .before
 
 -- what was loaded
-is-loaded : (c : tie.After-load) → let a = c .before .before .before .before .before .args in Loading (now (a .code)) (a .last .bundle) (c .load .result)
+is-loaded : (c : tie.After-load) → let a = entry c .args in Loading (now (a .code)) (a .view .last .bundle) (c .load .result)
 is-loaded c =
-    let known = c .before .before .before .before in
-    loading (now (known .before .args .code)) (known .before .args .last .bundle) (λ i. known .shared-slice-known .given i .fits) (c .load .ensures)
+    let known = c .before .before .before .before .before .before .before in
+    loading (now (known .before .args .code)) (known .before .args .view .last .bundle) (λ i. known .shared-slice-known .given i .fits) (c .load .ensures)
 
 returns-4 : tie.Need-returns-4
 returns-4 c =
-    let e = c .before .before .before in
-    let a = e .before .before .before .before .args in
-    let out = past-the-end (now (a .code)) (a .last .bundle) (e .before .before .if1 .left) (λ q. c .if4 .taken (is-loaded (c .before .before) .answer ∙ q)) in
-    sym (of-last e ∙ rw (lt-ltb (length (now (a .code))) (16 * a .last .bundle + 16) out))
+    let l = c .before .before in
+    let e = l .before .before in
+    let a = entry l .args in
+    let out = past-the-end (now (a .code)) (a .view .last .bundle) (e .before .before .before .before .if1 .left) (λ q. c .if4 .taken (is-loaded l .answer ∙ q)) in
+    sym (of-last e ∙ rw (lt-ltb (length (now (a .code))) (16 * a .view .last .bundle + 16) out))
 
 -- the bundle that was found, and whether it is the record's new one
 module _ (c : tie.Else4) where
-  is-found : let a = c .before .before .before .before .before .before .before .args in findAnswer (now (a .code)) (a .last .bundle) ≡ accepted
+  is-found : let a = entry (c .before .before) .args in findAnswer (now (a .code)) (a .view .last .bundle) ≡ accepted
   is-found = sym (is-loaded (c .before .before) .answer) ∙ c .if4 .left
 
-  within : let a = c .before .before .before .before .before .before .before .args in 16 * a .last .bundle + 16 ≤ length (now (a .code))
+  within : let a = entry (c .before .before) .args in 16 * a .view .last .bundle + 16 ≤ length (now (a .code))
   within = lies _ _ is-found .within
 
-  present : let a = c .before .before .before .before .before .before .before .args in c .before .before .load .result ≡ record { answer = accepted; halves = halvesOf (numberAt (now (a .code)) (a .last .bundle)) }
+  present : let a = entry (c .before .before) .args in c .before .before .load .result ≡ record { answer = accepted; halves = halvesOf (numberAt (now (a .code)) (a .view .last .bundle)) }
   present = c .before .before .load .ensures ∙ loaded-found _ _ is-found
 
 same-is : (c : tie.After-same) →
-    let a = c .before .before .before .before .before .before .before .before .before .before .args in
-    c .same .result ≡ sameHalves (halvesOf (numberAt (now (a .code)) (a .last .bundle))) (a .last .new)
+    let a = entry (c .before .before .before .before .before) .args in
+    c .same .result ≡ sameHalves (halvesOf (numberAt (now (a .code)) (a .view .last .bundle))) (a .view .last .new)
 same-is c =
     let f = c .before .before .before in
-    let a = f .before .before .before .before .before .before .before .args in
-    c .same .ensures ∙ ap (λ (l : Loaded). sameHalves (l .halves) (a .last .new)) (present f)
+    let a = entry (f .before .before) .args in
+    c .same .ensures ∙ ap (λ (l : Loaded). sameHalves (l .halves) (a .view .last .new)) (present f)
 
 returns-5 : tie.Need-returns-5
 returns-5 c =
     let f = c .before .before .before .before in
-    sym (of-last (f .before .before .before) ∙ rw (le-ltb _ _ (within f), sym (same-is (c .before)) ∙ not-true _ (c .if5 .taken)))
+    sym (of-last (f .before .before .before .before) ∙ rw (le-ltb _ _ (within f), sym (same-is (c .before)) ∙ not-true _ (c .if5 .taken)))
 
 returns-6 : tie.Need-returns-6
 returns-6 c =
     let f = c .before .before .before .before in
-    sym (of-last (f .before .before .before) ∙ rw (le-ltb _ _ (within f), sym (same-is (c .before)) ∙ not-false _ (c .if5 .left)))
+    sym (of-last (f .before .before .before .before) ∙ rw (le-ltb _ _ (within f), sym (same-is (c .before)) ∙ not-false _ (c .if5 .left)))
 
 pub undo-refusal-spec : {M : Type 1} → statement M
 undo-refusal-spec =

@@ -8,10 +8,10 @@ use Rattle.probe.proofs.kept.set_journal.Statement.{statement}
 use Rattle.probe.proofs.kept.set_journal.Tie as tie
 
 abbrev Inv-loop : tie.InvT-loop
-Inv-loop kept₀ j i₀ kept i = (i ≤ limit) × (length kept ≡ length kept₀)
+Inv-loop kept₀ records i₀ kept i = (i ≤ limit) × (length kept ≡ length kept₀)
 
 abbrev μ-loop : tie.MeasureT-loop
-μ-loop kept₀ j i₀ kept i = limit - i
+μ-loop kept₀ records i₀ kept i = limit - i
 
 pub set-journal-spec : {M : Type 1} → statement M
 set-journal-spec =
@@ -20,10 +20,12 @@ set-journal-spec =
     Inv-loop
     μ-loop
     (λ c κs. search needs)
-    (λ c. search needs)
-    (λ c. search needs)
-    (λ c. search needs)
     (λ c κs. search needs)
+    (λ c. search needs)
+    (λ c. search needs)
+    (λ c. search needs)
+    (λ c. search needs)
+    (λ c. search needs)
     (λ c κs. search needs)
     (λ c κs. search needs)
     (λ c. search needs)

@@ -1,21 +1,24 @@
--- `valid` meets its contract: the journal is as valid as the places passed and those left. Assumes nothing.
+-- `view_of` meets its contract: the journal is as valid as the places passed and those left, and its last record stands before the count.
+-- Assumes nothing.
 use mathlib.Core.Path.{_≡_, refl, _∙_, ap, sym}
 use mathlib.Core.Bool.{Bool, true, false, _&&_, and-true, and-assoc}
 use mathlib.Core.List.{List, [], _∷_}
-use Prim.Native.Nat.{ℕ, zero, suc, _+_, _-_, _≤_, _<_}
+use mathlib.Core.Logic.{⊎-elim}
+use Prim.Native.Nat.{ℕ, zero, suc, _+_, _-_, _≤_, _<_, zero-le, suc-le-suc}
 use native.Mathlib.Decide.{decLt}
 use native.Mathlib.Numerals.{add-one}
 use native.Mathlib.Omega.{arith}
 use borrow.Author.Needs.{needs}
-use borrow.Author.Tests.{lt-ltb, le-ltb, eq-eqb}
+use borrow.Author.Tests.{lt-ltb, le-ltb, eq-eqb, eqb-true, eqb-false, not-true, not-false}
 use lib.Dec.{leb, ltb}
 use lib.ListN.{length, getD, take, drop, length-map, drop-of-length-le}
 use lib.Seq.{drop-cons}
 use Rattle.journal.specs.declared.records.Journal.{Journal}
 use Rattle.journal.specs.declared.records.Record.{Record}
 use Rattle.journal.specs.Journal.{limit, noRecord, isFree, mayStand, all, placeValid, standing, validOf, recordAt}
-use Rattle.journal.proofs.records.valid.Statement.{statement}
-use Rattle.journal.proofs.records.valid.Tie as tie
+use Rattle.journal.proofs.Standing.{valid-counts, valid-few, valid-view, empty-view, invalid-view}
+use Rattle.journal.proofs.records.view_of.Statement.{statement}
+use Rattle.journal.proofs.records.view_of.Tie as tie
 
 -- of some places the first n may stand, and the others are free
 abbrev Split : ℕ → List Record → Bool
@@ -64,8 +67,8 @@ abbrev μ-loop : tie.MeasureT-loop
 μ-loop journal count valid₀ place₀ valid place = limit - place
 
 -- an array has as many elements as its type says
-places : (c : tie.Start Inv-loop μ-loop) → length (c .args .journal .records) ≡ limit
-places c = sym (length-map (c .args .journal .records) _) ∙ c .good .0 .1 .1 .1 .0 .1 .0 .1
+places : (c : tie.Start Inv-loop μ-loop) → length (c .args .t1 .records) ≡ limit
+places c = sym (length-map (c .args .t1 .records) _) ∙ c .good .0 .1 .1 .1 .0 .1 .0 .1
 
 loop-holds : tie.Need-loop-holds Inv-loop μ-loop
 loop-holds c = (search needs, none-passed _ (places c))
@@ -74,26 +77,60 @@ loop-again : tie.Need-loop-again Inv-loop μ-loop
 loop-again c =
     let t = c .before .before in
     let l = t .before in
-    let j = l .before .args .journal in
-    let place = c .place-valid .ensures ∙ ap (placeValid (ltb (l .loop .place) (j .count))) (c .before .record-at .ensures) in
+    let j = l .before .args .t1 in
     let passed = one-passed j (l .loop .valid) (l .loop .place) (l .loop .inv .1) (omega (arith, places (l .before), t .loop-test .taken)) in
-    (search needs, passed ∙ ap (λ (b : Bool). (l .loop .valid && b) && Split (j .count - (l .loop .place + 1)) (drop (l .loop .place + 1) (j .records))) (sym place))
+    (search needs, passed ∙ ap (λ (b : Bool). (l .loop .valid && b) && Split (j .count - (l .loop .place + 1)) (drop (l .loop .place + 1) (j .records))) (sym (c .place-valid .ensures)))
+
+-- what the loop found
+found : (c : tie.After-loop Inv-loop μ-loop) → validOf (c .before .before .args .t1) ≡ c .before .loop .valid
+found c =
+    let l = c .before in
+    all-passed (l .before .args .t1) (l .loop .valid) (l .loop .place) (l .loop .inv .1) (omega (arith, places (l .before), c .loop-test .left))
 
 returns : tie.Need-returns Inv-loop μ-loop
 returns c =
     let l = c .before in
-    sym (all-passed (l .before .args .journal) (l .loop .valid) (l .loop .place) (l .loop .inv .1) (omega (arith, places (l .before), c .loop-test .left)))
+    let j = l .before .before .args .t1 in
+    ⊎-elim
+    (λ w. let no = not-true _ (w .taken) in ap (λ (v : Bool). record { valid = v; count = 0; last = noRecord }) no ∙ sym (invalid-view j (found l ∙ no)))
+    (λ w. let yes = not-false _ (w .0 .left) in ap (λ (v : Bool). record { valid = v; count = 0; last = noRecord }) yes ∙ sym (empty-view j (found l ∙ yes) (eqb-true (j .count) 0 (w .1 .taken))))
+    (c .if1 .came)
 
-pub valid-spec : {M : Type 1} → statement M
-valid-spec =
+is-valid : (c : tie.Else2 Inv-loop μ-loop) → validOf (c .before .before .before .before .args .t1) ≡ true
+is-valid c = found (c .before .before) ∙ not-false _ (c .before .if1 .left)
+
+-- the last place
+last-place : (c : tie.Else2 Inv-loop μ-loop) → let n = c .before .before .before .before .args .t1 .count in (0 < n) × (n ≤ limit)
+last-place c =
+    let j = c .before .before .before .before .args .t1 in
+    (some (j .count) (eqb-false (j .count) 0 (c .if2 .left)), omega (arith, valid-counts j (is-valid c), valid-few j (is-valid c)))
+  where
+    some : (n : ℕ) → (n ≡ 0 → ⊥) → 0 < n
+    some zero d = absurd (d refl)
+    some (suc n) d = suc-le-suc zero-le
+
+returns-2 : tie.Need-returns-2 Inv-loop μ-loop
+returns-2 c =
+    let e = c .before in
+    let j = e .before .before .before .before .args .t1 in
+    ap (λ (v : Bool). record { valid = v; count = j .count; last = recordAt j (j .count - 1) }) (not-false _ (e .before .if1 .left))
+    ∙ sym (valid-view j (is-valid e))
+
+pub view-of-spec : {M : Type 1} → statement M
+view-of-spec =
     tie.close
     (tie.spec
     Inv-loop
     μ-loop
     loop-holds
-    (λ c κs. search needs)
+    (λ c. search needs)
+    (λ c. search needs)
     (λ c κs. search needs)
     (λ c. search needs)
     (λ c. search needs)
     loop-again
-    returns)
+    returns
+    (λ c. last-place c .0)
+    (λ c. omega (arith, last-place c))
+    (λ c. omega (arith, last-place c))
+    returns-2)
