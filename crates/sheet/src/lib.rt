@@ -70,11 +70,11 @@ fn put_sheet(out: &mut [u8], journal: Journal) -> usize
     let start = text::put_text(out, 0, b"patches\t");
     let mut at = text::put_field(out, start, count, NEWLINE);
     let records = journal::places(journal);
-    let mut place = 0;
-    while place < count {
-        let one = records[place as usize];
+    let mut left = count;
+    while 0 < left {
+        let one = records[(count - left) as usize];
         at = line::put_line(out, at, one);
-        place += 1;
+        left -= 1;
     }
     at
 }

@@ -1,8 +1,8 @@
 -- `sheet::put_sheet` meets its contract: the first line and the records' lines, one after the other. The loop's invariant: the lines of
--- the records before this place are written. Assumes nothing.
+-- the records but the last `left` are written. Assumes nothing.
 use mathlib.Core.Path.{_≡_, sym, ap, ap₂, _∙_}
 use mathlib.Core.List.{List}
-use Prim.Native.Nat.{ℕ, _-_, _^_, _≤_, _<_}
+use Prim.Native.Nat.{ℕ, _+_, _-_, _^_, _≤_, _<_}
 use native.Mathlib.Omega.{arith}
 use borrow.Author.Needs.{needs}
 use lib.ListN.{length, take}
@@ -17,10 +17,10 @@ use Rattle.sheet.proofs.put_sheet.Statement.{statement}
 use Rattle.sheet.proofs.put_sheet.Tie as tie
 
 abbrev Inv-loop : tie.InvT-loop
-Inv-loop out₀ count start at₀ records place₀ out at place = (place ≤ count) × Put out₀ at₀ (linesOf (take place records)) out at
+Inv-loop out₀ count start at₀ records left₀ out at left = (left ≤ count) × Put out₀ at₀ (linesOf (take (count - left) records)) out at
 
 abbrev μ-loop : tie.MeasureT-loop
-μ-loop out₀ count start at₀ records place₀ out at place = count - place
+μ-loop out₀ count start at₀ records left₀ out at left = left
 
 abbrev entry : tie.At-loop Inv-loop μ-loop → tie.Start Inv-loop μ-loop
 entry l = l .before .before .before .before .before .before .before .before .before .before .before .before
@@ -44,14 +44,19 @@ room : (l : tie.At-loop Inv-loop μ-loop) → length (l .before .before .before 
 room l = put-length (l .before .before .before .before .put-field .ensures) ∙ put-length (l .before .before .before .before .before .before .before .before .put-text .ensures)
 
 loop-holds : tie.Need-loop-holds Inv-loop μ-loop
-loop-holds c = (search needs, put-none (omega (arith, c .before .before .before .put-field .ensures .place)))
+loop-holds c =
+    let n = c .before .before .before .before .before .before .before .before .before .before .before .args .journal .count in
+    let none : n - n ≡ 0 = omega arith in
+    (search needs, rw none (put-none (omega (arith, c .before .before .before .put-field .ensures .place))))
 
 loop-again : tie.Need-loop-again Inv-loop μ-loop
 loop-again c =
     let t = c .before .before .before .before .before in
     let l = t .before in
-    let more = lines-more (l .before .places .result) (l .loop .place) (omega (arith, places l, few l, t .loop-test .taken)) in
-    (search needs, rw more (put-then (omega (arith, short (entry l), room l)) (l .loop .inv .1) (c .before .before .put-line .ensures)))
+    let n = entry l .args .journal .count in
+    let next : n - (l .loop .left - 1) ≡ n - l .loop .left + 1 = omega (arith, l .loop .inv .0, t .loop-test .taken) in
+    let more = lines-more (l .before .places .result) (n - l .loop .left) (omega (arith, places l, few l, l .loop .inv .0, t .loop-test .taken)) in
+    (search needs, rw (next, more) (put-then (omega (arith, short (entry l), room l)) (l .loop .inv .1) (c .before .before .put-line .ensures)))
 
 same-length : tie.Need-same-length Inv-loop μ-loop
 same-length c =
@@ -59,11 +64,11 @@ same-length c =
     put-length (l .loop .inv .1) ∙ room l
 
 -- the records that were written
-written : (c : tie.After-loop Inv-loop μ-loop) → let l = c .before in take (l .loop .place) (l .before .places .result) ≡ standing (entry l .args .journal)
+written : (c : tie.After-loop Inv-loop μ-loop) → let l = c .before in take (entry l .args .journal .count - l .loop .left) (l .before .places .result) ≡ standing (entry l .args .journal)
 written c =
     let l = c .before in
     let j = entry l .args .journal in
-    let all : l .loop .place ≡ j .count = omega (arith, l .loop .inv .0, c .loop-test .left) in
+    let all : j .count - l .loop .left ≡ j .count = omega (arith, c .loop-test .left) in
     ap₂ (λ (n : ℕ) (rs : List Record). take n rs) all (l .before .places .ensures) ∙ sym (standing-places j)
 
 returns : tie.Need-returns Inv-loop μ-loop
@@ -85,8 +90,9 @@ put-sheet-spec =
     (λ c κs. search needs)
     (λ c κs. search needs)
     loop-holds
-    (λ c. omega (arith, few (c .before), c .loop-test .taken))
-    (λ c. omega (arith, few (c .before), c .loop-test .taken))
+    (λ c. omega (arith, c .before .loop .inv .0, c .loop-test .taken))
+    (λ c. omega (arith, few (c .before), c .before .loop .inv .0, c .loop-test .taken))
+    (λ c. omega (arith, few (c .before), c .before .loop .inv .0, c .loop-test .taken))
     (λ c κs. search needs)
     (λ c. search needs)
     (λ c. search needs)
