@@ -10,7 +10,7 @@ use native.Mathlib.Numerals.{add-one}
 use native.Mathlib.Omega.{arith}
 use native.Mathlib.Decide.{ℕ-discrete}
 use lib.ListN.{length, getD, take, drop, set, drop-of-length-le, length-take, take-append-drop, replicate}
-use lib.Seq.{drop-cons, drop-drop, append-snoc, sets}
+use lib.Seq.{drop-cons, drop-drop, append-snoc, take-append-seam, sets}
 use Rattle.text.specs.Ascii.{within, same, startsWith}
 use Rattle.text.specs.Decimal.{decimal}
 use Rattle.text.specs.Fields.{fields, fieldAt, before, fieldsAt, readTo, fieldsOf}
@@ -28,6 +28,13 @@ same-as false a b f g = sym (differ (List-discrete ℕ-discrete a b) (λ e. fals
 
 pub starts-short : (start text : List ℕ) → length text < length start → false ≡ startsWith start text
 starts-short start text h = same-as false (take (length start) text) start (λ e. absurd (false≢true e)) (λ e. absurd (omega (arith, ap length e, length-take (length start) text)))
+
+pub starts : (start rest : List ℕ) → startsWith start (start ++ rest) ≡ true
+starts start rest = sym (same-as true (take (length start) (start ++ rest)) start (λ t. take-append-seam start rest) (λ e. refl))
+
+pub starts-is : (start text : List ℕ) → startsWith start text ≡ true → text ≡ start ++ drop (length start) text
+starts-is start text e =
+    sym (take-append-drop (length start) text) ∙ ap (λ (l : List ℕ). l ++ drop (length start) text) (decide-iff (List-discrete ℕ-discrete (take (length start) text) start) .0 e)
 
 module _ (text : List ℕ) (at end : ℕ) where
   starts-one : at < length text → getD text at 0 ≡ end → true ≡ startsWith (end ∷ []) (drop at text)
