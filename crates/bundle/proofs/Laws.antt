@@ -56,10 +56,6 @@ module _ (code : List ℕ) (k : ℕ) where
     unfolding cutOf
     cut-found = rw loaded-found (cut-whole (numberAt code k))
 
-    pub found-part : findOf code k ≡ bundleAt code k
-    unfolding findOf
-    found-part = accepts (findAnswer code k) (bundleAt code k) [] found
-
     pub found-sixteen : length (bundleAt code k) ≡ 16
     found-sixteen =
         let h = lies code k found in

@@ -4,26 +4,16 @@ use mathlib.Core.Bool.{Bool}
 use mathlib.Core.List.{List, [], _∷_}
 use lib.Dec.{eqb}
 use lib.ListN.{getD}
+use Rattle.table.specs.Ascii.{ascii}
+use Rattle.table.specs.Table.{select}
 use Rattle.bundle.specs.declared.template.Template.{Template}
 
--- a unit is its letter's byte
-abbrev pub M : ℕ
-M = 77
-
+-- the units that are no family's letter; a unit is its letter's byte
 abbrev pub I : ℕ
 I = 73
 
-abbrev pub F : ℕ
-F = 70
-
-abbrev pub B : ℕ
-B = 66
-
 abbrev pub L : ℕ
 L = 76
-
-abbrev pub X : ℕ
-X = 88
 
 -- no units
 abbrev pub noUnits : List ℕ
@@ -32,15 +22,15 @@ noUnits = 0 ∷ 0 ∷ 0 ∷ []
 abbrev pub unitless : List ℕ → Bool
 unitless units = eqb (getD units 0 0) 0
 
--- the units of tags 0 and 1, of 2 and 3, and so on: two neighbours differ in their last stop alone
-abbrev pub templates : List (List ℕ)
+-- the units by half the tag: two neighbours differ in their last stop alone
+abbrev pub templates : List (ℕ × List ℕ)
 templates =
-    (M ∷ I ∷ I ∷ []) ∷ (M ∷ I ∷ I ∷ []) ∷ (M ∷ L ∷ X ∷ []) ∷ noUnits ∷ (M ∷ M ∷ I ∷ []) ∷ (M ∷ M ∷ I ∷ []) ∷ (M ∷ F ∷ I ∷ []) ∷ (M ∷ M ∷ F ∷ [])
-    ∷ (M ∷ I ∷ B ∷ []) ∷ (M ∷ B ∷ B ∷ []) ∷ noUnits ∷ (B ∷ B ∷ B ∷ []) ∷ (M ∷ M ∷ B ∷ []) ∷ noUnits ∷ (M ∷ F ∷ B ∷ []) ∷ noUnits ∷ []
+    (0, ascii "MII") ∷ (1, ascii "MII") ∷ (2, ascii "MLX") ∷ (4, ascii "MMI") ∷ (5, ascii "MMI") ∷ (6, ascii "MFI") ∷ (7, ascii "MMF")
+    ∷ (8, ascii "MIB") ∷ (9, ascii "MBB") ∷ (11, ascii "BBB") ∷ (12, ascii "MMB") ∷ (14, ascii "MFB") ∷ []
 
 -- the units of a tag
 unfoldable pub unitsOf : ℕ → List ℕ
-unitsOf tag = getD templates (tag / 2) noUnits
+unitsOf tag = select (tag / 2) templates noUnits
 
 -- a tag without units
 abbrev pub reserved : ℕ → Bool

@@ -5,7 +5,6 @@ mod template;
 pub use half::Halves;
 pub use half::bits_from;
 pub use half::put;
-pub use half::read;
 pub use half::write;
 pub use template::Template;
 pub use template::template_of;
@@ -73,7 +72,7 @@ pub fn load(code: &[u8], bundle: u64) -> Loaded
         let halves = Halves { low: 0, high: 0 };
         return Loaded { answer, halves };
     }
-    let halves = read(sixteen(code, bundle));
+    let halves = half::read(sixteen(code, bundle));
     Loaded { answer, halves }
 }
 

@@ -8,9 +8,9 @@ use lib.Dec.{T, eqb, eqb→eq}
 use Rattle.bits.specs.Parts.{meetNot}
 use Rattle.bits.proofs.Laws.{part-lt}
 use Rattle.bits.proofs.Parts.{part-scatter}
-use Rattle.bundle.specs.Template.{L, X}
+use Rattle.bundle.specs.Template.{L}
 use Rattle.bundle.specs.Bundle.{tagOf, slotOf}
-use Rattle.form.specs.Form.{A}
+use Rattle.form.specs.Form.{A, X}
 use Rattle.form.specs.declared.Form.{Form}
 use Rattle.parts.specs.Placed.{placed}
 use Rattle.parts.proofs.Placed.{word, words-apart, elsewhere, other-words}

@@ -9,7 +9,8 @@ use lib.ListN.{getD}
 use mir.Facts.{and-yes, eqb-no}
 use Rattle.bits.proofs.Laws.{part-lt}
 use Rattle.table.proofs.Check.{checked}
-use Rattle.bundle.specs.Template.{L, X, unitsOf}
+use Rattle.bundle.specs.Template.{L, unitsOf}
+use Rattle.form.specs.Form.{X}
 use Rattle.bundle.specs.Bundle.{tagOf}
 use Rattle.form.specs.declared.Form.{Form}
 use Rattle.parts.specs.Placed.{inWords}

@@ -8,9 +8,9 @@ use lib.IntN.{ℤ}
 use lib.ListN.{getD}
 use Rattle.answer.specs.Answer.{Refusal, first, outcome, accepted, badForm, badSlot, badValue}
 use Rattle.bits.specs.Parts.{Parts, gather, scatter}
-use Rattle.bundle.specs.Template.{M, I, unitsOf}
+use Rattle.bundle.specs.Template.{I, unitsOf}
 use Rattle.bundle.specs.Bundle.{numberAt, tagOf, findAnswer, bundleRefusals, halvesOf}
-use Rattle.form.specs.Form.{A}
+use Rattle.form.specs.Form.{A, M}
 use Rattle.form.specs.declared.Form.{Form}
 use Rattle.form.specs.declared.Edit.{Edit}
 use Rattle.parts.specs.Placed.{placed, widthOf}

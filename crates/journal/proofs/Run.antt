@@ -259,12 +259,9 @@ module _ (code : List ℕ) (b : Bytes code) (short : length code ≤ longestCode
       answer : (call : Call) → run code (call ∷ calls) .answer ≡ answerTo code (standingEdits code calls) call
       answer call = ap (λ (o : Outcome). o .answer) (next calls call)
 
-  -- a run's journal is valid, and at most `limit` edits stand
+  -- a run's journal is valid
   pub run-valid : (calls : List Call) → validOf (run code calls .journal) ≡ true
   run-valid calls = ap validOf (reached calls .1) ∙ valid (standingEdits code calls) (all-stand calls)
-
-  pub run-most : (calls : List Call) → length (standingEdits code calls) ≤ limit
-  run-most calls = at-most (standingEdits code calls) (all-stand calls)
 
 pub demand-3 : Demand3
 demand-3 = holds

@@ -46,13 +46,12 @@ fn carry_out(code: &mut [u8], journal: Journal, plan: Plan) -> Edited
     ensures { λ r. ⌜ _≡_ {A = Outcome} (record { answer = r .answer; journal = r .journal; code = now (code .exit) }) (carriedOut (now (code .entry)) journal plan) ⌝ }
 {
     let answer = plan.answer;
-    let halves = plan.halves;
-    let kept = plan.kept;
-    let count = plan.count;
     if answer != ACCEPTED {
         return Edited { answer, journal };
     }
-    let edited = with_record(journal, plan.place, kept, count);
+    let kept = plan.kept;
+    let edited = with_record(journal, plan.place, kept, plan.count);
+    let halves = plan.halves;
     rewrite(code, plan.bundle, halves);
     edited
 }

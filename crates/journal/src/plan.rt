@@ -62,14 +62,13 @@ pub fn edit_plan(code: &[u8], view: View, edit: Edit) -> Plan
         return refused(answer);
     }
     let new = changed.bundle;
-    let more = count + 1;
     Plan {
         answer,
         bundle,
         halves: new,
         place: count,
         kept: Record { bundle, old, new },
-        count: more,
+        count: count + 1,
     }
 }
 

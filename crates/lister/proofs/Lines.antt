@@ -9,7 +9,8 @@ use borrow.Author.Tests.{eq-eqb, ne-eqb}
 use Rattle.answer.specs.Answer.{badBundle}
 use Rattle.bundle.specs.Bundle.{cutOf}
 use Rattle.bundle.specs.declared.Bundle.{Bundle}
-use Rattle.text.specs.Ascii.{ascii, line}
+use Rattle.table.specs.Ascii.{ascii}
+use Rattle.text.specs.Ascii.{line}
 use Rattle.text.specs.Decimal.{decimal}
 use Rattle.lister.specs.Listing.{endOf, lineOf, linesOf, restOf}
 

@@ -8,7 +8,8 @@ use lib.ListN.{length, getD, take}
 use Rattle.answer.specs.Answer.{Refusal, badBundle, tooLong}
 use Rattle.bundle.specs.Bundle.{longestCode, cutOf}
 use Rattle.bundle.specs.declared.Bundle.{Bundle}
-use Rattle.text.specs.Ascii.{ascii, tab, line}
+use Rattle.table.specs.Ascii.{ascii}
+use Rattle.text.specs.Ascii.{tab, line}
 use Rattle.text.specs.Decimal.{decimal}
 use Rattle.text.specs.Fields.{fields}
 use Rattle.text.specs.Hex.{hexBytes}

@@ -1,6 +1,6 @@
 -- The words of the readers' tables: a line has a form's number, the last-written position, and for each operand what it is and from
 -- which bits. Assumes nothing.
-use Prim.Native.Nat.{ℕ, zero, suc, _+_, _-_, _*_, _^_, _<_}
+use Prim.Native.Nat.{ℕ, zero, suc, _+_, _-_, _*_, _^_}
 use mathlib.Core.List.{List, [], _∷_}
 use mathlib.Core.Option.{none, some}
 use lib.IntN.{ℤ, pos, negsuc, _+ℤ_}
@@ -49,10 +49,6 @@ minus x (suc y) = pos x +ℤ negsuc y
 -- an immediate with a sign: the number of the bits below the sign, less what the sign counts
 abbrev pub difference : Difference → Operand
 difference d = op.ImmI64 (minus (d .0) (d .1))
-
--- both so small that the difference is an `i64`
-abbrev pub Small : Difference → Type 0
-Small d = (d .0 < 2 ^ 62) × (d .1 < 2 ^ 62)
 
 abbrev pub gp : Bits → Of Operand
 gp b word l = op.GPRegister (record { 0 = b .1 word l })

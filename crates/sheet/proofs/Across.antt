@@ -13,7 +13,7 @@ use mir.Facts.{and-yes, yes-and}
 use Rattle.answer.specs.Answer.{accepted, first, outcome}
 use Rattle.answer.proofs.Laws.{accepts, refuses}
 use Rattle.bits.proofs.Laws.{part-lt}
-use Rattle.bundle.specs.Bundle.{longestCode, halvesOf}
+use Rattle.bundle.specs.Bundle.{longestCode}
 use Rattle.bundle.proofs.Bytes.{Bytes}
 use Rattle.form.specs.declared.Edit.{Edit}
 use Rattle.journal.specs.Journal.{highest, mayStand, all, standing, journalOf}
@@ -27,14 +27,11 @@ use Rattle.journal.proofs.Standing.{all-append, journal-stands, valid-stand}
 use Rattle.text.specs.Whole.{wroteOf, wholeRefusals}
 use Rattle.text.specs.declared.whole.Written.{Written}
 use Rattle.sheet.specs.RoundTrip.{isHeld, HasSheet}
-use Rattle.sheet.specs.Sheet.{sheetOf, writeRefusals}
+use Rattle.sheet.specs.Sheet.{numbersOf, sheetOf, writeRefusals}
 use Rattle.sheet.specs.Load.{loadOf}
 use Rattle.sheet.specs.Across.{SheetCall, call, write, load, State, sheetIn, loaded, next, runAcross, plain, HoldsAcross, Demand3Across}
-use Rattle.sheet.proofs.Held.{Words, is-held}
+use Rattle.sheet.proofs.Held.{are-words}
 use Rattle.sheet.proofs.Inverse.{load-written}
-
-words : (n : ℕ) → Words (halvesOf n)
-words n = record { low = part-lt n 0 64; high = part-lt n 64 64 }
 
 -- the code holds the records of edits whose bundles may stand
 records-held : (code : List ℕ) (es : List Edit) → T (all mayStand (recordsOf code es)) → T (all isHeld (recordsOf code es))
@@ -43,7 +40,7 @@ records-held code (e ∷ es) t =
     let rs = recordsOf code es in
     let m = and-yes (all mayStand rs) (mayStand last && true) (subst T (all-append mayStand rs (last ∷ [])) t) in
     let low = leb→le (e .bundle) highest (and-yes (mayStand last) true (m .1) .0) in
-    let held = is-held last (record { bundle = omega (arith, low); old = words _; new = words _ }) in
+    let held = are-words (numbersOf last) (omega (arith, low), (part-lt _ 0 64, (part-lt _ 64 64, (part-lt _ 0 64, (part-lt _ 64 64, tt))))) in
     subst T (sym (all-append isHeld rs (last ∷ []))) (yes-and (all isHeld rs) (isHeld last && true) (records-held code es (m .0)) (yes-and (isHeld last) true held tt))
   where
     last : Record

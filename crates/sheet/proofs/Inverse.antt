@@ -8,6 +8,7 @@ use Prim.Native.Nat.{ℕ, zero, suc, _+_, _≤_}
 use native.Mathlib.Omega.{arith}
 use native.Mathlib.Decide.{decLt, ℕ-discrete}
 use lib.Dec.{T}
+use lib.Ieee.Bits.{is-true}
 use lib.ListN.{length, take, drop, take-append-drop}
 use lib.Seq.{drop-length}
 use mir.Facts.{and-yes, yes-and}
@@ -17,7 +18,9 @@ use Rattle.journal.specs.Journal.{limit, mayStand, all, standing, journalOf, va
 use Rattle.journal.specs.declared.records.Journal.{Journal}
 use Rattle.journal.specs.declared.records.Record.{Record}
 use Rattle.journal.proofs.Standing.{journal-stands, journal-valid, valid-is-journal, valid-few, valid-stand}
-use Rattle.text.specs.Ascii.{ascii, startsWith}
+use Rattle.table.specs.Ascii.{ascii}
+use Rattle.text.specs.Ascii.{newline, startsWith}
+use Rattle.text.specs.Decimal.{decimal}
 use Rattle.text.specs.declared.number.Number.{Number}
 use Rattle.text.specs.declared.number.Number.the-variants.{Read, Refused}
 use Rattle.text.proofs.RoundTrip.{field-read, field-back}
@@ -27,7 +30,7 @@ use Rattle.sheet.specs.declared.line.Line.the-variants as line
 use Rattle.sheet.specs.RoundTrip.{isHeld, HasSheet, LoadsWritten, LoadsOnlyWritten, RefusesOther}
 use Rattle.sheet.specs.Load.{lineAt, recordsAt, headOf, recordsIn, answerOf, loadOf}
 use Rattle.sheet.specs.Sheet.{lineOf, linesOf, headerOf, sheetOf}
-use Rattle.sheet.proofs.Stands.{field, T-true, line-back, line-read}
+use Rattle.sheet.proofs.Lines.{line-back, line-read}
 
 -- the lines of some records are read as those records
 records-back : (text : List ℕ) (rs : List Record) (at : ℕ) → T (all mayStand rs) → T (all isHeld rs) → Stands text at (linesOf rs) (length text) → recordsAt text at (length rs) ≡ some rs
@@ -42,6 +45,10 @@ records-back text (r ∷ rs) at m h s =
 whole-stands : (text : List ℕ) → Stands text 0 text (length text)
 whole-stands text = record { found = sym (ap (λ (l : List ℕ). text ++ l) (drop-length text) ∙ append-nil text); place = omega arith }
 
+-- the count in the first line, with its end
+abbrev counted : ℕ → List ℕ
+counted count = decimal count ++ (newline ∷ [])
+
 -- a text that begins with the first line and goes on with the lines
 record Begun (text : List ℕ) (count : ℕ) (rest : List ℕ) : Type 0 where
   at : ℕ
@@ -52,10 +59,10 @@ begun : (text : List ℕ) (count : ℕ) (rest : List ℕ) → count ≤ limit �
 unfolding headOf
 begun text count rest few e =
     let s : Stands text 0 (headerOf count ++ rest) (length text) = subst (λ (l : List ℕ). Stands text 0 l (length text)) e (whole-stands text) in
-    let p = stands-parts (ascii "patches\t") {b = field count 10 ++ rest} s in
-    let q = stands-parts (field count 10) (p .1) in
+    let p = stands-parts (ascii "patches\t") {b = counted count ++ rest} s in
+    let q = stands-parts (counted count) (p .1) in
     let starts : startsWith (ascii "patches\t") text ≡ true = ap (startsWith (ascii "patches\t")) e ∙ decide-iff (List-discrete ℕ-discrete (ascii "patches\t") (ascii "patches\t")) .1 refl in
-    record { at = 8 + length (field count 10); head = rw starts (field-back text 8 10 count _ refl (omega arith) (q .0)); lines = q .1 }
+    record { at = 8 + length (counted count); head = rw starts (field-back text 8 10 count _ refl (omega arith) (q .0)); lines = q .1 }
 
 pub load-written : LoadsWritten
 unfolding loadOf recordsIn sheetOf
@@ -114,7 +121,7 @@ starts-is start text e =
 -- the first line that was read
 record Headed (text : List ℕ) (count at : ℕ) : Type 0 where
   starts : text ≡ ascii "patches\t" ++ drop 8 text
-  counts : Stands text 8 (field count 10) at
+  counts : Stands text 8 (counted count) at
 
 headed : (text : List ℕ) (count at : ℕ) → headOf text ≡ Read count at → Headed text count at
 unfolding headOf
@@ -131,11 +138,11 @@ is-sheet text count at few h rs r =
     let stand = journal-stands rs in
     let lines : drop at text ≡ linesOf rs = r .lines .found ∙ ap (λ (l : List ℕ). linesOf rs ++ l) (drop-length text) ∙ append-nil (linesOf rs) in (
       record {
-        valid = journal-valid rs ∙ rw (le-leb (length rs) limit (omega (arith, r .long)), T-true (all mayStand rs) (r .stand));
+        valid = journal-valid rs ∙ rw (le-leb (length rs) limit (omega (arith, r .long)), is-true (all mayStand rs) (r .stand));
         held = subst (λ (qs : List Record). T (all isHeld qs)) (sym stand) (r .held);
       },
       h .starts
-          ∙ ap (λ (l : List ℕ). ascii "patches\t" ++ l) (h .counts .found ∙ ap (λ (l : List ℕ). field count 10 ++ l) lines)
+          ∙ ap (λ (l : List ℕ). ascii "patches\t" ++ l) (h .counts .found ∙ ap (λ (l : List ℕ). counted count ++ l) lines)
           ∙ ap (λ (n : ℕ). headerOf n ++ linesOf rs) (sym (r .long))
           ∙ ap (λ (qs : List Record). headerOf (length qs) ++ linesOf qs) (sym stand),
     )

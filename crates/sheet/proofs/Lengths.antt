@@ -7,29 +7,35 @@ use native.Mathlib.Nat.{le-antisymm}
 use native.Mathlib.Omega.{arith}
 use native.Mathlib.Decide.{decLt}
 use lib.Dec.{T, leb→le}
-use lib.ListN.{length, replicate, length-append, length-replicate}
+use lib.ListN.{length, drop, replicate, length-append, length-replicate}
 use mir.Facts.{and-yes}
 use Rattle.journal.specs.Journal.{limit, highest, mayStand, all, standing, journalOf}
 use Rattle.journal.specs.declared.records.Record.{Record}
 use Rattle.journal.proofs.Standing.{journal-stands, valid-few, valid-stand}
 use Rattle.text.specs.Decimal.{decimal}
+use Rattle.text.specs.Fields.{fields}
 use Rattle.text.proofs.Numerals.{decimal-one, decimal-more, decimal-length}
+use Rattle.text.proofs.RoundTrip.{Words}
 use Rattle.sheet.specs.RoundTrip.{isHeld, AtMost, longest, LongestHas}
-use Rattle.sheet.specs.Sheet.{lineOf, linesOf}
-use Rattle.sheet.proofs.Held.{numbers}
+use Rattle.sheet.specs.Sheet.{numbersOf, ends, lineOf, linesOf}
+use Rattle.sheet.proofs.Held.{words}
 use Rattle.sheet.proofs.Sheets.{line-length, sheet-length}
 
+fields-most : (ns ends : List ℕ) → Words ns → length (fields ns ends) ≤ 21 * length ns
+fields-most [] ends w = omega arith
+fields-most (n ∷ ns) [] w = omega arith
+fields-most (n ∷ ns) (e ∷ ends) w =
+    omega (arith, length-append (decimal n) (e ∷ fields ns ends), decimal-length 19 n (omega (arith, w .0)), fields-most ns ends (w .1))
+
 line-most : (r : Record) → T (mayStand r) → T (isHeld r) → length (lineOf r) ≤ 89
+unfolding lineOf
 line-most r m h =
-    let n = numbers r h in
+    let halves = fields (drop 1 (numbersOf r)) (drop 1 ends) in
     omega (
       arith,
-      line-length r,
+      length-append (decimal (r .bundle)) (9 ∷ halves),
       decimal-length 3 (r .bundle) (omega (arith, leb→le (r .bundle) highest m)),
-      decimal-length 19 (r .old .low) (omega (arith, n .old .low)),
-      decimal-length 19 (r .old .high) (omega (arith, n .old .high)),
-      decimal-length 19 (r .new .low) (omega (arith, n .new .low)),
-      decimal-length 19 (r .new .high) (omega (arith, n .new .high)),
+      fields-most (drop 1 (numbersOf r)) (drop 1 ends) (words (numbersOf r) h .1),
     )
 
 lines-most : (rs : List Record) → T (all mayStand rs) → T (all isHeld rs) → length (linesOf rs) ≤ 89 * length rs

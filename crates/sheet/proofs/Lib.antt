@@ -2,8 +2,8 @@ pub mod Across
 pub mod Held
 pub mod Inverse
 pub mod Lengths
+pub mod Lines
 pub mod Owned
 pub mod Reading
 pub mod Sheets
-pub mod Stands
 pub mod Unique

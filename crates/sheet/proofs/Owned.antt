@@ -9,7 +9,8 @@ use Rattle.journal.proofs.records.Record.{the-field}
 use Rattle.journal.specs.Journal.{all}
 use Rattle.journal.specs.declared.records.Record.{Record}
 use Rattle.sheet.specs.RoundTrip.{isHeld}
-use Rattle.sheet.proofs.Held.{is-held}
+use Rattle.sheet.specs.Sheet.{numbersOf}
+use Rattle.sheet.proofs.Held.{are-words}
 
 pub owned : (rs : List Record) (us : List Val) → shadow (each (the-field .row .Denot) (the-field .row .own) (map (the-field .into) rs) us) → T (all isHeld rs)
 owned [] us p = tt
@@ -19,5 +20,5 @@ owned (r ∷ rs) (u ∷ us) p =
     let old = numbers .1 .0 .1 .1 in
     let new = numbers .1 .1 .0 .1 .1 in
     yes-and (isHeld r) (all isHeld rs)
-    (is-held r (record { bundle = numbers .0 .1; old = record { low = old .0 .1; high = old .1 .0 .1 }; new = record { low = new .0 .1; high = new .1 .0 .1 } }))
+    (are-words (numbersOf r) (numbers .0 .1, (old .0 .1, (old .1 .0 .1, (new .0 .1, (new .1 .0 .1, tt))))))
     (owned rs us (p .1))

@@ -1,6 +1,5 @@
 -- Reading a sheet, a step at a time. By the definitions' tests. Assumes nothing.
 use mathlib.Core.Path.{_≡_}
-use mathlib.Core.Bool.{true, false}
 use mathlib.Core.List.{List, [], _∷_}
 use mathlib.Core.Option.{none, some, Option·map}
 use Prim.Native.Nat.{ℕ, suc, _+_, _-_, _≤_, _<_}
@@ -8,54 +7,11 @@ use native.Mathlib.Omega.{arith}
 use lib.ListN.{length}
 use borrow.Author.Tests.{le-leb, lt-leb, eq-eqb, ne-eqb}
 use Rattle.text.specs.declared.number.Number.the-variants.{Read, Refused}
-use Rattle.text.specs.Fields.{fieldAt}
-use Rattle.bundle.specs.declared.half.Halves.{Halves}
-use Rattle.journal.specs.Journal.{limit, mayStand}
+use Rattle.journal.specs.Journal.{limit}
 use Rattle.journal.specs.declared.records.Journal.{Journal}
 use Rattle.journal.specs.declared.records.Record.{Record}
 use Rattle.sheet.specs.declared.line.Line.the-variants as line
-use Rattle.sheet.specs.declared.line.Pair.the-variants as pair
-use Rattle.sheet.specs.Load.{halvesAt, lineAt, recordsAt, headOf, recordsIn, answerOf, loadOf}
-
--- halves, by the fields that they are made of
-module _ (text : List ℕ) (at end : ℕ) where
-  pub halves-none : fieldAt text at 9 ≡ Refused → pair.Refused ≡ halvesAt text at end
-  unfolding halvesAt
-  halves-none e = rw e
-
-  module _ (low middle : ℕ) (e : fieldAt text at 9 ≡ Read low middle) where
-    pub halves-one : fieldAt text middle end ≡ Refused → pair.Refused ≡ halvesAt text at end
-    unfolding halvesAt
-    halves-one d = rw (e, d)
-
-    pub halves-both : (high next : ℕ) → fieldAt text middle end ≡ Read high next → pair.Read (record { low = low; high = high }) next ≡ halvesAt text at end
-    unfolding halvesAt
-    halves-both high next d = rw (e, d)
-
--- a line, by the field and the halves that it is made of
-module _ (text : List ℕ) (at : ℕ) where
-  pub line-none : fieldAt text at 9 ≡ Refused → line.Refused ≡ lineAt text at
-  unfolding lineAt
-  line-none e = rw e
-
-  module _ (bundle first : ℕ) (e : fieldAt text at 9 ≡ Read bundle first) where
-    pub line-no-old : halvesAt text first 9 ≡ pair.Refused → line.Refused ≡ lineAt text at
-    unfolding lineAt
-    line-no-old o = rw (e, o)
-
-    module _ (old : Halves) (second : ℕ) (o : halvesAt text first 9 ≡ pair.Read old second) where
-      pub line-no-new : halvesAt text second 10 ≡ pair.Refused → line.Refused ≡ lineAt text at
-      unfolding lineAt
-      line-no-new n = rw (e, o, n)
-
-      module _ (new : Halves) (next : ℕ) (n : halvesAt text second 10 ≡ pair.Read new next) where
-        pub line-unfit : mayStand (record { bundle = bundle; old = old; new = new }) ≡ false → line.Refused ≡ lineAt text at
-        unfolding lineAt
-        line-unfit m = rw (e, o, n, m)
-
-        pub line-whole : mayStand (record { bundle = bundle; old = old; new = new }) ≡ true → line.Read (record { bundle = bundle; old = old; new = new }) next ≡ lineAt text at
-        unfolding lineAt
-        line-whole m = rw (e, o, n, m)
+use Rattle.sheet.specs.Load.{lineAt, recordsAt, headOf, recordsIn, answerOf, loadOf}
 
 -- the lines that are left
 module _ (text : List ℕ) (at i count : ℕ) where

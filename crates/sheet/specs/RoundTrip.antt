@@ -2,7 +2,7 @@
 use Prim.Native.Nat.{ℕ, _-_, _^_, _≤_}
 use mathlib.Core.Path.{_≡_}
 use mathlib.Core.Bool.{Bool, true, _&&_}
-use mathlib.Core.List.{List}
+use mathlib.Core.List.{List, [], _∷_}
 use lib.Dec.{T, ltb}
 use lib.ListN.{length, replicate}
 use Rattle.answer.specs.Answer.{accepted, badSheet}
@@ -10,16 +10,17 @@ use Rattle.bundle.specs.declared.half.Halves.{Halves}
 use Rattle.journal.specs.Journal.{limit, highest, all, standing, journalOf, validOf}
 use Rattle.journal.specs.declared.records.Journal.{Journal}
 use Rattle.journal.specs.declared.records.Record.{Record}
-use Rattle.sheet.specs.Sheet.{sheetOf, capacity}
+use Rattle.sheet.specs.Sheet.{numbersOf, sheetOf, capacity}
 use Rattle.sheet.specs.Load.{loadOf}
 
--- a number of 64 bits
-abbrev pub isWord : ℕ → Bool
-isWord n = ltb n (2 ^ 64)
+-- numbers of 64 bits
+abbrev pub areWords : List ℕ → Bool
+areWords [] = true
+areWords (n ∷ ns) = ltb n (2 ^ 64) && areWords ns
 
--- a record of the code, whose numbers all are
+-- a record of the code, whose numbers are
 abbrev pub isHeld : Record → Bool
-isHeld r = isWord (r .bundle) && isWord (r .old .low) && isWord (r .old .high) && isWord (r .new .low) && isWord (r .new .high)
+isHeld r = areWords (numbersOf r)
 
 -- a journal that has a sheet: a valid one of the code
 pub record HasSheet (j : Journal) : Type 0 where

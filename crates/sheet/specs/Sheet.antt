@@ -7,7 +7,8 @@ use Rattle.answer.specs.Answer.{Refusal, badJournal}
 use Rattle.journal.specs.Journal.{standing, validOf}
 use Rattle.journal.specs.declared.records.Journal.{Journal}
 use Rattle.journal.specs.declared.records.Record.{Record}
-use Rattle.text.specs.Ascii.{ascii, line}
+use Rattle.table.specs.Ascii.{ascii}
+use Rattle.text.specs.Ascii.{line}
 use Rattle.text.specs.Decimal.{decimal}
 use Rattle.text.specs.Fields.{fields}
 

@@ -14,7 +14,7 @@ use borrow.Author.Tests.{lt-ltb, le-ltb, le-leb, leb-true, ltb-true}
 use Rattle.text.specs.Ascii.{within, same}
 use Rattle.text.specs.Decimal.{decimal}
 use Rattle.text.specs.declared.number.Number.the-variants.{Read, Refused}
-use Rattle.text.specs.Number.{digitsOf, worth, readAs, numberOf}
+use Rattle.text.specs.Number.{digitsOf, worth, numberOf}
 use Rattle.text.proofs.Numerals.{decimal-one, decimal-more}
 use Rattle.text.proofs.Stands.{Stands, stands}
 
@@ -142,19 +142,19 @@ differ (no q) n = refl
 
 module _ (text : List ℕ) (at : ℕ) where
   pub number-none : digitsOf (drop at text) ≡ [] → Refused ≡ numberOf text at
-  unfolding numberOf readAs worth
+  unfolding numberOf worth
   number-none e = rw (e, decimal-one 0 (omega arith), differ (List-discrete ℕ-discrete [] (48 ∷ [])) (λ q. omega (arith, ap length q)))
 
   module _ (n : ℕ) where
     pub number-whole : (next : ℕ) → n < 2 ^ 64 → digitsOf (drop at text) ≡ decimal n ++ digitsOf (drop next text) → digitsOf (drop next text) ≡ [] → next ≡ at + length (decimal n) → Read n next ≡ numberOf text at
-    unfolding numberOf readAs
+    unfolding numberOf
     number-whole next b e z p =
         rw (e, z, append-nil (decimal n), spelling n .number, lt-ltb n (2 ^ 64) b, decide-iff (List-discrete ℕ-discrete (decimal n) (decimal n)) .1 refl, p)
 
     module _ (c : ℕ) (ds : List ℕ) (e : digitsOf (drop at text) ≡ decimal n ++ (c ∷ ds)) where
       -- a digit after a zero
       pub number-zero : n ≡ 0 → Refused ≡ numberOf text at
-      unfolding numberOf readAs
+      unfolding numberOf
       number-zero z =
           let m = worth 0 (digitsOf (drop at text)) in
           let front : decimal n ++ (c ∷ ds) ≡ 48 ∷ c ∷ ds = rw (z, decimal-one 0 (omega arith)) in
@@ -162,7 +162,7 @@ module _ (text : List ℕ) (at : ℕ) where
 
       -- a digit that makes the number too large
       pub number-long : 2 ^ 64 ≤ n * 10 + (c - 48) → Refused ≡ numberOf text at
-      unfolding numberOf readAs worth
+      unfolding numberOf worth
       number-long h =
           rw (e, worth-append 0 (decimal n) (c ∷ ds), spelling n .number, le-ltb (worth (n * 10 + (c - 48)) ds) (2 ^ 64) (omega (arith, worth-le (n * 10 + (c - 48)) ds)))
 
@@ -175,12 +175,15 @@ pub no-number : {n next : ℕ} → Refused ≡ Read n next → ⊥
 no-number e = let z : _≡_ {A = ℕ} 0 1 = cc in omega arith
 
 module _ (text : List ℕ) (at n next : ℕ) where
-  read-as : (m : ℕ) → readAs at m (digitsOf (drop at text)) ≡ Read n next → IsRead text at n next
-  unfolding readAs
-  read-as m = go (ltb m (2 ^ 64)) (same ds (decimal m)) refl refl
+  pub number-read : numberOf text at ≡ Read n next → IsRead text at n next
+  unfolding numberOf
+  number-read = go (ltb m (2 ^ 64)) (same ds (decimal m)) refl refl
     where
       ds : List ℕ
       ds = digitsOf (drop at text)
+
+      m : ℕ
+      m = worth 0 ds
 
       go : (t u : Bool) → ltb m (2 ^ 64) ≡ t → same ds (decimal m) ≡ u → cond (t && u) (Read m (at + length ds)) Refused ≡ Read n next → IsRead text at n next
       go false u p q e = absurd (no-number e)
@@ -191,10 +194,6 @@ module _ (text : List ℕ) (at n next : ℕ) where
           let d : ds ≡ decimal n = decide-iff (List-discrete ℕ-discrete ds (decimal m)) .0 q ∙ ap decimal v in
           let s = digits-split (drop at text) in
           record { below = rw v at (ltb-true m (2 ^ 64) p); piece = rw (← w, d) (stands at (decimal n) (s .0) (s .1 ∙ ap (λ (l : List ℕ). l ++ s .0) d)) }
-
-  pub number-read : numberOf text at ≡ Read n next → IsRead text at n next
-  unfolding numberOf
-  number-read = read-as (worth 0 (digitsOf (drop at text)))
 
   -- and the decimal that stands there is read, where no digit comes after it
   pub number-back : digitsOf (drop next text) ≡ [] → IsRead text at n next → numberOf text at ≡ Read n next

@@ -1,17 +1,10 @@
 -- Text as bytes. Assumes nothing.
 use Prim.Native.Nat.{ℕ}
-use Prim.Native.Char.{code}
-use Prim.Native.String.{String}
 use mathlib.Core.Bool.{Bool, _&&_, decide}
 use mathlib.Core.List.{List, [], _∷_, _++_, List-discrete}
 use native.Mathlib.Decide.{ℕ-discrete}
 use lib.Dec.{leb}
 use lib.ListN.{length, take}
-
--- the codes of a quoted text's characters, which are bytes where they are ASCII
-abbrev pub ascii : String → List ℕ
-ascii String.[] = []
-ascii (String._∷_ c s) = code c ∷ ascii s
 
 abbrev pub tab : ℕ
 tab = 9

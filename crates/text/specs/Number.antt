@@ -19,10 +19,9 @@ unfoldable pub worth : ℕ → List ℕ → ℕ
 worth n [] = n
 worth n (c ∷ rest) = worth (n * 10 + (c - 48)) rest
 
--- what digits at a place are read as, where n is their worth: n and the place after them, where they are its decimal
-unfoldable pub readAs : ℕ → ℕ → List ℕ → Number
-readAs at n digits = cond (ltb n (2 ^ 64) && same digits (decimal n)) (Read n (at + length digits)) Refused
-
--- the number at a place, and the place after it
+-- the number at a place, whose decimal the digits there are, and the place after them
 unfoldable pub numberOf : List ℕ → ℕ → Number
-numberOf text at = let digits = digitsOf (drop at text) in readAs at (worth 0 digits) digits
+numberOf text at =
+    let digits = digitsOf (drop at text) in
+    let n = worth 0 digits in
+    cond (ltb n (2 ^ 64) && same digits (decimal n)) (Read n (at + length digits)) Refused

@@ -11,16 +11,17 @@ unfolding carriedOut
 returns c = sym (refuses _ _ _ (c .if1 .taken))
 
 rewrite-requires : tie.Need-rewrite-requires
-rewrite-requires c κs = let e = c .before .before in e .before .before .before .before .pre (e .if1 .left)
+rewrite-requires c κs = let e = c .before .before .before .before in e .before .before .pre (e .if1 .left)
 
 returns-2 : tie.Need-returns-2
 unfolding carriedOut
 returns-2 c =
     let w = c .before .before in
-    let k = w .before .before in
+    let k = w .before .before .before in
+    let e = k .before .before in
     let edited = k .with-record .ensures in
     let code = w .rewrite .ensures in
-    (λ i. record { answer = edited i .answer; journal = edited i .journal; code = code i }) ∙ sym (accepts _ _ _ (k .before .if1 .left))
+    (λ i. record { answer = edited i .answer; journal = edited i .journal; code = code i }) ∙ sym (accepts _ _ _ (e .if1 .left))
 
 pub carry-out-spec : {M : Type 1} → statement M
 carry-out-spec = tie.close (tie.spec returns (λ c κs. search needs) rewrite-requires (λ c. search needs) returns-2)

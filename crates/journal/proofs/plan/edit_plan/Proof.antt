@@ -87,7 +87,7 @@ returns-3 : tie.Need-returns-3
 unfolding editPlanOf
 returns-3 c = c .refused3 .ensures ∙ refused-is refusedPlan _ _ _ (answers (c .before .before)) (c .before .if3 .taken)
 
-add-count : tie.Need-add-more
+add-count : tie.Need-add-t15
 add-count c =
     let e = c .before in
     let a = e .before .before .before .before .before .before .before .before .args in
