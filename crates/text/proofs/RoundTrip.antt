@@ -9,11 +9,11 @@ use native.Mathlib.Nat.{add-zero}
 use native.Mathlib.Numerals.{add-one}
 use native.Mathlib.Omega.{arith}
 use native.Mathlib.Decide.{ℕ-discrete}
-use lib.ListN.{length, getD, take, drop, set, drop-of-length-le, length-take, take-append-drop, replicate}
-use lib.Seq.{drop-cons, drop-drop, append-snoc, take-append-seam, sets}
+use lib.ListN.{length, getD, take, drop, set, drop-of-length-le, length-take, take-append-drop}
+use lib.Seq.{drop-cons, drop-drop, append-snoc, take-append-seam}
 use Rattle.text.specs.Ascii.{within, same, startsWith}
 use Rattle.text.specs.Decimal.{decimal}
-use Rattle.text.specs.Fields.{fields, fieldAt, before, fieldsAt, readTo, fieldsOf}
+use Rattle.text.specs.Fields.{fields, fieldAt, before, fieldsAt, readTo}
 use Rattle.text.specs.Number.{digitsOf, numberOf}
 use Rattle.text.specs.declared.fields.Fields.{Fields}
 use Rattle.text.specs.declared.number.Number.{Number}
@@ -160,17 +160,3 @@ module _ (text : List ℕ) where
       let p = stands-parts (decimal n ++ (end ∷ [])) (rw (← append-snoc (decimal n) end (fields ns ends)) at (s .piece)) in
       let r = fields-back ends ns _ next (d .1) (record { count = omega (arith, s .count); words = s .words .1; piece = p .1 }) in
       rw (field-back at end n _ (d .0) (s .words .0) (p .0), r)
-
--- the same of the array that reading hands back
-module _ (text : List ℕ) (at : ℕ) (ends : List ℕ) where
-  pub fields-of-back : (ns : List ℕ) (next : ℕ) → NoDigits ends → FieldsStand text at ends ns next → fieldsOf text at ends ≡ record { read = true; next = next; of = sets (replicate 8 0) 0 ns }
-  unfolding fieldsOf
-  fields-of-back ns next d s = rw (fields-back text ends ns at next d s)
-
-  pub fields-of-read : fieldsOf text at ends .read ≡ true → (ns : List ℕ) × FieldsStand text at ends ns (fieldsOf text at ends .next) × (fieldsOf text at ends .of ≡ sets (replicate 8 0) 0 ns)
-  unfolding fieldsOf
-  fields-of-read = go (fieldsAt text at ends) refl
-    where
-      go : (o : Option (List ℕ × ℕ)) → fieldsAt text at ends ≡ o → let f = readTo (replicate 8 0) 0 o in f .read ≡ true → (ns : List ℕ) × FieldsStand text at ends ns (f .next) × (f .of ≡ sets (replicate 8 0) 0 ns)
-      go none e q = absurd (false≢true q)
-      go (some r) e q = (r .0, fields-read text ends at (r .0) (r .1) e, refl)
