@@ -66,17 +66,18 @@ pub fn write(bundle: &mut [u8], halves: Halves)
     store_half(&mut bundle[8..], halves.high);
 }
 
-// The three slots.
+// The three slots, as the manual draws them. From bit 0 on the low half has 5 bits of tag, 41 of slot 0 and 18 of slot 1, and the high
+// half has 23 bits of slot 1 and 41 of slot 2.
 pub fn slots(halves: Halves) -> [u64; 3]
     ensures { λ r. ⌜ r ≡ slotsOf (whole halves) ⌝ }
 {
     let low = halves.low;
     let high = halves.high;
-    [
-        (low >> 5) % (1 << 41),
-        (low >> 46) + (high % (1 << 23) << 18),
-        high >> 23,
-    ]
+    let slot0 = (low >> 5) % (1 << 41);
+    let slot1_low = (low >> (5 + 41)) % (1 << 18);
+    let slot1_high = high % (1 << 23);
+    let slot2 = (high >> 23) % (1 << 41);
+    [slot0, slot1_low + (slot1_high << 18), slot2]
 }
 
 // The halves of a tag and three slots.
@@ -84,10 +85,11 @@ pub fn pack(tag: u64, slots: [u64; 3]) -> Halves
     requires { ⌜ (tag < 2 ^ 5) × (getD slots 0 0 < 2 ^ 41) × (getD slots 1 0 < 2 ^ 41) × (getD slots 2 0 < 2 ^ 41) ⌝ }
     ensures { λ r. ⌜ r ≡ halvesOf (joined tag slots) ⌝ }
 {
-    let middle = slots[1];
+    let slot1_low = slots[1] % (1 << 18);
+    let slot1_high = slots[1] >> 18;
     Halves {
-        low: tag + (slots[0] << 5) + (middle % (1 << 18) << 46),
-        high: (middle >> 18) + (slots[2] << 23),
+        low: tag + (slots[0] << 5) + (slot1_low << (5 + 41)),
+        high: slot1_high + (slots[2] << 23),
     }
 }
 
