@@ -9,7 +9,7 @@ import words
 
 ROOT = pathlib.Path(__file__).resolve().parents[2]
 ORACLE = [ROOT / "target/oracle/oracle"]
-PROBE = [ROOT / "run", "probe"]
+PROBE = [ROOT / "tests/probe"]
 
 
 def place_of_000():
