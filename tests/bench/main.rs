@@ -8,7 +8,7 @@ mod model;
 use model::immediate::Value;
 use model::journal::{self, Journal};
 use model::random::Random;
-use model::table::{self, Family, Row};
+use model::table::{self, Family};
 use model::{sheet, Model};
 use of000::bench as old;
 use std::hint::black_box;
@@ -91,8 +91,9 @@ fn fitting(letter: u8) -> (u64, u64) {
 
 /// A form of each row of the table, read and written.
 fn immediates(random: &mut Random, model: &Model) {
-    for Row { forms, signed, times, plus, .. } in table::rows() {
-        let (letter, number) = *forms.iter().min().unwrap();
+    for row in table::rows() {
+        let signed = row.signed;
+        let (letter, number) = *row.forms.iter().min().unwrap();
         let family = letter as u64;
         let form = format!("{}{number}", letter as char);
         let (tag, slot) = fitting(letter);
@@ -104,9 +105,9 @@ fn immediates(random: &mut Random, model: &Model) {
         let ours = || unsafe { bench_immediate(code.as_ptr(), code.len(), slot, family, number) };
         line(&format!("immediate read, {form}"), BUNDLES, "plain Rust", ours, reads);
 
-        // so small that M17 and A2 take them too
+        // of numbers so small that M17 and A2 have them too
         let numbers = (0..BUNDLES as i64).map(|n| if signed { n % 8 - 4 } else { n % 4 });
-        let values: Vec<u64> = numbers.map(|n| (times * n) as u64 + plus).collect();
+        let values: Vec<u64> = numbers.map(|n| row.value(n as u64 & row.highest()).pattern()).collect();
         let (mut mine, mut other) = (code.clone(), code);
         let (mut first, mut second) = (Vec::new(), Vec::new());
         let ours = || {

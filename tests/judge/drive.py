@@ -166,10 +166,12 @@ def fitting(random, family):
 
 
 def values(row):
-    """Numbers about a row's ends, and far outside."""
+    """Numbers about a row's ends, and far outside; all about those that a row chooses from."""
     near = [row.low, row.high, 0, row.times, -row.times, 1, -1, 8, 15, 17, 1 << 20, 1 << 21, 1 << 62, (1 << 63) - 1, -(1 << 63), HUGE - 1, HUGE - 16]
     for end in (row.low, row.high):
         near += [end + by for by in (-16, -1, 1, 16, -row.times, row.times)]
+    if row.chosen:
+        near += range(row.low - 4, row.high + 5)
     return sorted(set(near))
 
 
@@ -195,8 +197,21 @@ def slots_of_rows():
                     yield name, tag, slot
 
 
+def increments(talk):
+    """M17's eight numbers in every slot that it fits, by the manual's formula: i2b is bits 13..14, and s is bit 15."""
+    for tag, slot in [(tag, slot) for name, tag, slot in slots_of_rows() if name == "M17"]:
+        for s, i2b in itertools.product((0, 1), range(4)):
+            at = 5 + 41 * slot + 13
+            number = talk.random.getrandbits(128) & ~31 & ~(7 << at) | tag | i2b << at | s << at + 2
+            talk("code 48")
+            talk(f"put 16 {number.to_bytes(16, 'little').hex()}")
+            value = (-1 if s else 1) * (1 if i2b == 3 else 1 << 4 - i2b)
+            assert talk(f"immediate 1 {slot} 77 17") == f"immediate 0 I{value}", "the model's M17 isn't the manual's"
+
+
 def immediates(talk):
     random = talk.random
+    increments(talk)
     for name, tag, slot in slots_of_rows():
         form = f"{slot} {ord(name[0])} {name[1:]}"
         talk("code 48")
@@ -252,7 +267,7 @@ def value_for(random, family, number):
         return random.choice((*OTHERS, "I16", "U16", "I1", "U1", f"I{-(1 << 63)}", f"U{HUGE - 1}"))
     if random.random() < 0.15:
         return random.choice(list(operands_of(row)))
-    value = random.choice((row.low, row.high, row.low + random.randrange(1 << row.width) * row.times))
+    value = random.choice((row.low, row.high, row.value(random.randrange(1 << row.width))))
     return f"{'I' if row.signed else 'U'}{value}"
 
 

@@ -19,23 +19,33 @@ HUGE = 1 << 64
 class Row:
     """One immediate: where its bits are, and which values it holds."""
 
-    def __init__(self, parts, signed, times, plus):
-        self.parts, self.signed, self.times, self.plus = parts, signed, times, plus
+    def __init__(self, parts, signed, times, plus, chosen):
+        self.parts, self.signed, self.times, self.plus, self.chosen = parts, signed, times, plus, chosen
         self.width = max(to + width for _, _, width, to in parts)
         least = -(1 << self.width - 1) if signed else 0
         self.low, self.high = times * least + plus, times * (least + (1 << self.width) - 1) + plus
+        if chosen:
+            assert len(chosen) == 1 << self.width
+            self.low, self.high = min(chosen), max(chosen)
 
-    def read(self, words):
-        number = sum((words[which] >> place) % (1 << width) << to for which, place, width, to in self.parts)
+    def value(self, number):
+        """What a number of the row's width means."""
+        if self.chosen:
+            return self.chosen[number]
         if self.signed and number >> self.width - 1:
             number -= 1 << self.width
         return self.times * number + self.plus
 
+    def read(self, words):
+        return self.value(sum((words[which] >> place) % (1 << width) << to for which, place, width, to in self.parts))
+
     def takes(self, value):
+        if self.chosen:
+            return value in self.chosen
         return self.low <= value <= self.high and (value - self.plus) % self.times == 0
 
     def write(self, words, value):
-        number = (value - self.plus) // self.times
+        number = self.chosen.index(value) if self.chosen else (value - self.plus) // self.times
         words = list(words)
         for which, place, width, to in self.parts:
             mask = (1 << width) - 1

@@ -1,6 +1,6 @@
 //! Immediates, read and written, and targets.
 
-use super::table::{Part, Row};
+use super::table::{Meaning, Part, Row};
 use super::{find, mask, Model};
 
 #[derive(Clone, Copy, PartialEq)]
@@ -32,6 +32,11 @@ impl Row {
         self.parts.iter().map(|part| part.width).sum()
     }
 
+    /// The highest raw number.
+    pub fn highest(&self) -> u64 {
+        mask(self.width())
+    }
+
     fn gather(&self, whole: u128, slot: u32) -> u64 {
         let mut raw = 0;
         for part in &self.parts {
@@ -49,25 +54,34 @@ impl Row {
         whole
     }
 
+    /// A number as a value of the row's kind.
+    fn of_kind(&self, n: i64) -> Value {
+        if self.signed { Value::Signed(n) } else { Value::Unsigned(n as u64) }
+    }
+
     /// The value of a raw number.
-    fn value(&self, raw: u64) -> Value {
-        if self.signed {
-            let unused = 64 - self.width();
-            Value::Signed(((raw << unused) as i64 >> unused) * self.times)
-        } else {
-            Value::Unsigned(raw + self.plus)
+    pub fn value(&self, raw: u64) -> Value {
+        match &self.meaning {
+            Meaning::Chosen(values) => self.of_kind(values[raw as usize]),
+            Meaning::Counted { times, .. } if self.signed => {
+                let unused = 64 - self.width();
+                Value::Signed(((raw << unused) as i64 >> unused) * times)
+            }
+            Meaning::Counted { plus, .. } => Value::Unsigned(raw + plus),
         }
     }
 
     /// The raw number of a value.
     fn raw(&self, value: Value) -> Option<u64> {
         let width = self.width();
-        match value {
-            Value::Unsigned(n) if !self.signed => n.checked_sub(self.plus).filter(|raw| raw & !mask(width) == 0),
-            Value::Signed(n) if self.signed => {
-                let times = n / self.times;
-                let most = 1 << (width - 1);
-                (n % self.times == 0 && -most <= times && times < most).then_some(times as u64 & mask(width))
+        match (&self.meaning, value) {
+            (Meaning::Chosen(values), _) => values.iter().position(|n| self.of_kind(*n) == value).map(|raw| raw as u64),
+            (Meaning::Counted { plus, .. }, Value::Unsigned(n)) if !self.signed => {
+                n.checked_sub(*plus).filter(|raw| raw & !mask(width) == 0)
+            }
+            (Meaning::Counted { times, .. }, Value::Signed(n)) if self.signed => {
+                let (count, most) = (n / times, 1 << (width - 1));
+                (n % times == 0 && -most <= count && count < most).then_some(count as u64 & mask(width))
             }
             _ => None,
         }
@@ -95,7 +109,7 @@ impl Model {
     }
 
     pub fn target(&self, code: &[u8], bundle: u64, slot: u64, family: u64, number: u64, address: u64) -> (u8, u64) {
-        let row = self.row(family, number).filter(|row| row.times == 16);
+        let row = self.row(family, number).filter(|row| matches!(row.meaning, Meaning::Counted { times: 16, .. }));
         match self.open(code, bundle, slot, family, row) {
             Err(answer) => (answer, 0),
             Ok(_) if address % 16 != 0 => (6, 0),

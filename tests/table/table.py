@@ -31,8 +31,16 @@ FITTING = {family: units.split(", ") for family, _, units in lines("forms.txt")}
 # the units of a tag; a reserved one has none
 UNITS = {tag: units for tags, units in lines("units.txt") for tag in span(tags)}
 
-# a form's parts, whether it is signed, times and plus; a form without a row has none
+def meaning(fields):
+    """(times, plus, nothing) of `16 | 0`, or (1, 0, the values) of values to choose from."""
+    if len(fields) == 1:
+        return 1, 0, [int(value) for value in fields[0].split(", ")]
+    times, plus = fields
+    return int(times), int(plus), None
+
+
+# a form's parts, whether it is signed, times, plus and the values that it chooses from; a form without a row has none
 ROWS = {
-    form: ([part(text) for text in parts.split(", ")], {"signed": True, "unsigned": False}[kind], int(times), int(plus))
-    for forms, parts, kind, times, plus in lines("rows.txt") for form in forms.split(", ")
+    form: ([part(text) for text in parts.split(", ")], {"signed": True, "unsigned": False}[kind], *meaning(fields))
+    for forms, parts, kind, *fields in lines("rows.txt") for form in forms.split(", ")
 }

@@ -14,8 +14,13 @@ pub struct Row {
     pub forms: Vec<(u8, u64)>,
     pub parts: Vec<Part>,
     pub signed: bool,
-    pub times: i64,
-    pub plus: u64,
+    pub meaning: Meaning,
+}
+
+/// What a row's number stands for: times it and plus, or the one of some values that it chooses.
+pub enum Meaning {
+    Counted { times: i64, plus: u64 },
+    Chosen(Vec<i64>),
 }
 
 /// Bits `place..place + width` of the slot, or of the L slot, stand for the value bits from `to` on.
@@ -52,6 +57,14 @@ fn signed(kind: &str) -> bool {
     kind == "signed"
 }
 
+fn meaning(fields: &[&str]) -> Meaning {
+    match fields {
+        [values] => Meaning::Chosen(values.split(", ").map(|value| value.parse().unwrap()).collect()),
+        [times, plus] => Meaning::Counted { times: times.parse().unwrap(), plus: plus.parse().unwrap() },
+        _ => panic!("{fields:?}"),
+    }
+}
+
 pub fn families() -> Vec<Family> {
     let family = |field: Vec<&str>| Family {
         letter: field[0].as_bytes()[0],
@@ -77,8 +90,7 @@ pub fn rows() -> Vec<Row> {
         forms: field[0].split(", ").map(form).collect(),
         parts: field[1].split(", ").map(part).collect(),
         signed: signed(field[2]),
-        times: field[3].parse().unwrap(),
-        plus: field[4].parse().unwrap(),
+        meaning: meaning(&field[3..]),
     };
     lines(include_str!("rows.txt")).map(row).collect()
 }

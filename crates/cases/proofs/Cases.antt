@@ -1,5 +1,5 @@
--- Document 01's cases that are marked P, all together by one computed check: what 000 shows of a word, and beside it the immediate that
--- the manual reads from it in a bundle. M10 shows what the given 000 reads, an increment of 0 as in the manual, and not 01's 1: see the
+-- Document 01's cases that are marked P, and M17's eight words, all together by one computed check: what 000 shows of a word, and beside
+-- it the immediate that the manual reads from it in a bundle. M10 shows what the given 000 reads, an increment of 0 as in the manual, and not 01's 1: see the
 -- line "M10" of docs/DIFFERENCES.md. Assumes nothing.
 use mathlib.Core.Path.{_≡_, refl}
 use mathlib.Core.List.{List, [], _∷_}
@@ -98,6 +98,14 @@ stated =
     ∷ inB (b 9) (2 ^ 20) is shows (u 1064960 ∷ []) beside u 16384
     ∷ inM (m 15) (2 ^ 36) is shows (memory ∷ i 256 ∷ []) beside below 256
     ∷ inM (m 10) (2 ^ 13) is writes (memory ∷ f1 ∷ i 0 ∷ []) beside i 0
+    ∷ inM (m 17) 0 is writes (r0 ∷ memory ∷ i 0 ∷ []) beside i 16
+    ∷ inM (m 17) (2 ^ 13) is writes (r0 ∷ memory ∷ i 1 ∷ []) beside i 8
+    ∷ inM (m 17) (2 ^ 14) is writes (r0 ∷ memory ∷ i 2 ∷ []) beside i 4
+    ∷ inM (m 17) 24576 is writes (r0 ∷ memory ∷ i 3 ∷ []) beside i 1
+    ∷ inM (m 17) (2 ^ 15) is writes (r0 ∷ memory ∷ below 4 ∷ []) beside below 16
+    ∷ inM (m 17) 40960 is writes (r0 ∷ memory ∷ below 3 ∷ []) beside below 8
+    ∷ inM (m 17) 49152 is writes (r0 ∷ memory ∷ below 2 ∷ []) beside below 4
+    ∷ inM (m 17) 57344 is writes (r0 ∷ memory ∷ below 1 ∷ []) beside below 1
     ∷ inM (m 42) 939524096 is record { shown = shows (None ∷ []); read = record { answer = badForm; value = None } }
     ∷ inX (x 2) (2 ^ 36) 0 is writes (r0 ∷ u (2 ^ 63) ∷ []) beside u (2 ^ 63)
     ∷ inX (x 3) 0 4 is shows (u 2097152 ∷ []) beside i 16777216

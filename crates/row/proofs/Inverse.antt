@@ -4,21 +4,23 @@ use mathlib.Core.Path.{_≡_, refl, sym, ap, _∙_, subst}
 use mathlib.Core.Bool.{Bool, true, false, cond}
 use mathlib.Core.Logic.{⊎-elim}
 use Prim.Native.Nat.{ℕ, zero, suc, _+_, _-_, _*_, _/_, _%_, _≤_, _<_, _^_}
-use native.Mathlib.Nat.{mul-div-cancel-left, mul-mod-right, mul-le-mul-left}
+use native.Mathlib.Nat.{mul-div-cancel-left, mul-mod-right, mul-le-mul-left, zero-add}
+use native.Mathlib.Decide.{decLt}
 use native.Mathlib.Omega.{arith}
-use borrow.Author.Tests.{ltb-true, ltb-false, leb-true, eqb-true, eqb-false, lt-ltb, le-ltb, le-leb, eq-eqb}
+use borrow.Author.Tests.{ltb-true, ltb-false, leb-true, eqb-true, eqb-false, lt-ltb, le-ltb, le-leb, eq-eqb, ne-eqb}
 use lib.Dec.{T, ltb, leb, eqb}
 use lib.IntN.{ℤ, pos, negsuc}
 use Rattle.answer.specs.Answer.{accepted}
+use Rattle.bits.proofs.Laws.{part-lt}
 use Rattle.operand.specs.Kind.{ofI64, ofU64}
 use Rattle.operand.specs.declared.Operand.{Operand}
 use Rattle.operand.specs.declared.Operand.the-variants.{ImmI64, ImmU64}
 use Rattle.operand.proofs.Kind.{i64-or-not, u64-or-not}
 use Rattle.row.specs.Fits.{SignedFits, Fitting}
-use Rattle.row.specs.Meaning.{Is, Bad, signedOf, valueOf, rawUp, rawDown, rawSigned, rawUnsigned, rawOf}
+use Rattle.row.specs.Meaning.{Is, Bad, signedOf, entry, entryValue, valueOf, rawUp, rawDown, rawSigned, rawUnsigned, entryOf, placeIn, rawOf}
 use Rattle.row.specs.Row.{means}
 use Rattle.row.specs.declared.Meaning.{Meaning}
-use Rattle.row.specs.declared.Meaning.the-variants.{None as NoMeaning, Unsigned, Signed}
+use Rattle.row.specs.declared.Meaning.the-variants.{None as NoMeaning, Unsigned, Signed, Chosen}
 use Rattle.row.specs.declared.value.Raw.{Raw}
 use Rattle.row.proofs.Units.{half, whole-units}
 
@@ -53,30 +55,35 @@ Told r = (r .answer ≡ accepted → ⊥) → r ≡ Bad
 told-is : (n : ℕ) → Told (Is n)
 told-is n d = absurd (d refl)
 
-told-if : (b : Bool) (r : Raw) → Told r → Told (cond b r Bad)
-told-if true r t = t
-told-if false r t = λ d. refl
+told-bad : Told Bad
+told-bad d = refl
 
-told-else : (b : Bool) (r : Raw) → Told r → Told (cond b Bad r)
-told-else true r t = λ d. refl
-told-else false r t = t
+told-either : (b : Bool) (r s : Raw) → Told r → Told s → Told (cond b r s)
+told-either true r s t u = t
+told-either false r s t u = u
 
 told-signed : (unit w : ℕ) (z : ℤ) → Told (rawSigned unit w z)
-told-signed unit w (pos v) = told-if (eqb (v % unit) 0) _ (told-if (ltb (v / unit) (2 ^ (w - 1))) _ (told-is (v / unit)))
-told-signed unit w (negsuc v) = told-if (eqb (suc v % unit) 0) _ (told-if (leb (suc v / unit) (2 ^ (w - 1))) _ (told-is (2 ^ w - suc v / unit)))
+told-signed unit w (pos v) = told-either (eqb (v % unit) 0) _ _ (told-either (ltb (v / unit) (2 ^ (w - 1))) _ _ (told-is (v / unit)) told-bad) told-bad
+told-signed unit w (negsuc v) = told-either (eqb (suc v % unit) 0) _ _ (told-either (leb (suc v / unit) (2 ^ (w - 1))) _ _ (told-is (2 ^ w - suc v / unit)) told-bad) told-bad
+
+told-place : (list n b : ℕ) → Told (placeIn list n b)
+told-place list zero b = told-bad
+told-place list (suc n) b = told-either (eqb (entry list n) b) _ _ (told-is n) (told-place list n b)
 
 pub raw-told : (m : Meaning) (w : ℕ) (v : Operand) → (rawOf m w v .answer ≡ accepted → ⊥) → rawOf m w v ≡ Bad
 raw-told NoMeaning w v d = refl
 raw-told (Unsigned plus) w v d =
     ⊎-elim
     (λ k. let is = ap (λ (o : Operand). ofU64 o (rawUnsigned plus w) Bad) (k .1) in
-    is ∙ told-else (ltb (k .0) plus) _ (told-if (ltb (k .0 - plus) (2 ^ w)) _ (told-is (k .0 - plus))) (λ e. d (ap (λ (r : Raw). r .answer) is ∙ e)))
+    is ∙ told-either (ltb (k .0) plus) _ _ told-bad (told-either (ltb (k .0 - plus) (2 ^ w)) _ _ (told-is (k .0 - plus)) told-bad) (λ e. d (ap (λ (r : Raw). r .answer) is ∙ e)))
     (λ k. k) (u64-or-not v (rawUnsigned plus w) Bad)
 raw-told (Signed unit) w v d =
     ⊎-elim
     (λ k. let is = ap (λ (o : Operand). ofI64 o (rawSigned unit w) Bad) (k .1) in
     is ∙ told-signed unit w (k .0) (λ e. d (ap (λ (r : Raw). r .answer) is ∙ e)))
     (λ k. k) (i64-or-not v (rawSigned unit w) Bad)
+raw-told (Chosen signed list) w v d =
+    let b = entryOf signed v in told-either (eqb (b .answer) accepted) _ _ (told-place list (2 ^ w) (b .raw)) told-bad d
 
 -- a number that is counted from `plus` on
 module _ (plus w : ℕ) where
@@ -144,11 +151,45 @@ module _ (unit w : ℕ) (f : SignedFits unit w) where
       let back : 2 ^ w - raw ≡ n = omega (arith, half w (f .0)) in
       (omega (arith, half w (f .0)), rw (le-ltb raw (2 ^ (w - 1)) m, back, g) (ap negsuc (omega arith)))
 
+-- a number that chooses from a list
+entry-raw : (signed : Bool) (b : ℕ) → b < 2 ^ 8 → entryOf signed (entryValue signed b) ≡ Is b
+entry-raw true b h = signed-raw 1 8 (omega arith, omega arith, omega arith, omega arith) b h
+entry-raw false b h = ap (rawUnsigned 0 8) (sym (zero-add b)) ∙ unsigned-raw 0 8 b h
+
+entry-value : (signed : Bool) (v : Operand) (b : ℕ) → entryOf signed v ≡ Is b → entryValue signed b ≡ v
+entry-value true v b e =
+    let k = of-i64 v (rawSigned 1 8) e in
+    ap ImmI64 (signed-value 1 8 (omega arith, omega arith, omega arith, omega arith) (k .0) b (k .2) .1) ∙ sym (k .1)
+entry-value false v b e =
+    let k = of-u64 v (rawUnsigned 0 8) e in
+    ap ImmU64 (sym (zero-add b) ∙ unsigned-value 0 8 (k .0) b (k .2) .1) ∙ sym (k .1)
+
+place-raw : (list n k : ℕ) → ((i j : ℕ) → i < j → j < n → entry list i ≡ entry list j → ⊥) → k < n → placeIn list n (entry list k) ≡ Is k
+place-raw list zero k differ h = absurd (omega arith)
+place-raw list (suc n) k differ h =
+    elim (decLt k n) [
+      | yes l ↦
+          rw (ne-eqb (entry list n) (entry list k) (λ e. differ k n l (omega arith) (sym e)))
+          (place-raw list n k (λ i j g m e. differ i j g (omega arith) e) l)
+      | no g ↦ let e : k ≡ n = omega arith in rw (e, eq-eqb (entry list n) (entry list n) refl)
+    ]
+
+place-value : (list n b k : ℕ) → placeIn list n b ≡ Is k → (k < n) × (entry list k ≡ b)
+place-value list zero b k e = absurd (not-bad e)
+place-value list (suc n) b k e = by-same (eqb (entry list n) b) refl e (place-value list n b k)
+  where
+    by-same : (same : Bool) → eqb (entry list n) b ≡ same → cond same (Is n) (placeIn list n b) ≡ Is k
+        → (placeIn list n b ≡ Is k → (k < n) × (entry list k ≡ b)) → (k < suc n) × (entry list k ≡ b)
+    by-same true q e below = let s : n ≡ k = same-raw e in (omega arith, rw (sym s) (eqb-true (entry list n) b q))
+    by-same false q e below = let r = below e in (omega arith, r .1)
+
 -- the value of a raw number has that raw number
 pub raw-of-value : (m : Meaning) (w raw : ℕ) → Fitting m w → means m ≡ true → raw < 2 ^ w → rawOf m w (valueOf m w raw) ≡ Is raw
 raw-of-value NoMeaning w raw f some h = absurd (subst T (sym some) tt)
 raw-of-value (Unsigned plus) w raw f some h = unsigned-raw plus w raw h
 raw-of-value (Signed unit) w raw f some h = signed-raw unit w f raw h
+raw-of-value (Chosen signed list) w raw f some h =
+    rw (entry-raw signed (entry list raw) (part-lt list (8 * raw) 8)) (place-raw list (2 ^ w) raw (f .1) h)
 
 -- the raw number of a value has that value
 pub value-of-raw : (m : Meaning) (w raw : ℕ) (v : Operand) → Fitting m w → rawOf m w v ≡ Is raw → (raw < 2 ^ w) × (valueOf m w raw ≡ v)
@@ -161,3 +202,9 @@ value-of-raw (Signed unit) w raw v f e =
     let k = of-i64 v (rawSigned unit w) e in
     let r = signed-value unit w f (k .0) raw (k .2) in
     (r .0, ap ImmI64 (r .1) ∙ sym (k .1))
+value-of-raw (Chosen signed list) w raw v f e =
+    let b = entryOf signed v in
+    let p = only-if (eqb (b .answer) accepted) (placeIn list (2 ^ w) (b .raw)) e in
+    let is : b ≡ Is (b .raw) = ap (λ (a : ℕ). record { answer = a; raw = b .raw }) (eqb-true (b .answer) accepted (p .0)) in
+    let r = place-value list (2 ^ w) (b .raw) raw (p .1) in
+    (r .0, ap (entryValue signed) (r .1) ∙ entry-value signed v (b .raw) is)

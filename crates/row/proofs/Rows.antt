@@ -4,8 +4,8 @@
 use mathlib.Core.Path.{_≡_, refl, sym, ap, _∙_, subst}
 use mathlib.Core.Bool.{Bool, true, false, cond, not, _&&_, _||_}
 use mathlib.Core.List.{List, [], _∷_}
-use Prim.Native.Nat.{ℕ, _+_, _-_, _*_, _^_}
-use borrow.Author.Tests.{eqb-true}
+use Prim.Native.Nat.{ℕ, _+_, _-_, _*_, _<_, _^_}
+use borrow.Author.Tests.{eqb-true, eq-eqb}
 use lib.Dec.{T, eqb, leb, ltb, leb→le, ltb→lt, eqb→eq}
 use mir.Facts.{and-yes}
 use Rattle.bits.specs.Parts.{separate}
@@ -13,16 +13,26 @@ use Rattle.form.specs.Form.{X, same}
 use Rattle.form.specs.declared.Form.{Form}
 use Rattle.parts.specs.Placed.{placed, widthOf, inWords, readable}
 use Rattle.row.specs.Row.{Line, lines, among, rowIn, rowOf, noRow, isNone, onlyTimes16, targetRowOf}
+use Rattle.table.proofs.Check.{below, checked}
 use Rattle.row.specs.Fits.{Fitting}
+use Rattle.row.specs.Meaning.{entry}
 use Rattle.row.specs.declared.Meaning.{Meaning}
-use Rattle.row.specs.declared.Meaning.the-variants.{None, Unsigned, Signed}
+use Rattle.row.specs.declared.Meaning.the-variants.{None, Unsigned, Signed, Chosen}
 use Rattle.row.specs.declared.Row.{Row}
 
--- every value of w bits is one of 64
+-- no two of the first n numbers of a list are the same
+abbrev differ : ℕ → ℕ → Bool
+differ list n = below (λ k. below (λ j. not (eqb (entry list j) (entry list k))) k) n
+
+differing : (list n : ℕ) → T (differ list n) → (j k : ℕ) → j < k → k < n → entry list j ≡ entry list k → ⊥
+differing list n t j k h l e = subst (λ (b : Bool). T (not b)) (eq-eqb (entry list j) (entry list k) e) (checked _ k (checked _ n t k l) j h)
+
+-- every value of w bits is one of 64, and has one raw number
 abbrev meant : Meaning → ℕ → Bool
 meant None w = true
 meant (Unsigned plus) w = leb 1 w && (leb w 64 && leb (plus + 2 ^ w) (2 ^ 64))
 meant (Signed unit) w = leb 1 w && (ltb w 64 && (leb 1 unit && leb (unit * 2 ^ (w - 1)) (2 ^ 63)))
+meant (Chosen signed list) w = leb w 3 && differ list (2 ^ w)
 
 fits : (m : Meaning) (w : ℕ) → T (meant m w) → Fitting m w
 fits None w t = tt
@@ -35,6 +45,7 @@ fits (Signed unit) w t =
     let b = and-yes (ltb w 64) (leb 1 unit && leb (unit * 2 ^ (w - 1)) (2 ^ 63)) (a .1) in
     let c = and-yes (leb 1 unit) (leb (unit * 2 ^ (w - 1)) (2 ^ 63)) (b .1) in
     (leb→le _ _ (a .0), ltb→lt _ _ (b .0), leb→le _ _ (c .0), leb→le _ _ (c .1))
+fits (Chosen signed list) w t = let a = and-yes (leb w 3) (differ list (2 ^ w)) t in (leb→le _ _ (a .0), differing list (2 ^ w) (a .1))
 
 -- no two of its parts meet, in any slot that it can stand in: an X form's in slot 2 alone
 abbrev pub separateIn : ℕ → Row → Bool
@@ -106,6 +117,7 @@ target-good form = by-meaning (rowOf form .meaning)
     by-meaning None = tt
     by-meaning (Unsigned plus) = tt
     by-meaning (Signed unit) = keeps (λ r. T (good (form .family) r)) (rowOf form) (eqb unit 16) (row-good form) tt
+    by-meaning (Chosen signed list) = tt
 
 pub target-16 : (form : Form) → isNone (targetRowOf form) ≡ false → targetRowOf form .meaning ≡ Signed 16
 target-16 form some = by-meaning (rowOf form .meaning) refl some
@@ -118,3 +130,4 @@ target-16 form some = by-meaning (rowOf form .meaning) refl some
     by-meaning None e s = absurd (subst T s tt)
     by-meaning (Unsigned plus) e s = absurd (subst T s tt)
     by-meaning (Signed unit) e s = by-unit unit (eqb unit 16) refl e s
+    by-meaning (Chosen signed list) e s = absurd (subst T s tt)

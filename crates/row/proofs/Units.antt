@@ -2,11 +2,11 @@
 use mathlib.Core.Path.{_≡_, refl, ap, _∙_}
 use mathlib.Core.Bool.{Bool, true, false, cond}
 use Prim.Native.Nat.{ℕ, suc, _+_, _-_, _*_, _/_, _%_, _≤_, _<_, _^_}
-use native.Mathlib.Nat.{mul-comm, mul-add, mul-le-mul-left, le-trans, le-of-lt, mod-lt, mod-eq-of-lt, div-add-mod', div-lt-iff-lt-mul, le-div-iff-mul-le, pow-suc}
+use native.Mathlib.Nat.{mul-comm, mul-add, mul-le-mul-left, le-trans, le-of-lt, mod-lt, mod-eq-of-lt, div-add-mod', div-lt-iff-lt-mul, le-div-iff-mul-le, pow-suc, pow-le-pow-right}
 use native.Mathlib.Decide.{decLt}
 use native.Mathlib.Omega.{arith}
 use borrow.Author.Tests.{ltb-true, ltb-false, lt-ltb, le-ltb}
-use lib.Dec.{ltb}
+use lib.Dec.{lit<, ltb}
 use lib.Pow.{pow-pos}
 use lib.IntN.{ℤ, pos, negsuc}
 use mir.Syntax.{w64}
@@ -21,6 +21,10 @@ pub half : (w : ℕ) → 1 ≤ w → 2 ^ w ≡ 2 ^ (w - 1) + 2 ^ (w - 1)
 half w h =
     let e : w ≡ suc (w - 1) = omega arith in
     ap (λ (k : ℕ). 2 ^ k) e ∙ pow-suc 2 (w - 1) ∙ omega arith
+
+-- the places of a list
+pub at-most-8 : (w : ℕ) → w ≤ 3 → 2 ^ w ≤ 8
+at-most-8 w h = pow-le-pow-right {n = 2} (lit< tt) h
 
 -- so many units, at most half of what w bits count, fit
 pub units-fit : (unit w n : ℕ) → SignedFits unit w → n ≤ 2 ^ (w - 1) → unit * n ≤ 2 ^ 63

@@ -1,26 +1,37 @@
 -- What a raw number of w bits means, and which raw number a value has. Assumes nothing.
-use Prim.Native.Nat.{ℕ, suc, _+_, _-_, _*_, _/_, _%_, _^_}
-use mathlib.Core.Bool.{cond}
+use Prim.Native.Nat.{ℕ, zero, suc, _+_, _-_, _*_, _/_, _%_, _^_}
+use mathlib.Core.Bool.{Bool, true, false, cond}
 use lib.Dec.{eqb, leb, ltb}
 use lib.IntN.{ℤ, pos, negsuc}
 use Rattle.answer.specs.Answer.{accepted, badValue}
+use Rattle.bits.specs.Part.{part}
 use Rattle.operand.specs.Kind.{ofI64, ofU64}
 use Rattle.operand.specs.declared.Operand.{Operand}
 use Rattle.operand.specs.declared.Operand.the-variants.{ImmI64, ImmU64}
 use Rattle.operand.specs.declared.Operand.the-variants.{None as NoOperand}
 use Rattle.row.specs.declared.Meaning.{Meaning}
-use Rattle.row.specs.declared.Meaning.the-variants.{None, Unsigned, Signed}
+use Rattle.row.specs.declared.Meaning.the-variants.{None, Unsigned, Signed, Chosen}
 use Rattle.row.specs.declared.value.Raw.{Raw}
 
 -- a raw number with a sign: the top bit is the sign, and the number counts units
 abbrev pub signedOf : ℕ → ℕ → ℕ → ℤ
 signedOf unit w raw = cond (ltb raw (2 ^ (w - 1))) (pos (unit * raw)) (negsuc (unit * (2 ^ w - raw) - 1))
 
+-- what stands at a place of a list: a list of numbers of 8 bits is one number, and the first of them stands lowest
+abbrev pub entry : ℕ → ℕ → ℕ
+entry list place = part list (8 * place) 8
+
+-- a number of 8 bits as a value, with a sign or without
+abbrev pub entryValue : Bool → ℕ → Operand
+entryValue true b = ImmI64 (signedOf 1 8 b)
+entryValue false b = ImmU64 b
+
 -- the value of a raw number
 abbrev pub valueOf : Meaning → ℕ → ℕ → Operand
 valueOf None w raw = NoOperand
 valueOf (Unsigned plus) w raw = ImmU64 (plus + raw)
 valueOf (Signed unit) w raw = ImmI64 (signedOf unit w raw)
+valueOf (Chosen signed list) w raw = entryValue signed (entry list raw)
 
 -- a value's raw number, and the refusal of a value that has none
 abbrev pub Is : ℕ → Raw
@@ -43,8 +54,19 @@ rawSigned unit w (negsuc v) = rawDown unit w (suc v)
 abbrev pub rawUnsigned : ℕ → ℕ → ℕ → Raw
 rawUnsigned plus w v = cond (ltb v plus) Bad (cond (ltb (v - plus) (2 ^ w)) (Is (v - plus)) Bad)
 
--- the raw number of a value; a value of another kind, range or multiple has none
+-- the number of 8 bits of a value, with a sign or without
+abbrev pub entryOf : Bool → Operand → Raw
+entryOf true value = ofI64 value (rawSigned 1 8) Bad
+entryOf false value = ofU64 value (rawUnsigned 0 8) Bad
+
+-- the place, below n, at which a list has a number
+abbrev pub placeIn : ℕ → ℕ → ℕ → Raw
+placeIn list zero b = Bad
+placeIn list (suc n) b = cond (eqb (entry list n) b) (Is n) (placeIn list n b)
+
+-- the raw number of a value; a value of another kind, range or multiple, or that isn't in the list, has none
 abbrev pub rawOf : Meaning → ℕ → Operand → Raw
 rawOf None w value = Bad
 rawOf (Unsigned plus) w value = ofU64 value (rawUnsigned plus w) Bad
 rawOf (Signed unit) w value = ofI64 value (rawSigned unit w) Bad
+rawOf (Chosen signed list) w value = let b = entryOf signed value in cond (eqb (b .answer) accepted) (placeIn list (2 ^ w) (b .raw)) Bad

@@ -1,14 +1,15 @@
 -- Document 01's table of immediates. Assumes nothing.
-use Prim.Native.Nat.{ℕ, zero, suc}
+use Prim.Native.Nat.{ℕ, zero, suc, _-_}
 use mathlib.Core.Bool.{Bool, true, false, cond, not, _||_}
 use mathlib.Core.List.{List, [], _∷_}
 use lib.Dec.{eqb}
+use Rattle.bundle.specs.Bytes.{number}
 use Rattle.form.specs.Form.{a, b, f, m, x, same}
 use Rattle.form.specs.declared.Form.{Form}
 use Rattle.parts.specs.Placed.{L}
 use Rattle.parts.specs.declared.Part.{Part}
 use Rattle.row.specs.declared.Meaning.{Meaning}
-use Rattle.row.specs.declared.Meaning.the-variants.{None, Unsigned, Signed}
+use Rattle.row.specs.declared.Meaning.the-variants.{None, Unsigned, Signed, Chosen}
 use Rattle.row.specs.declared.Row.{Row}
 
 infix 80 _wide_
@@ -45,8 +46,17 @@ signed = Signed 1
 abbrev pub times16 : Meaning
 times16 = Signed 16
 
--- the table, in document 01's order
+-- so much below zero, in a list of numbers with a sign
+abbrev pub minus : ℕ → ℕ
+minus n = 256 - n
+
+-- which one of a list: the manual's lower two bits choose 16, 8, 4 or 1, and the third makes it negative
+abbrev pub increment : Meaning
+increment = Chosen true (number (16 ∷ 8 ∷ 4 ∷ 1 ∷ minus 16 ∷ minus 8 ∷ minus 4 ∷ minus 1 ∷ []))
+
+-- the table, in document 01's order; M17's line is document 02's
 unfoldable pub lines : List Line
+unfolding number
 lines =
     (a 2 ∷ a 10 ∷ []) are row (Unsigned 1) (27 wide 2 ∷ [])
     ∷ (a 3 ∷ a 8 ∷ m 30 ∷ []) are row signed (13 wide 7 ∷ 36 wide 1 ∷ [])
@@ -54,7 +64,7 @@ lines =
     ∷ (a 5 ∷ []) are row signed (13 wide 7 ∷ 27 wide 9 ∷ 22 wide 5 ∷ 36 wide 1 ∷ [])
     ∷ (m 3 ∷ m 8 ∷ m 15 ∷ []) are row signed (13 wide 7 ∷ 27 wide 1 ∷ 36 wide 1 ∷ [])
     ∷ (m 5 ∷ m 10 ∷ []) are row signed (6 wide 7 ∷ 27 wide 1 ∷ 36 wide 1 ∷ [])
-    ∷ (m 17 ∷ []) are row signed (13 wide 3 ∷ [])
+    ∷ (m 17 ∷ []) are row increment (13 wide 3 ∷ [])
     ∷ (m 20 ∷ m 21 ∷ []) are row times16 (6 wide 7 ∷ 20 wide 13 ∷ 36 wide 1 ∷ [])
     ∷ (m 22 ∷ m 23 ∷ b 1 ∷ b 2 ∷ b 3 ∷ []) are row times16 (13 wide 20 ∷ 36 wide 1 ∷ [])
     ∷ (f 14 ∷ []) are row times16 (6 wide 20 ∷ 36 wide 1 ∷ [])
@@ -85,6 +95,7 @@ abbrev pub means : Meaning → Bool
 means None = false
 means (Unsigned plus) = true
 means (Signed unit) = true
+means (Chosen signed list) = true
 
 abbrev pub isNone : Row → Bool
 isNone row = not (means (row .meaning))
@@ -94,6 +105,7 @@ abbrev pub onlyTimes16 : Meaning → Row → Row
 onlyTimes16 None row = noRow
 onlyTimes16 (Unsigned plus) row = noRow
 onlyTimes16 (Signed unit) row = cond (eqb unit 16) row noRow
+onlyTimes16 (Chosen signed list) row = noRow
 
 -- the row of a form that has a target
 abbrev pub targetRowOf : Form → Row

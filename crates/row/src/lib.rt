@@ -19,11 +19,13 @@ use form::X;
 use parts::L;
 use parts::Part;
 
-// What the raw number of a row means: itself and so much more, or, with a sign, so many times itself.
+// What the raw number of a row means: itself and so much more; with a sign, so many times itself; or the one that it chooses
+// from a list of numbers of 8 bits, the first of which stands lowest, with a sign where the flag is set.
 pub enum Meaning {
     None,
     Unsigned(u64),
     Signed(u64),
+    Chosen(bool, u64),
 }
 
 // Its parts stand lowest first, and the last have no width.
@@ -87,7 +89,8 @@ const I2D: Part = Part {
     width: 2,
 };
 
-const INC3: Part = Part {
+// i2b, and above it M17's own s.
+const I2B_S: Part = Part {
     place: 13,
     width: 3,
 };
@@ -158,10 +161,13 @@ const IMM9A: Row = Row {
     parts: [IMM7A, I, S, NO, NO, NO],
 };
 
+// 16, 8, 4, 1, -16, -8, -4, -1, from the lowest byte on.
+const INCREMENTS: u64 = 0xFFFC_F8F0_0104_0810;
+
 // M17
 const INCREMENT: Row = Row {
-    meaning: Meaning::Signed(1),
-    parts: [INC3, NO, NO, NO, NO, NO],
+    meaning: Meaning::Chosen(true, INCREMENTS),
+    parts: [I2B_S, NO, NO, NO, NO, NO],
 };
 
 // M20, M21

@@ -1,9 +1,9 @@
 // What a raw number means, and the raw number of a value.
 ghost use mathlib.Core.Path.{_≡_};
-ghost use Prim.Native.Nat.{_<_, _^_};
+ghost use Prim.Native.Nat.{_≤_, _<_, _^_};
 ghost use Rattle.operand.specs.Pattern.{patternOf};
-ghost use Rattle.row.specs.Meaning.{signedOf, valueOf, rawUp, rawDown, rawOf};
-ghost use Rattle.row.specs.Fits.{UnsignedFits, SignedFits, Fitting};
+ghost use Rattle.row.specs.Meaning.{signedOf, valueOf, entry, entryValue, entryOf, placeIn, rawUp, rawDown, rawOf};
+ghost use Rattle.row.specs.Fits.{UnsignedFits, SignedFits, ChosenFits, Fitting};
 use crate::Meaning;
 use answer::ACCEPTED;
 use answer::BAD_VALUE;
@@ -19,11 +19,38 @@ pub fn value_of(meaning: Meaning, width: u32, raw: u64) -> Operand
     match meaning {
         Meaning::None => Operand::None,
         Meaning::Unsigned(plus) => Operand::ImmU64(plus + raw),
-        Meaning::Signed(unit) => {
-            let integer = operand::integer(displacement(unit, width, raw));
-            Operand::ImmI64(integer)
-        }
+        Meaning::Signed(unit) => signed_value(unit, width, raw),
+        Meaning::Chosen(signed, list) => entry_value(signed, entry_at(list, raw)),
     }
+}
+
+// The value of a raw number with a sign.
+fn signed_value(unit: u64, width: u32, raw: u64) -> Operand
+    requires { ⌜ SignedFits unit width × (raw < 2 ^ width) ⌝ }
+    ensures { λ r. ⌜ r ≡ Operand.ImmI64 (signedOf unit width raw) ⌝ }
+{
+    let integer = operand::integer(displacement(unit, width, raw));
+    Operand::ImmI64(integer)
+}
+
+// A number of 8 bits as a value.
+fn entry_value(signed: bool, entry: u64) -> Operand
+    requires { ⌜ entry < 2 ^ 8 ⌝ }
+    ensures { λ r. ⌜ r ≡ entryValue signed entry ⌝ }
+{
+    if signed {
+        signed_value(1, 8, entry)
+    } else {
+        Operand::ImmU64(entry)
+    }
+}
+
+// What stands at a place of a list.
+fn entry_at(list: u64, place: u64) -> u64
+    requires { ⌜ place < 8 ⌝ }
+    ensures { λ r. ⌜ r ≡ entry list place ⌝ }
+{
+    bits::get(list, (8 * place) as u32, 8)
 }
 
 // The 64-bit pattern of a raw number with a sign: the top bit takes away what it would else add. No branch on it, since a
@@ -47,7 +74,7 @@ const BAD: Raw = Raw {
     raw: 0,
 };
 
-// The raw number of a value, where its kind, range and multiple are the meaning's.
+// The raw number of a value, where its kind, range and multiple are the meaning's, or its list has it.
 pub fn raw_of(meaning: Meaning, width: u32, value: Operand) -> Raw
     requires { ⌜ Fitting meaning width ⌝ }
     ensures { λ r. ⌜ r ≡ rawOf meaning width value ⌝ }
@@ -56,6 +83,7 @@ pub fn raw_of(meaning: Meaning, width: u32, value: Operand) -> Raw
         Meaning::None => BAD,
         Meaning::Unsigned(plus) => raw_unsigned(plus, width, value),
         Meaning::Signed(unit) => raw_signed(unit, width, value),
+        Meaning::Chosen(signed, list) => raw_chosen(signed, list, width, value),
     }
 }
 
@@ -131,4 +159,45 @@ fn raw_down(unit: u64, width: u32, below: u64) -> Raw
     } else {
         BAD
     }
+}
+
+// The place of a value in a list.
+fn raw_chosen(signed: bool, list: u64, width: u32, value: Operand) -> Raw
+    requires { ⌜ ChosenFits list width ⌝ }
+    ensures { λ r. ⌜ r ≡ rawOf (Meaning.Chosen signed list) width value ⌝ }
+{
+    let entry = entry_of(signed, value);
+    if entry.answer != ACCEPTED {
+        return BAD;
+    }
+    place_in(list, 1 << width, entry.raw)
+}
+
+// The number of 8 bits of a value.
+fn entry_of(signed: bool, value: Operand) -> Raw
+    ensures { λ r. ⌜ r ≡ entryOf signed value ⌝ }
+{
+    if signed {
+        raw_signed(1, 8, value)
+    } else {
+        raw_unsigned(0, 8, value)
+    }
+}
+
+// The place of a number among the first `count` of a list.
+fn place_in(list: u64, count: u64, entry: u64) -> Raw
+    requires { ⌜ count ≤ 8 ⌝ }
+    ensures { λ r. ⌜ r ≡ placeIn list count entry ⌝ }
+{
+    let mut place = count;
+    while place > 0 {
+        place -= 1;
+        if entry_at(list, place) == entry {
+            return Raw {
+                answer: ACCEPTED,
+                raw: place,
+            };
+        }
+    }
+    BAD
 }

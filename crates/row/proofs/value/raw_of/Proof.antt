@@ -13,6 +13,9 @@ raw-unsigned-requires c κs = let start = c .before .before .before in subst (λ
 raw-signed-requires : tie.Need-raw-signed-requires
 raw-signed-requires c κs = let start = c .before .before .before in subst (λ (m : Meaning). Fitting m (start .args .width)) (c .before .meaning2 .given .1) (start .pre)
 
+raw-chosen-requires : tie.Need-raw-chosen-requires
+raw-chosen-requires c κs = let start = c .before .before .before in subst (λ (m : Meaning). Fitting m (start .args .width)) (c .before .meaning3 .given .1) (start .pre)
+
 returns : tie.Need-returns
 returns c = let a = c .before .before .args in sym (ap (λ (m : Meaning). rawOf m (a .width) (a .value)) (c .enum-told .given .1))
 
@@ -21,6 +24,9 @@ returns-2 c = let a = c .before .before .before .before .args in c .raw-unsigned
 
 returns-3 : tie.Need-returns-3
 returns-3 c = let a = c .before .before .before .before .args in c .raw-signed .ensures ∙ sym (ap (λ (m : Meaning). rawOf m (a .width) (a .value)) (c .before .before .meaning2 .given .1))
+
+returns-4 : tie.Need-returns-4
+returns-4 c = let a = c .before .before .before .before .args in c .raw-chosen .ensures ∙ sym (ap (λ (m : Meaning). rawOf m (a .width) (a .value)) (c .before .before .meaning3 .given .1))
 
 pub raw-of-spec : {M : Type 1} → statement M
 raw-of-spec =
@@ -31,6 +37,9 @@ raw-of-spec =
     raw-unsigned-requires
     (λ c. search needs)
     raw-signed-requires
+    (λ c. search needs)
+    raw-chosen-requires
     returns
     returns-2
-    returns-3)
+    returns-3
+    returns-4)
