@@ -9,7 +9,6 @@
  *      5  slot above 2, or the form doesn't fit it
  *      6  the address is no multiple of 16
  *     10  the code is longer than 65,536 bytes
- *     12  the output has fewer than seven numbers
  *
  * Bundle n of a code is bytes 16n to 16n + 16. A form is the family letter's byte and its number: 'M', 48. Every number may
  * be any number of 64 bits. No pointer may be null, not even one to nothing. Nothing is kept between calls, so they may run at
@@ -28,14 +27,13 @@ extern "C" {
 #endif
 
 /* How many numbers a cut bundle has. */
-#define GLINDORSC_CUT 7
+#define GLINDORSC_CUT 10
 
 /*
- * Cuts a bundle: out[0] is the tag, out[1..3] are the units' letters, out[4..6] the slots. The rest of out is kept. Answers 12,
- * before all others, where room is below GLINDORSC_CUT, and keeps all of out. Where refused by 10 or 1 the seven numbers are 0,
- * and by 2 all but the tag.
+ * Cuts a bundle (10, 1, 2): out[0] is the tag, out[1..3] are the units' letters, out[4..6] the slots; out[7..9] are 1 where a stop
+ * follows slot 0, 1, 2, and else 0. Where refused by 10 or 1 the ten numbers are 0, and by 2 all but the tag.
  */
-uint8_t glindorsc_cut(const uint8_t *code, size_t length, uint64_t bundle, uint64_t *out, size_t room);
+uint8_t glindorsc_cut(const uint8_t *code, size_t length, uint64_t bundle, uint64_t out[GLINDORSC_CUT]);
 
 /*
  * Reads the immediate of a form in a slot (10, 1, 2, 3, 5) as its 64-bit pattern, two's complement where the form's numbers have

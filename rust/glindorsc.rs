@@ -7,18 +7,19 @@
 
 #[link(name = "glindorsc", kind = "static")]
 extern "C" {
-    fn glindorsc_cut(code: *const u8, length: usize, bundle: u64, out: *mut u64, room: usize) -> u8;
+    fn glindorsc_cut(code: *const u8, length: usize, bundle: u64, out: *mut [u64; 10]) -> u8;
     fn glindorsc_immediate(code: *const u8, length: usize, bundle: u64, slot: u64, family: u64, number: u64, value: *mut u64) -> u8;
     fn glindorsc_target(code: *const u8, length: usize, bundle: u64, slot: u64, family: u64, number: u64, address: u64, target: *mut u64) -> u8;
 }
 
-/// A bundle's tag, the letters of its units, and its three slots.
+/// A bundle's tag, the letters of its units, its three slots, and after which of them a stop stands.
 #[derive(Clone, Copy, Debug, Default, PartialEq, Eq)]
 pub struct Bundle {
     pub answer: u8,
     pub tag: u8,
     pub units: [u8; 3],
     pub slots: [u64; 3],
+    pub stops: [bool; 3],
 }
 
 /// An answer, and an immediate's 64-bit pattern or a target.
@@ -39,26 +40,27 @@ pub struct Place {
 
 /// Bundle `bundle` of the code, cut.
 pub fn cut(code: &[u8], bundle: u64) -> Bundle {
-    let mut out = [0; 7];
+    let mut out = [0; 10];
     let answer = cut_into(code, bundle, &mut out);
     Bundle {
         answer,
         tag: out[0] as u8,
         units: [out[1] as u8, out[2] as u8, out[3] as u8],
         slots: [out[4], out[5], out[6]],
+        stops: [out[7] == 1, out[8] == 1, out[9] == 1],
     }
 }
 
-/// The call itself: fills the first seven numbers of the output, and answers 12 where it has fewer.
-pub fn cut_into(code: &[u8], bundle: u64, out: &mut [u64]) -> u8 {
-    // SAFETY: both slices are whole, and lent for the call alone.
-    unsafe { glindorsc_cut(code.as_ptr(), code.len(), bundle, out.as_mut_ptr(), out.len()) }
+/// The call itself, which fills the ten numbers.
+pub fn cut_into(code: &[u8], bundle: u64, out: &mut [u64; 10]) -> u8 {
+    // SAFETY: the slice is whole, and it and the numbers are lent for the call alone.
+    unsafe { glindorsc_cut(code.as_ptr(), code.len(), bundle, out) }
 }
 
 /// The immediate of a form, as its 64-bit pattern.
 pub fn immediate(code: &[u8], at: Place) -> Answered {
     let mut number = 0;
-    // SAFETY: the slice is whole, and it and the number are lent for the call alone.
+    // SAFETY: as above.
     let answer = unsafe { glindorsc_immediate(code.as_ptr(), code.len(), at.bundle, at.slot, at.family, at.number, &mut number) };
     Answered { answer, number }
 }

@@ -193,7 +193,7 @@ fn sheets(random: &mut Random, model: &Model) {
 
 fn listing(random: &mut Random, model: &Model) {
     let text: Vec<u8> = (0..16 * BUNDLES).flat_map(|_| format!("{:02x} ", random.next() as u8).into_bytes()).collect();
-    let (mut first, mut second) = (vec![0; 221227], vec![0; 221227]);
+    let (mut first, mut second) = (vec![0; 229419], vec![0; 229419]);
     let ours = || unsafe { bench_listing(text.as_ptr(), text.len(), first.as_mut_ptr(), first.len()) as usize };
     line("listing, a bundle of 65,536 bytes", BUNDLES, "plain Rust", ours, || model.listing(&text, &mut second).1);
     assert!(first == second, "the listings differ");

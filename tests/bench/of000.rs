@@ -80,7 +80,7 @@ pub mod bench {
     }
 
     /// The lines of `decode_into` from its start up to the choice of an opcode, the words loaded as numbers.
-    fn cut_one<T: Reader<u64, u8>>(bytes: &mut T) -> Result<(u8, [InstructionType; 3], [u64; 3]), DecodeError> {
+    fn cut_one<T: Reader<u64, u8>>(bytes: &mut T) -> Result<(u8, BundleDesc, [u64; 3]), DecodeError> {
         let mut ia64_word = [0u8; 16];
         bytes.next_n(&mut ia64_word)?;
         let mut instruction_bytes = bitarr![Lsb0, u8; 0u8; 128];
@@ -93,8 +93,8 @@ pub mod bench {
             &instruction_bytes[46..87],
             &instruction_bytes[87..128],
         ];
-        let (instruction_types, _) = BUNDLE_TAGS[bundle_tag as usize].ok_or(DecodeError::BadBundle)?;
-        Ok((bundle_tag, instruction_types, instruction_words.map(|word| word.load::<u64>())))
+        let described = BUNDLE_TAGS[bundle_tag as usize].ok_or(DecodeError::BadBundle)?;
+        Ok((bundle_tag, described, instruction_words.map(|word| word.load::<u64>())))
     }
 
     fn letter(unit: InstructionType) -> u64 {
@@ -113,9 +113,11 @@ pub mod bench {
     pub fn cut(code: &[u8]) -> u64 {
         let mut sum = 0u64;
         for bundle in code.chunks_exact(16) {
-            if let Ok((tag, units, slots)) = cut_one(&mut yaxpeax_arch::Bytes(bundle)) {
+            if let Ok((tag, (units, stops), slots)) = cut_one(&mut yaxpeax_arch::Bytes(bundle)) {
                 sum = sum.wrapping_add(tag as u64);
                 sum = units.into_iter().fold(sum, |sum, unit| sum.wrapping_add(letter(unit)));
+                // as its `Display` takes them: tag 5's one stands after another slot than the manual's, which a sum doesn't show
+                sum = [(stops & 0b100) > 0, (stops & 0b010) > 0, (stops & 0b001) > 0].into_iter().fold(sum, |sum, stop| sum.wrapping_add(stop as u64));
                 sum = slots.into_iter().fold(sum, u64::wrapping_add);
             }
         }

@@ -1,6 +1,6 @@
 """Document 01 and the lines of `probe`, in Python: what each line is to be answered.
 
-Written from the two papers and not from the Rattle; forms, units and rows are those of ../table. A `Model` answers line by line, as the
+Written from the two papers and not from the Rattle; forms, units, stops and rows are those of ../table. A `Model` answers line by line, as the
 program does.
 """
 import inspect
@@ -10,7 +10,7 @@ import sys
 
 sys.path.append(str(pathlib.Path(__file__).resolve().parents[1] / "table"))
 import table
-from table import FITTING, FORMS, UNITS
+from table import FITTING, FORMS, STOPS, UNITS
 
 MOST, WORD, PLACES = 65536, 1 << 41, 64
 HUGE = 1 << 64
@@ -76,6 +76,10 @@ class Bundle:
         self.tag = number % 32
         self.words = [number >> 5 + 41 * k & WORD - 1 for k in range(3)]
         self.units = UNITS.get(self.tag)
+
+    def marked(self):
+        """The units, with `;` after each that a stop follows."""
+        return "".join(unit + (";" if slot in STOPS[self.tag] else "") for slot, unit in enumerate(self.units))
 
     def data(self):
         return (self.tag + sum(word << 5 + 41 * k for k, word in enumerate(self.words))).to_bytes(16, "little")
@@ -249,7 +253,7 @@ class Model:
         answer = self.refused(reasons + [(2, bundle and bundle.units is None)])
         if answer:
             return f"cut {answer} {bundle.tag if answer == 2 else 0} - 0 0 0"
-        return f"cut 0 {bundle.tag} {bundle.units} {' '.join(map(str, bundle.words))}"
+        return f"cut 0 {bundle.tag} {bundle.marked()} {' '.join(map(str, bundle.words))}"
 
     def on_join(self, length, tag, w0, w1, w2):
         length, tag, words = number(length), number(tag), [number(w0), number(w1), number(w2)]

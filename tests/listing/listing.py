@@ -31,7 +31,7 @@ def parse(text):
 
 def line(number, data):
     bundle = Bundle(data)
-    return [number, bundle.tag] + ([bundle.units, *bundle.words] if bundle.units else ["reserved"])
+    return [number, bundle.tag] + ([bundle.marked(), *bundle.words] if bundle.units else ["reserved"])
 
 
 def listing(text):

@@ -3,7 +3,7 @@
 use super::text::Text;
 use super::{slots, tag, Model, MOST};
 
-const LONGEST: usize = 221227;
+const LONGEST: usize = 229419;
 
 fn digit(c: u8) -> Option<u8> {
     match c {
@@ -45,7 +45,9 @@ impl Model {
                 None => text.put(b"reserved\n"),
                 Some(units) => {
                     let [first, second, third] = slots(whole);
-                    text.put(&units);
+                    for (unit, stop) in units.into_iter().zip(self.stops(whole)) {
+                        text.put(&[unit, b';'][..1 + stop as usize]);
+                    }
                     text.put(b"\t");
                     text.field(first, b'\t');
                     text.field(second, b'\t');

@@ -1,5 +1,5 @@
 //! Document 01 in plain Rust: cut, immediates, targets, the journal, sheets, the listing, with all refusals. Bundles are numbers of
-//! 128 bits, and the journal goes by value. Written from the paper, with its forms, units and rows from ../table, and not from the
+//! 128 bits, and the journal goes by value. Written from the paper, with its forms, units, stops and rows from ../table, and not from the
 //! Rattle. The replayer's stand-in compares with it, and the benchmark times it beside the library.
 
 pub mod immediate;
@@ -18,14 +18,15 @@ const MOST: usize = 65536;
 /// The table, as the calls look things up in it.
 pub struct Model {
     units: [Option<[u8; 3]>; 32],
+    stops: [[bool; 3]; 32],
     /// By a family's letter: the units of the slots that it fits.
     fitting: [Vec<u8>; 256],
     /// By a family's letter and a form's number.
     rows: [Vec<Option<Row>>; 256],
 }
 
-/// The answer, a bundle's tag, its units and its slots.
-pub type Cut = (u8, u8, [u8; 3], [u64; 3]);
+/// The answer, a bundle's tag, its units, its slots and after which of them a stop stands.
+pub type Cut = (u8, u8, [u8; 3], [u64; 3], [bool; 3]);
 
 fn mask(width: u32) -> u64 {
     u64::MAX >> (64 - width)
@@ -57,7 +58,7 @@ fn slots(whole: u128) -> [u64; 3] {
 impl Model {
     pub fn new() -> Model {
         let (fitting, rows) = ([const { Vec::new() }; 256], [const { Vec::new() }; 256]);
-        let mut model = Model { units: table::units(), fitting, rows };
+        let mut model = Model { units: table::units(), stops: table::stops(), fitting, rows };
         for family in table::families() {
             let row = |number| table::rows().into_iter().find(|row| row.forms.contains(&(family.letter, number)));
             model.rows[family.letter as usize] = (0..=*family.numbers.end()).map(row).collect();
@@ -70,16 +71,20 @@ impl Model {
         self.units[tag(whole) as usize]
     }
 
+    fn stops(&self, whole: u128) -> [bool; 3] {
+        self.stops[tag(whole) as usize]
+    }
+
     fn row(&self, family: u64, number: u64) -> Option<&Row> {
         self.rows.get(family as usize)?.get(number as usize)?.as_ref()
     }
 
     pub fn cut(&self, code: &[u8], bundle: u64) -> Cut {
         match find(code, bundle) {
-            Err(answer) => (answer, 0, [0; 3], [0; 3]),
+            Err(answer) => (answer, 0, [0; 3], [0; 3], [false; 3]),
             Ok(whole) => match self.units(whole) {
-                None => (2, tag(whole), [0; 3], [0; 3]),
-                Some(units) => (0, tag(whole), units, slots(whole)),
+                None => (2, tag(whole), [0; 3], [0; 3], [false; 3]),
+                Some(units) => (0, tag(whole), units, slots(whole), self.stops(whole)),
             },
         }
     }

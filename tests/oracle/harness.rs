@@ -2,7 +2,7 @@
 // Appended to 000's lib.rs: answers lines about its private readers and about how it cuts a bundle.
 //   F N WORD L     POS O0 O1 O2 O3 O4: what the reader of that form reads (F the family's byte)
 //   parts F N WORD L   the bit parts that it looks at on the way, as 6..13, those of the L word after an L
-//   cut HEX32      TAG UNITS W0 W1 W2, or TAG BadBundle W0 W1 W2
+//   cut HEX32      TAG UNITS W0 W1 W2, the units with their stops as `MI;I;`, or TAG BadBundle W0 W1 W2
 fn main() {
     harness::main()
 }
@@ -133,6 +133,11 @@ mod harness {
         Some(())
     }
 
+    /// The units, with `;` after each that a stop follows, by the bits that 000's `Display` looks at.
+    fn marked((units, stops): BundleDesc) -> String {
+        units.iter().zip([0b100, 0b010, 0b001]).map(|(unit, bit)| format!("{unit}{}", if stops & bit > 0 { ";" } else { "" })).collect()
+    }
+
     /// The start of `decode_into` on sixteen bytes: the tag that it stores, whether it refuses, and
     /// the three words as it cuts them itself. What comes after, the choice of an opcode, is no
     /// part of this and may panic.
@@ -152,7 +157,7 @@ mod harness {
         let units = match ended {
             Ok(Err(DecodeError::BadBundle)) => String::from("BadBundle"),
             Ok(Err(other)) => format!("{other:?}"),
-            Ok(Ok(())) | Err(_) => BUNDLE_TAGS[usize::from(bundle.bundle_tag())]?.0.iter().map(|unit| format!("{unit}")).collect(),
+            Ok(Ok(())) | Err(_) => marked(BUNDLE_TAGS[usize::from(bundle.bundle_tag())]?),
         };
         write!(out, "{} {units}", bundle.bundle_tag()).ok()?;
         // the first part taken is the tag's

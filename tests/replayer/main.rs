@@ -43,25 +43,24 @@ impl Run {
     }
 
     fn cut(&mut self, code: &[u8], bundle: u64) {
-        let (answer, tag, units, slots) = self.model.cut(code, bundle);
-        let want = Bundle { answer, tag, units, slots };
+        let (answer, tag, units, slots, stops) = self.model.cut(code, bundle);
+        let want = Bundle { answer, tag, units, slots, stops };
         self.same("cut", &(code.len(), bundle, Run::shown(code, bundle)), glindorsc::cut(code, bundle), want);
     }
 
-    /// An output of any length: what stands past the seven numbers is kept, and all of a shorter one.
-    fn cut_into(&mut self, code: &[u8], bundle: u64, room: usize) {
+    /// The ten numbers themselves, and that what stands before and after them is kept.
+    fn cut_into(&mut self, code: &[u8], bundle: u64) {
         let mut out = [0xeeee_eeee_eeee_eeee; 12];
         let mut want = out;
-        let answer = glindorsc::cut_into(code, bundle, &mut out[..room]);
-        let (wanted, tag, units, slots) = self.model.cut(code, bundle);
-        if room >= 7 {
-            want[0] = tag as u64;
-            for i in 0..3 {
-                want[1 + i] = units[i] as u64;
-                want[4 + i] = slots[i];
-            }
+        let answer = glindorsc::cut_into(code, bundle, (&mut out[1..11]).try_into().unwrap());
+        let (wanted, tag, units, slots, stops) = self.model.cut(code, bundle);
+        want[1] = tag as u64;
+        for i in 0..3 {
+            want[2 + i] = units[i] as u64;
+            want[5 + i] = slots[i];
+            want[8 + i] = stops[i] as u64;
         }
-        self.same("cut into", &(code.len(), bundle, room), (answer, out), (if room >= 7 { wanted } else { 12 }, want));
+        self.same("cut into", &(code.len(), bundle, Run::shown(code, bundle)), (answer, out), (wanted, want));
     }
 
     fn form(&mut self, code: &[u8], at: Place, address: u64) {
@@ -78,6 +77,18 @@ impl Run {
 fn bundle_of(tag: u64, slots: [u64; 3]) -> [u8; 16] {
     let number = tag as u128 | (slots[0] as u128) << 5 | (slots[1] as u128) << 46 | (slots[2] as u128) << 87;
     number.to_le_bytes()
+}
+
+/// Every tag, cut: zeros, ones and random slots.
+fn every_tag(run: &mut Run) {
+    for tag in 0..32 {
+        for i in 0..200 {
+            let slots = if i < 2 { [i * WORD; 3] } else { [0; 3].map(|_| run.random.next() & WORD) };
+            let code = bundle_of(tag, slots);
+            run.cut(&code, 0);
+            run.cut_into(&code, 0);
+        }
+    }
 }
 
 /// Every form of the table in every slot of every tag: zeros, ones, each bit alone, each bit missing, random words.
@@ -119,9 +130,7 @@ fn every_refusal(run: &mut Run) {
         let last = (length / 16) as u64;
         for bundle in [last.saturating_sub(1), last, last + 1, 4095, 4096].into_iter().chain(EDGES) {
             run.cut(code, bundle);
-            for room in 0..=12 {
-                run.cut_into(code, bundle, room);
-            }
+            run.cut_into(code, bundle);
         }
         for _ in 0..20000 {
             let bundle = if run.random.below(4) == 0 { run.random.pick(&EDGES) } else { run.random.below(last + 2) };
@@ -138,6 +147,7 @@ fn every_refusal(run: &mut Run) {
 fn main() {
     let seed = std::env::args().nth(1).map_or(1, |text| text.parse().expect("a seed is a number"));
     let mut run = Run { model: Model::new(), random: Random(seed | 1 << 63), calls: 0, differences: 0 };
+    every_tag(&mut run);
     every_form(&mut run);
     every_refusal(&mut run);
     println!("replayer: {} calls compared, {} differences", run.calls, run.differences);

@@ -28,8 +28,9 @@ def part(text):
 FORMS = {family: span(numbers) for family, numbers, _ in lines("forms.txt")}
 FITTING = {family: units.split(", ") for family, _, units in lines("forms.txt")}
 
-# the units of a tag; a reserved one has none
-UNITS = {tag: units for tags, units in lines("units.txt") for tag in span(tags)}
+# the units of a tag, and the slots that a stop follows; a reserved one has none
+UNITS = {int(tag): units for tag, units, _ in lines("units.txt")}
+STOPS = {int(tag): [] if stops == "-" else list(map(int, stops.split(", "))) for tag, _, stops in lines("units.txt")}
 
 def meaning(fields):
     """(times, plus, nothing) of `16 | 0`, or (1, 0, the values) of values to choose from."""

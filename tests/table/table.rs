@@ -78,8 +78,17 @@ pub fn families() -> Vec<Family> {
 pub fn units() -> [Option<[u8; 3]>; 32] {
     let mut all = [None; 32];
     for field in lines(include_str!("units.txt")) {
-        for tag in span(field[0]) {
-            all[tag as usize] = Some(field[1].as_bytes().try_into().unwrap());
+        all[field[0].parse::<usize>().unwrap()] = Some(field[1].as_bytes().try_into().unwrap());
+    }
+    all
+}
+
+/// By tag and slot, whether a stop follows.
+pub fn stops() -> [[bool; 3]; 32] {
+    let mut all = [[false; 3]; 32];
+    for field in lines(include_str!("units.txt")) {
+        for slot in field[2].split(", ").filter(|slot| *slot != "-") {
+            all[field[0].parse::<usize>().unwrap()][slot.parse::<usize>().unwrap()] = true;
         }
     }
     all

@@ -15,10 +15,14 @@ pub fn at(numbers: &[u64], i: usize) -> u64 {
 
 pub fn of_bundle(cut: Bundle) -> u64 {
     let units = cut.template.units;
+    let stops = cut.template.stops;
     let slots = cut.slots;
     let mut sum = plus(cut.template.tag as u64, units[0] as u64);
     sum = plus(sum, units[1] as u64);
     sum = plus(sum, units[2] as u64);
+    sum = plus(sum, stops[0] as u64);
+    sum = plus(sum, stops[1] as u64);
+    sum = plus(sum, stops[2] as u64);
     sum = plus(sum, slots[0]);
     sum = plus(sum, slots[1]);
     plus(sum, slots[2])

@@ -6,4 +6,5 @@ pub mod Laws
 pub mod Loading
 pub mod Lies
 pub mod Seam
+pub mod Templates
 pub mod Unique

@@ -7,8 +7,8 @@ pub use half::bits_from;
 pub use half::put;
 pub use half::write;
 pub use template::Template;
-pub use template::template_of;
 pub use template::unitless;
+pub use template::units_of;
 ghost use mathlib.Core.Path.{_≡_};
 ghost use Rattle.answer.specs.Answer.{accepted, first};
 ghost use Rattle.bundle.specs.Bundle.{bundleAt, findAnswer, findOf, whole, loadedOf, cutNumber, cutOf, joinRefusals, joinOf, Joined};
@@ -19,6 +19,7 @@ use answer::EXHAUSTED_INPUT;
 use answer::NO_ROOM;
 use answer::TOO_LONG;
 use template::NO_TEMPLATE;
+use template::template_of;
 
 // How many bytes a code has at most.
 pub const LONGEST_CODE: usize = 65536;

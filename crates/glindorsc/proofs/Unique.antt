@@ -7,8 +7,8 @@ use Rattle.answer.proofs.Laws.{one-outcome}
 use Rattle.form.specs.declared.Form.{Form}
 use Rattle.glindorsc.specs.Calls.{Filled, Answered, cutCall, immediateCall, targetCall}
 
-pub cut-unique : (code : List ℕ) (k : ℕ) (out : List ℕ) {r s : Filled} → r ≡ cutCall code k out → s ≡ cutCall code k out → r ≡ s
-cut-unique code k out = one-outcome
+pub cut-unique : (code : List ℕ) (k : ℕ) {r s : Filled} → r ≡ cutCall code k → s ≡ cutCall code k → r ≡ s
+cut-unique code k = one-outcome
 
 pub immediate-unique : (code : List ℕ) (k slot : ℕ) (form : Form) {r s : Answered} → r ≡ immediateCall code k slot form → s ≡ immediateCall code k slot form → r ≡ s
 immediate-unique code k slot form = one-outcome

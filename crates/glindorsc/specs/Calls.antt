@@ -1,10 +1,7 @@
 -- What the calls from C and Rust come to: an answer, and numbers that go through an output. Assumes nothing.
 use Prim.Native.Nat.{ℕ}
 use mathlib.Core.Bool.{cond}
-use mathlib.Core.List.{List, _∷_, _++_}
-use lib.Dec.{ltb}
-use lib.ListN.{length, drop}
-use Rattle.answer.specs.Answer.{noRoom}
+use mathlib.Core.List.{List, _∷_, _++_, map}
 use Rattle.bundle.specs.Bundle.{cutOf}
 use Rattle.bundle.specs.declared.Bundle.{Bundle}
 use Rattle.form.specs.declared.Form.{Form}
@@ -18,15 +15,13 @@ pub record Filled : Type 0 where
   pub answer : ℕ
   pub out : List ℕ
 
--- a cut bundle's seven numbers: the tag, the units, the slots
+-- a cut bundle's ten numbers: the tag, the units, the slots, and 1 for each slot that a stop follows, else 0
 abbrev pub numbersOf : Bundle → List ℕ
-numbersOf b = b .template .tag ∷ (b .template .units ++ b .slots)
+numbersOf b = b .template .tag ∷ (b .template .units ++ b .slots ++ map (λ stop. cond stop 1 0) (b .template .stops))
 
--- a cut, refused or not, fills the first seven places of the output; an output of fewer places is refused and kept
-unfoldable pub cutCall : List ℕ → ℕ → List ℕ → Filled
-cutCall code k out =
-    cond (ltb (length out) 7) (record { answer = noRoom; out = out })
-    (record { answer = cutOf code k .answer; out = numbersOf (cutOf code k) ++ drop 7 out })
+-- a cut, refused or not, fills the output
+unfoldable pub cutCall : List ℕ → ℕ → Filled
+cutCall code k = record { answer = cutOf code k .answer; out = numbersOf (cutOf code k) }
 
 -- an answer, and the number that is then in the output
 pub record Answered : Type 0 where

@@ -1,36 +1,38 @@
 // The calls for programs in C and Rust: cut, immediate and target, on numbers and byte slices.
 ghost use mathlib.Core.Path.{_≡_};
-ghost use Rattle.glindorsc.specs.Calls.{Answered, Filled, patternIn, cutCall, immediateCall, targetCall};
-use answer::NO_ROOM;
+ghost use Rattle.glindorsc.specs.Calls.{Answered, Filled, numbersOf, patternIn, cutCall, immediateCall, targetCall};
+use bundle::Bundle;
 use form::Form;
 use operand::Operand;
 
-// Cuts a bundle. The output's first seven numbers become the tag, the three units and the three slots; an output
-// of fewer is refused by 12 and kept.
+// Cuts a bundle. The output becomes the tag, the three units, the three slots and, for each slot, 1 where a stop follows.
 #[no_mangle]
-pub extern "C" fn glindorsc_cut(code: &[u8], bundle: u64, out: &mut [u64]) -> u8
-    ensures { λ r. ⌜ _≡_ {A = Filled} (record { answer = r; out = now (out .exit) }) (cutCall (now (code .entry)) bundle (now (out .entry))) ⌝ }
+pub extern "C" fn glindorsc_cut(code: &[u8], bundle: u64, out: &mut [u64; 10]) -> u8
+    ensures { λ r. ⌜ _≡_ {A = Filled} (record { answer = r; out = now (out .exit) }) (cutCall (now (code .entry)) bundle) ⌝ }
 {
-    if out.len() < 7 {
-        return NO_ROOM;
-    }
     let cut = bundle::cut(code, bundle);
-    let units = cut.template.units;
-    let slots = cut.slots;
-    out[0] = cut.template.tag as u64;
-    out[1] = wide(units[0]);
-    out[2] = wide(units[1]);
-    out[3] = wide(units[2]);
-    out[4] = slots[0];
-    out[5] = slots[1];
-    out[6] = slots[2];
+    *out = numbers(cut);
     cut.answer
 }
 
-fn wide(byte: u8) -> u64
-    ensures { λ r. ⌜ r ≡ byte ⌝ }
+fn numbers(cut: Bundle) -> [u64; 10]
+    ensures { λ r. ⌜ r ≡ numbersOf cut ⌝ }
 {
-    byte as u64
+    let units = cut.template.units;
+    let slots = cut.slots;
+    let stops = cut.template.stops;
+    [
+        cut.template.tag as u64,
+        units[0] as u64,
+        units[1] as u64,
+        units[2] as u64,
+        slots[0],
+        slots[1],
+        slots[2],
+        stops[0] as u64,
+        stops[1] as u64,
+        stops[2] as u64,
+    ]
 }
 
 // Reads the immediate of a form in a slot, as its 64-bit pattern.

@@ -17,8 +17,7 @@ use row::Row;
 pub fn read_answer(bundle: Halves, slot: u64, form: Form, row: Row) -> u8
     ensures { λ r. ⌜ r ≡ first (readRefusals (whole bundle) slot form row) ⌝ }
 {
-    let template = bundle::template_of(bundle);
-    let units = template.units;
+    let units = bundle::units_of(bundle);
     if bundle::unitless(units) {
         return BAD_BUNDLE;
     }

@@ -8,6 +8,7 @@ use lib.ListN.{length, getD, length-append}
 use borrow.Author.Tests.{eq-eqb, ne-eqb}
 use Rattle.answer.specs.Answer.{badBundle}
 use Rattle.bundle.specs.Bundle.{cutOf}
+use Rattle.bundle.specs.Template.{markedUnits}
 use Rattle.bundle.specs.declared.Bundle.{Bundle}
 use Rattle.table.specs.Ascii.{ascii}
 use Rattle.text.specs.Ascii.{line}
@@ -16,7 +17,7 @@ use Rattle.lister.specs.Listing.{endOf, lineOf, linesOf, restOf}
 
 -- the end of a line that shows units and slots
 abbrev pub shown : Bundle → List ℕ
-shown b = line (b .template .units ∷ decimal (getD (b .slots) 0 0) ∷ decimal (getD (b .slots) 1 0) ∷ decimal (getD (b .slots) 2 0) ∷ [])
+shown b = line (markedUnits (b .template) ∷ decimal (getD (b .slots) 0 0) ∷ decimal (getD (b .slots) 1 0) ∷ decimal (getD (b .slots) 2 0) ∷ [])
 
 pub end-reserved : (b : Bundle) → b .answer ≡ badBundle → endOf b ≡ ascii "reserved\n"
 unfolding endOf
@@ -26,7 +27,7 @@ pub end-shown : (b : Bundle) → (b .answer ≡ badBundle → ⊥) → endOf b �
 unfolding endOf
 end-shown b d = rw (ne-eqb (b .answer) badBundle d)
 
-pub shown-length : (b : Bundle) → length (shown b) ≡ length (b .template .units) + suc (length (decimal (getD (b .slots) 0 0)) + suc (length (decimal (getD (b .slots) 1 0)) + suc (length (decimal (getD (b .slots) 2 0)) + 1)))
+pub shown-length : (b : Bundle) → length (shown b) ≡ length (markedUnits (b .template)) + suc (length (decimal (getD (b .slots) 0 0)) + suc (length (decimal (getD (b .slots) 1 0)) + suc (length (decimal (getD (b .slots) 2 0)) + 1)))
 shown-length b = simp length-append
 
 pub line-length : (n : ℕ) (b : Bundle) → length (lineOf n b) ≡ length (decimal n) + suc (length (decimal (b .template .tag)) + 1) + length (endOf b)

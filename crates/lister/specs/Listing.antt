@@ -7,6 +7,7 @@ use lib.Dec.{eqb, ltb}
 use lib.ListN.{length, getD, take}
 use Rattle.answer.specs.Answer.{Refusal, badBundle, tooLong}
 use Rattle.bundle.specs.Bundle.{longestCode, cutOf}
+use Rattle.bundle.specs.Template.{markedUnits}
 use Rattle.bundle.specs.declared.Bundle.{Bundle}
 use Rattle.table.specs.Ascii.{ascii}
 use Rattle.text.specs.Ascii.{tab, line}
@@ -24,7 +25,7 @@ header = line (ascii "bundle" ∷ ascii "tag" ∷ ascii "units" ∷ ascii "slot0
 unfoldable pub endOf : Bundle → List ℕ
 endOf b =
     cond (eqb (b .answer) badBundle) (line (ascii "reserved" ∷ []))
-    (line (b .template .units ∷ decimal (getD (b .slots) 0 0) ∷ decimal (getD (b .slots) 1 0) ∷ decimal (getD (b .slots) 2 0) ∷ []))
+    (line (markedUnits (b .template) ∷ decimal (getD (b .slots) 0 0) ∷ decimal (getD (b .slots) 1 0) ∷ decimal (getD (b .slots) 2 0) ∷ []))
 
 -- the line of bundle n
 unfoldable pub lineOf : ℕ → Bundle → List ℕ

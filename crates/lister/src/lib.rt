@@ -1,6 +1,7 @@
 // The listing of a code, document 01's last example, as a text.
 mod line;
 
+pub use line::put_units;
 ghost use mathlib.Core.Path.{_≡_};
 ghost use mathlib.Core.List.{[]};
 ghost use Prim.Native.Nat.{_≤_};
@@ -21,7 +22,7 @@ use text::Written;
 pub const ENOUGH: usize = 3 * LONGEST_CODE + 2;
 
 // No listing is longer.
-pub const CAPACITY: usize = 221227;
+pub const CAPACITY: usize = 229419;
 
 // The listing of the bytes that a text gives in hex.
 pub fn listing(text: &[u8], out: &mut [u8]) -> Written

@@ -1,8 +1,10 @@
 // The lines of a listing. Each is written at a place and answers the place after it.
+ghost use Rattle.bundle.specs.Template.{marked, markedUnits};
 ghost use Rattle.text.specs.Put.{Put};
 ghost use Rattle.lister.specs.Listing.{endOf, lineOf, restOf};
 use answer::BAD_BUNDLE;
 use bundle::Bundle;
+use bundle::Template;
 use text::NEWLINE;
 use text::TAB;
 use text::put_byte;
@@ -25,11 +27,30 @@ fn put_end(out: &mut [u8], at: usize, bundle: Bundle) -> usize
     if bundle.answer == BAD_BUNDLE {
         return put_text(out, at, b"reserved\n");
     }
-    let units = bundle.template.units;
     let slots = bundle.slots;
-    let mut next = put_text(out, at, &units);
+    let mut next = put_units(out, at, bundle.template);
     next = put_byte(out, next, TAB);
     put_fields(out, next, &[slots[0], slots[1], slots[2]], b"\t\t\n")
+}
+
+// A template's units, each with its stop.
+pub fn put_units(out: &mut [u8], at: usize, template: Template) -> usize
+    ensures { λ r. ⌜ Put (now (out .entry)) at (markedUnits template) (now (out .exit)) r ⌝ }
+{
+    let units = template.units;
+    let stops = template.stops;
+    let mut next = put_unit(out, at, units[0], stops[0]);
+    next = put_unit(out, next, units[1], stops[1]);
+    put_unit(out, next, units[2], stops[2])
+}
+
+fn put_unit(out: &mut [u8], at: usize, unit: u8, stop: bool) -> usize
+    ensures { λ r. ⌜ Put (now (out .entry)) at (marked unit stop) (now (out .exit)) r ⌝ }
+{
+    if stop {
+        return put_text(out, at, &[unit, b';']);
+    }
+    put_byte(out, at, unit)
 }
 
 // The line of the bytes left over, where there are any.

@@ -7,7 +7,7 @@ use Prim.Native.Nat.{ℕ, zero, suc, _≤_, _<_}
 use native.Mathlib.Nat.{not-suc-le-zero, le-of-suc-le-suc}
 use native.Mathlib.Decide.{ℕ-discrete}
 use native.Mathlib.Omega.{arith}
-use lib.Dec.{T, eqb, eqb→eq}
+use lib.Dec.{T}
 use lib.Arith.{lt-of-le-ne}
 use mir.Facts.{and-yes}
 
@@ -24,17 +24,17 @@ checked f (suc n) t k h =
       | no d ↦ checked f n (and-yes (f n) (below f n) t .1) k (lt-of-le-ne (le-of-suc-le-suc h) d)
     ]
 
--- the same numbers in the same order
-abbrev pub same : List ℕ → List ℕ → Bool
-same [] [] = true
-same [] (y ∷ ys) = false
-same (x ∷ xs) [] = false
-same (x ∷ xs) (y ∷ ys) = eqb x y && same xs ys
+-- the same elements in the same order, by a test of two elements
+abbrev pub same {ℓ} : {A : Type ℓ} → (A → A → Bool) → List A → List A → Bool
+same is [] [] = true
+same is [] (y ∷ ys) = false
+same is (x ∷ xs) [] = false
+same is (x ∷ xs) (y ∷ ys) = is x y && same is xs ys
 
-pub same→eq : (xs ys : List ℕ) → T (same xs ys) → xs ≡ ys
-same→eq [] [] t = refl
-same→eq [] (y ∷ ys) t = absurd t
-same→eq (x ∷ xs) [] t = absurd t
-same→eq (x ∷ xs) (y ∷ ys) t =
-    let h = and-yes (eqb x y) (same xs ys) t in
-    ap₂ _∷_ (eqb→eq x y (h .0)) (same→eq xs ys (h .1))
+pub same→eq {ℓ} : {A : Type ℓ} (is : A → A → Bool) → ((x y : A) → T (is x y) → x ≡ y) → (xs ys : List A) → T (same is xs ys) → xs ≡ ys
+same→eq is sound [] [] t = refl
+same→eq is sound [] (y ∷ ys) t = absurd t
+same→eq is sound (x ∷ xs) [] t = absurd t
+same→eq is sound (x ∷ xs) (y ∷ ys) t =
+    let h = and-yes (is x y) (same is xs ys) t in
+    ap₂ _∷_ (sound x y (h .0)) (same→eq is sound xs ys (h .1))

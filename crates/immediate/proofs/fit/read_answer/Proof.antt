@@ -1,33 +1,34 @@
 -- `read_answer` meets its contract: its tests are those of the refusals, in their order. Assumes nothing.
 use mathlib.Core.Path.{_≡_, _∙_, sym, ap}
 use mathlib.Core.Bool.{true, false}
+use mathlib.Core.List.{List}
+use Prim.Native.Nat.{ℕ}
 use borrow.Author.Needs.{needs}
 use borrow.Author.Tests.{lt-ltb, le-ltb, not-true, not-false}
 use lib.ListN.{getD}
 use Rattle.bundle.specs.Bundle.{tagOf, whole}
 use Rattle.bundle.specs.Template.{reserved, unitless}
-use Rattle.bundle.specs.declared.template.Template.{Template}
 use Rattle.row.specs.Row.{isNone}
 use Rattle.immediate.specs.Immediate.{fits, unitAt}
 use Rattle.immediate.proofs.fit.read_answer.Statement.{statement}
 use Rattle.immediate.proofs.fit.read_answer.Tie as tie
 
-reserved-is : (c : tie.After-unitless) → c .unitless .result ≡ reserved (tagOf (whole (c .before .before .before .args .bundle)))
-reserved-is c = c .unitless .ensures ∙ ap (λ (t : Template). unitless (t .units)) (c .before .before .template-of .ensures)
+reserved-is : (c : tie.After-unitless) → c .unitless .result ≡ reserved (tagOf (whole (c .before .before .args .bundle)))
+reserved-is c = c .unitless .ensures ∙ ap unitless (c .before .units-of .ensures)
 
-known : (c : tie.Else1) → reserved (tagOf (whole (c .before .before .before .before .args .bundle))) ≡ false
+known : (c : tie.Else1) → reserved (tagOf (whole (c .before .before .before .args .bundle))) ≡ false
 known c = sym (reserved-is (c .before)) ∙ c .if1 .left
 
-some : (c : tie.Else2) → isNone (c .before .before .before .before .before .before .args .row) ≡ false
+some : (c : tie.Else2) → isNone (c .before .before .before .before .before .args .row) ≡ false
 some c = sym (c .before .is-none .ensures) ∙ c .if2 .left
 
 fits-is : (c : tie.After-fits2) →
-    let a = c .before .before .before .before .before .before .before .before .args in
+    let a = c .before .before .before .before .before .before .before .args in
     c .fits2 .result ≡ fits (a .form) (unitAt (whole (a .bundle)) (a .slot))
 fits-is c =
-    let seen = c .before .before .before .before .before .before .before in
+    let seen = c .before .before .before .before .before .before in
     let a = seen .before .args in
-    c .fits2 .ensures ∙ ap (λ (t : Template). fits (a .form) (getD (t .units) (a .slot) 0)) (seen .template-of .ensures)
+    c .fits2 .ensures ∙ ap (λ (us : List ℕ). fits (a .form) (getD us (a .slot) 0)) (seen .units-of .ensures)
 
 returns : tie.Need-returns
 returns c = rw (sym (reserved-is (c .before)) ∙ c .if1 .taken)

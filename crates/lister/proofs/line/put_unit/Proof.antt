@@ -1,0 +1,22 @@
+-- `lister::line::put_unit` meets its contract: the letter and `;`, or the letter alone. Assumes nothing.
+use borrow.Author.Needs.{needs}
+use Rattle.lister.proofs.line.put_unit.Statement.{statement}
+use Rattle.lister.proofs.line.put_unit.Tie as tie
+
+returns : tie.Need-returns
+returns c = rw (c .before .before .before .before .before .if1 .taken) (c .before .before .put-text .ensures)
+
+returns-2 : tie.Need-returns-2
+returns-2 c = rw (c .before .before .before .before .if1 .left) (c .before .before .put-byte .ensures)
+
+pub put-unit-spec : {M : Type 1} → statement M
+put-unit-spec =
+    tie.close
+    (tie.spec
+    (λ c. search needs)
+    (λ c κs. search needs)
+    (λ c. search needs)
+    returns
+    (λ c κs. search needs)
+    (λ c. search needs)
+    returns-2)
