@@ -54,6 +54,8 @@ pub mod bench {
     family!(a, OperandEncodingA, read_a_operands, A1 A2 A3 A4 A5 A6 A7 A8 A9 A10);
     family!(b, OperandEncodingB, read_b_operands, B1 B2 B3 B4 B5 B6 B7 B8 B9);
     family!(f, OperandEncodingF, read_f_operands, F1 F2 F3 F4 F5 F6 F7 F8 F9 F10 F11 F12 F13 F14 F15 F16);
+    family!(i, OperandEncodingI, read_i_operands, I1 I2 I3 I4 I5 I6 I7 I8 I9 I10 I11 I12 I13 I14 I15 I16 I17 I18 I19 I20 I21 I22 I23 I24
+        I25 I26 I27 I28 I29 I30);
     family!(m, OperandEncodingM, read_m_operands, M1 M2 M3 M4 M5 M6 M7 M8 M9 M10 M11 M12 M13 M14 M15 M16 M17 M18 M19 M20 M21 M22 M23 M24
         M25 M26 M27 M28 M29 M30 M31 M32 M33 M34 M35 M36 M37 M38 M39 M40 M41 M42 M43 M44 M45 M46 M47 M48);
 
@@ -73,6 +75,7 @@ pub mod bench {
             b'A' => a(numbers, words),
             b'B' => b(numbers, words),
             b'F' => f(numbers, words),
+            b'I' => i(numbers, words),
             b'M' => m(numbers, words),
             b'X' => x(numbers, words),
             _ => 0,

@@ -136,7 +136,7 @@ def joins(talk):
 
 def refused_operands(talk):
     for family in (*range(256), 256 + 65, 256 + 77, (1 << 32) + 77, HUGE - 1):
-        for number in (0, 1, 5, 6, 9, 10, 11, 16, 17, 48, 49, 255, 256, 257, 256 + 48, (1 << 32) + 1, HUGE - 1):
+        for number in (0, 1, 5, 6, 9, 10, 11, 16, 17, 30, 31, 48, 49, 255, 256, 257, 256 + 48, (1 << 32) + 1, HUGE - 1):
             talk(f"operands {family} {number} {talk.random.choice((0, WORD - 1, WORD, HUGE - 1))} {talk.random.choice((0, WORD, HUGE - 1))}")
     for family, numbers in FORMS.items():
         for number in numbers:
@@ -155,7 +155,7 @@ def forms(random):
     if kind < 0.9:
         family = random.choice(list(FORMS))
         return ord(family), random.choice(FORMS[family])
-    return random.choice((*LETTERS, 73, 76, 97, 0, 256 + 77, HUGE - 1)), random.choice((0, 1, 10, 11, 17, 49, 256 + 1, HUGE - 1))
+    return random.choice((*LETTERS, 74, 76, 97, 0, 256 + 77, HUGE - 1)), random.choice((0, 1, 10, 11, 17, 49, 256 + 1, HUGE - 1))
 
 
 def fitting(random, family):
@@ -209,9 +209,36 @@ def increments(talk):
             assert talk(f"immediate 1 {slot} 77 17") == f"immediate 0 I{value}", "the model's M17 isn't the manual's"
 
 
+def with_sign(number, width):
+    return number - (1 << width) if number >> width - 1 else number
+
+
+# the manual's numbers of the I forms that have not the bare field, from the word: counts, tag13, mask17, imm44 and imm5
+BY_FORMULA = {
+    "I1": lambda word: (0, 7, 15, 16)[word >> 30 & 3],
+    "I8": lambda word: 31 - (word >> 20 & 31),
+    "I21": lambda word: with_sign(word >> 24 & 511, 9) * 16,
+    "I23": lambda word: with_sign((word >> 6 & 127) << 1 | (word >> 24 & 255) << 8 | (word >> 36 & 1) << 16, 17),
+    "I24": lambda word: with_sign((word >> 6 & (1 << 27) - 1) << 16 | (word >> 36 & 1) << 43, 44),
+    "I30": lambda word: 32 + (word >> 14 & 31),
+}
+
+
+def formulas(talk):
+    """Random words of those forms, in every slot that they fit."""
+    for name, tag, slot in slots_of_rows():
+        for _ in range(32 if name in BY_FORMULA else 0):
+            talk("code 48")
+            talk.bundle(1, tag)
+            word = int.from_bytes(talk.model.code[16:32], "little") >> 5 + 41 * slot & WORD - 1
+            said = talk(f"immediate 1 {slot} {ord(name[0])} {name[1:]}")
+            assert int(said.split(" ")[2][1:]) == BY_FORMULA[name](word), f"the model's {name} isn't the manual's"
+
+
 def immediates(talk):
     random = talk.random
     increments(talk)
+    formulas(talk)
     for name, tag, slot in slots_of_rows():
         form = f"{slot} {ord(name[0])} {name[1:]}"
         talk("code 48")
@@ -220,6 +247,8 @@ def immediates(talk):
             talk(f"immediate 1 {form}")
             talk(f"target 1 {form} {random.getrandbits(60) * 16}")
             talk(f"target 1 {form} {random.choice(EDGES)}")
+            talk(f"target 1 {form} 0")
+            talk(f"target 1 {form} {HUGE - 16}")
     for _ in range(12000):
         talk.random_code()
         n, slot, family, number = talk.random_place()

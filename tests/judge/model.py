@@ -23,7 +23,7 @@ class Row:
         self.parts, self.signed, self.times, self.plus, self.chosen = parts, signed, times, plus, chosen
         self.width = max(to + width for _, _, width, to in parts)
         least = -(1 << self.width - 1) if signed else 0
-        self.low, self.high = times * least + plus, times * (least + (1 << self.width) - 1) + plus
+        self.low, self.high = sorted((times * least + plus, times * (least + (1 << self.width) - 1) + plus))
         if chosen:
             assert len(chosen) == 1 << self.width
             self.low, self.high = min(chosen), max(chosen)

@@ -67,7 +67,7 @@ impl Row {
                 let unused = 64 - self.width();
                 Value::Signed(((raw << unused) as i64 >> unused) * times)
             }
-            Meaning::Counted { plus, .. } => Value::Unsigned(raw + plus),
+            Meaning::Counted { times, plus } => Value::Unsigned(raw.wrapping_mul(*times as u64).wrapping_add(*plus)),
         }
     }
 
@@ -76,8 +76,9 @@ impl Row {
         let width = self.width();
         match (&self.meaning, value) {
             (Meaning::Chosen(values), _) => values.iter().position(|n| self.of_kind(*n) == value).map(|raw| raw as u64),
-            (Meaning::Counted { plus, .. }, Value::Unsigned(n)) if !self.signed => {
-                n.checked_sub(*plus).filter(|raw| raw & !mask(width) == 0)
+            // times is 1 or -1 where there is no sign
+            (Meaning::Counted { times, plus }, Value::Unsigned(n)) if !self.signed => {
+                Some(n.wrapping_sub(*plus).wrapping_mul(*times as u64)).filter(|raw| raw & !mask(width) == 0)
             }
             (Meaning::Counted { times, .. }, Value::Signed(n)) if self.signed => {
                 let (count, most) = (n / times, 1 << (width - 1));

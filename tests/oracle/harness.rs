@@ -33,6 +33,7 @@ mod harness {
             Form::A(encoding) => read_a_operands(encoding, word),
             Form::B(encoding) => read_b_operands(encoding, word),
             Form::F(encoding) => read_f_operands(encoding, word),
+            Form::I(encoding) => read_i_operands(encoding, word),
             Form::M(encoding) => read_m_operands(encoding, word),
             Form::X(encoding) => read_l_operands(encoding, word, l),
         })
@@ -43,6 +44,7 @@ mod harness {
         A(OperandEncodingA),
         B(OperandEncodingB),
         F(OperandEncodingF),
+        I(OperandEncodingI),
         M(OperandEncodingM),
         X(OperandEncodingX),
     }
@@ -60,6 +62,14 @@ mod harness {
             b'F' => {
                 use OperandEncodingF::*;
                 named(&[F1, F2, F3, F4, F5, F6, F7, F8, F9, F10, F11, F12, F13, F14, F15, F16], family, number).map(Form::F)
+            }
+            b'I' => {
+                use OperandEncodingI::*;
+                let all = [
+                    I1, I2, I3, I4, I5, I6, I7, I8, I9, I10, I11, I12, I13, I14, I15, I16, I17, I18, I19, I20, I21, I22, I23, I24, I25,
+                    I26, I27, I28, I29, I30,
+                ];
+                named(&all, family, number).map(Form::I)
             }
             b'M' => {
                 use OperandEncodingM::*;

@@ -1,4 +1,4 @@
-"""What is compared: words to read each of the 88 forms from, and bundles to cut.
+"""What is compared: words to read each of the 118 forms from, and bundles to cut.
 
 A form is named as in `M48`. A part of its words is (which, start, end), where which is 0 for the word itself and 1 for the L word.
 """

@@ -1,6 +1,7 @@
--- Document 01's cases that are marked P, and M17's eight words, all together by one computed check: what 000 shows of a word, and beside
--- it the immediate that the manual reads from it in a bundle. M10 shows what the given 000 reads, an increment of 0 as in the manual, and not 01's 1: see the
--- line "M10" of docs/DIFFERENCES.md. Assumes nothing.
+-- Document 01's cases that are marked P, M17's eight words, and a word for each I form that 000 reads otherwise than the manual, all
+-- together by one computed check: what 000 shows of a word, and beside it the immediate that the manual reads from it in a bundle. M10
+-- shows what the given 000 reads, an increment of 0 as in the manual, and not 01's 1: see the line "M10" of docs/DIFFERENCES.md.
+-- Assumes nothing.
 use mathlib.Core.Path.{_≡_, refl}
 use mathlib.Core.List.{List, [], _∷_}
 use mathlib.Core.Option.{none, some}
@@ -13,9 +14,10 @@ use Rattle.bundle.specs.Template.{unitsOf}
 use Rattle.bundle.specs.Bundle.{joined, findAnswer}
 use Rattle.operand.specs.Reading.{listed, positionOf}
 use Rattle.operand.specs.declared.Operand.{Operand}
-use Rattle.operand.specs.declared.Operand.the-variants.{None, GPRegister, FloatRegister, ImmI64, ImmU64, Memory}
+use Rattle.operand.specs.declared.Operand.the-variants.{None, GPRegister, FloatRegister, PredicateRegister, BranchRegister, ImmI64, ImmU64, Memory, PR}
 use Rattle.operand.specs.declared.Reading.{Reading}
 use Rattle.form.specs.Form.{a, b, m, x, isForm}
+use Rattle.form.specs.Form.{i as iForm}
 use Rattle.form.specs.declared.Form.{Form}
 use Rattle.readers.specs.Call.{operandsOf, isBad}
 use Rattle.row.specs.Row.{lines, rowOf}
@@ -66,6 +68,12 @@ r0 = GPRegister (record { 0 = 0 })
 abbrev f1 : Operand
 f1 = FloatRegister (record { 0 = 1 })
 
+abbrev p : ℕ → Operand
+p n = PredicateRegister (record { 0 = n })
+
+abbrev b0 : Operand
+b0 = BranchRegister (record { 0 = 0 })
+
 abbrev memory : Operand
 memory = Memory (record { 0 = 0 })
 
@@ -78,9 +86,13 @@ below n = ImmI64 (negsuc (n - 1))
 abbrev u : ℕ → Operand
 u n = ImmU64 n
 
-infix 75 _beside_
+infix 75 _beside_ _alone
 abbrev _beside_ : Reading → Operand → Case
 shown beside value = record { shown = shown; read = record { answer = accepted; value = value } }
+
+-- of a form that has no row
+abbrev _alone : Reading → Case
+shown alone = record { shown = shown; read = record { answer = badForm; value = None } }
 
 infix 70 _is_
 abbrev _is_ : Case → Case → Case × Case
@@ -106,7 +118,16 @@ stated =
     ∷ inM (m 17) 40960 is writes (r0 ∷ memory ∷ below 3 ∷ []) beside below 8
     ∷ inM (m 17) 49152 is writes (r0 ∷ memory ∷ below 2 ∷ []) beside below 4
     ∷ inM (m 17) 57344 is writes (r0 ∷ memory ∷ below 1 ∷ []) beside below 1
-    ∷ inM (m 42) 939524096 is record { shown = shows (None ∷ []); read = record { answer = badForm; value = None } }
+    ∷ inI (iForm 1) (2 ^ 30) is writes (r0 ∷ r0 ∷ r0 ∷ u 1 ∷ []) beside u 7
+    ∷ inI (iForm 8) 0 is writes (r0 ∷ r0 ∷ u 0 ∷ []) beside u 31
+    ∷ inI (iForm 13) (2 ^ 36) is writes (r0 ∷ u 18446744073709551488 ∷ u 63 ∷ u 1 ∷ []) alone
+    ∷ inI (iForm 14) (2 ^ 36) is writes (r0 ∷ u 1 ∷ r0 ∷ u 63 ∷ u 1 ∷ []) alone
+    ∷ inI (iForm 20) (2 ^ 6) is shows (p 1 ∷ p 0 ∷ r0 ∷ []) beside i 16
+    ∷ inI (iForm 21) (2 ^ 32) is writes (b0 ∷ r0 ∷ u 256 ∷ u 0 ∷ u 0 ∷ []) beside below 4096
+    ∷ inI (iForm 23) (2 ^ 36) is writes (PR ∷ r0 ∷ u 0 ∷ []) beside below 65536
+    ∷ inI (iForm 24) (2 ^ 6) is writes (PR ∷ u 1 ∷ []) beside i 65536
+    ∷ inI (iForm 30) (2 ^ 12) is listed (positionOf (some 1)) (p 64 ∷ p 0 ∷ u 0 ∷ []) beside u 32
+    ∷ inM (m 42) 939524096 is shows (None ∷ []) alone
     ∷ inX (x 2) (2 ^ 36) 0 is writes (r0 ∷ u (2 ^ 63) ∷ []) beside u (2 ^ 63)
     ∷ inX (x 3) 0 4 is shows (u 2097152 ∷ []) beside i 16777216
     ∷ []

@@ -15,6 +15,9 @@ B = 66
 abbrev pub F : ℕ
 F = 70
 
+abbrev pub I : ℕ
+I = 73
+
 abbrev pub M : ℕ
 M = 77
 
@@ -31,6 +34,9 @@ b n = record { family = B; number = n }
 abbrev pub f : ℕ → Form
 f n = record { family = F; number = n }
 
+abbrev pub i : ℕ → Form
+i n = record { family = I; number = n }
+
 abbrev pub m : ℕ → Form
 m n = record { family = M; number = n }
 
@@ -43,12 +49,12 @@ same f g = eqb (f .family) (g .family) && eqb (f .number) (g .number)
 
 -- the families, each with its last number
 abbrev pub families : List (ℕ × ℕ)
-families = (A, 10) ∷ (B, 9) ∷ (F, 16) ∷ (M, 48) ∷ (X, 5) ∷ []
+families = (A, 10) ∷ (B, 9) ∷ (F, 16) ∷ (I, 30) ∷ (M, 48) ∷ (X, 5) ∷ []
 
 -- a family's last number, and 0 for what is no family
 abbrev pub lastOf : ℕ → ℕ
 lastOf family = select family families 0
 
--- A1 to A10, B1 to B9, F1 to F16, M1 to M48, X1 to X5
+-- A1 to A10, B1 to B9, F1 to F16, I1 to I30, M1 to M48, X1 to X5
 unfoldable pub isForm : Form → Bool
 isForm form = ltb 0 (form .number) && leb (form .number) (lastOf (form .family))

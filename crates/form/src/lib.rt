@@ -10,6 +10,8 @@ pub const B: u64 = b'B' as u64;
 
 pub const F: u64 = b'F' as u64;
 
+pub const I: u64 = b'I' as u64;
+
 pub const M: u64 = b'M' as u64;
 
 pub const X: u64 = b'X' as u64;
@@ -41,6 +43,7 @@ fn last_of(family: u64) -> u64
         A => 10,
         B => 9,
         F => 16,
+        I => 30,
         M => 48,
         X => 5,
         _ => 0,

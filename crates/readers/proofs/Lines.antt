@@ -30,5 +30,5 @@ forms (f ∷ fs) = f .1 + forms fs
 pub each-form-has-a-line : T (all-exact families)
 each-form-has-a-line = tt
 
-pub forms-in-all : forms families ≡ 88
+pub forms-in-all : forms families ≡ 118
 forms-in-all = refl

@@ -7,19 +7,20 @@ use Rattle.table.specs.Table.{select}
 use Rattle.answer.specs.Answer.{accepted, badForm, badWord, first, outcome}
 use Rattle.operand.specs.Reading.{unread}
 use Rattle.operand.specs.declared.Reading.{Reading}
-use Rattle.form.specs.Form.{A, B, F, M, X, isForm}
+use Rattle.form.specs.Form.{A, B, F, I, M, X, isForm}
 use Rattle.form.specs.declared.Form.{Form}
 use Rattle.readers.specs.declared.outcome.Operands.{Operands}
 use Rattle.reading.specs.Line.{Forms, readingOf, _⇒_}
 use Rattle.read_a.specs.Table.{aForms}
 use Rattle.read_b.specs.Table.{bForms}
 use Rattle.read_f.specs.Table.{fForms}
+use Rattle.read_i.specs.Table.{iForms}
 use Rattle.read_l.specs.Table.{xForms}
 use Rattle.read_m.specs.Table.{mForms}
 
 -- each family's table
 abbrev pub tables : List (ℕ × Forms)
-tables = A ⇒ aForms ∷ B ⇒ bForms ∷ F ⇒ fForms ∷ M ⇒ mForms ∷ X ⇒ xForms ∷ []
+tables = A ⇒ aForms ∷ B ⇒ bForms ∷ F ⇒ fForms ∷ I ⇒ iForms ∷ M ⇒ mForms ∷ X ⇒ xForms ∷ []
 
 abbrev pub tableOf : ℕ → Forms
 tableOf family = select family tables []

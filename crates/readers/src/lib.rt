@@ -11,6 +11,7 @@ use form::A;
 use form::B;
 use form::F;
 use form::Form;
+use form::I;
 use form::M;
 use form::X;
 use operand::Reading;
@@ -58,6 +59,7 @@ fn read(form: Form, word: u64, l: u64) -> Reading
         A => read_a::read_a_operands(number, word),
         B => read_b::read_b_operands(number, word),
         F => read_f::read_f_operands(number, word),
+        I => read_i::read_i_operands(number, word),
         M => read_m::read_m_operands(number, word),
         X => read_l::read_l_operands(number, word, l),
         _ => operand::no_op(),

@@ -92,9 +92,17 @@ s64 bs sign word l = difference (record { 0 = together bs word l; 1 = 2 ^ width 
 abbrev pub s64×16 : List Bits → ℕ → Of Operand
 s64×16 bs sign word l = difference (record { 0 = 2 ^ 4 * together bs word l; 1 = 2 ^ (4 + width bs) * bit word sign })
 
+-- an `ImmU64` in which every bit above is the sign, at a place of the word
+abbrev pub extended : List Bits → ℕ → Of Operand
+extended bs sign word l = op.ImmU64 (above (width bs) (together bs word l) ((2 ^ (64 - width bs) - 1) * bit word sign))
+
 -- an `ImmU64` that is one more than the bits
 abbrev pub count : Bits → Of Operand
 count b word l = op.ImmU64 (b .1 word l + 1)
+
+-- an `ImmU64` that is as much less than 63 as the bits are
+abbrev pub cpos : Bits → Of Operand
+cpos b word l = op.ImmU64 (63 - b .1 word l)
 
 -- an `ImmU64` that is 16 where the bit is set and 8 where it is not
 abbrev pub size : ℕ → Of Operand

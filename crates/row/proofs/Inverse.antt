@@ -16,11 +16,11 @@ use Rattle.operand.specs.Kind.{ofI64, ofU64}
 use Rattle.operand.specs.declared.Operand.{Operand}
 use Rattle.operand.specs.declared.Operand.the-variants.{ImmI64, ImmU64}
 use Rattle.operand.proofs.Kind.{i64-or-not, u64-or-not}
-use Rattle.row.specs.Fits.{SignedFits, Fitting}
-use Rattle.row.specs.Meaning.{Is, Bad, signedOf, entry, entryValue, valueOf, rawUp, rawDown, rawSigned, rawUnsigned, entryOf, placeIn, rawOf}
+use Rattle.row.specs.Fits.{SignedFits, ComplementFits, Fitting}
+use Rattle.row.specs.Meaning.{Is, Bad, signedOf, entry, entryValue, valueOf, rawUp, rawDown, rawSigned, within, rawUnsigned, rawComplement, entryOf, placeIn, rawOf}
 use Rattle.row.specs.Row.{means}
 use Rattle.row.specs.declared.Meaning.{Meaning}
-use Rattle.row.specs.declared.Meaning.the-variants.{None as NoMeaning, Unsigned, Signed, Chosen}
+use Rattle.row.specs.declared.Meaning.the-variants.{None as NoMeaning, Unsigned, Signed, Chosen, Complement}
 use Rattle.row.specs.declared.value.Raw.{Raw}
 use Rattle.row.proofs.Units.{half, whole-units}
 
@@ -66,6 +66,9 @@ told-signed : (unit w : ℕ) (z : ℤ) → Told (rawSigned unit w z)
 told-signed unit w (pos v) = told-either (eqb (v % unit) 0) _ _ (told-either (ltb (v / unit) (2 ^ (w - 1))) _ _ (told-is (v / unit)) told-bad) told-bad
 told-signed unit w (negsuc v) = told-either (eqb (suc v % unit) 0) _ _ (told-either (leb (suc v / unit) (2 ^ (w - 1))) _ _ (told-is (2 ^ w - suc v / unit)) told-bad) told-bad
 
+told-within : (w raw : ℕ) → Told (within w raw)
+told-within w raw = told-either (ltb raw (2 ^ w)) _ _ (told-is raw) told-bad
+
 told-place : (list n b : ℕ) → Told (placeIn list n b)
 told-place list zero b = told-bad
 told-place list (suc n) b = told-either (eqb (entry list n) b) _ _ (told-is n) (told-place list n b)
@@ -75,7 +78,7 @@ raw-told NoMeaning w v d = refl
 raw-told (Unsigned plus) w v d =
     ⊎-elim
     (λ k. let is = ap (λ (o : Operand). ofU64 o (rawUnsigned plus w) Bad) (k .1) in
-    is ∙ told-either (ltb (k .0) plus) _ _ told-bad (told-either (ltb (k .0 - plus) (2 ^ w)) _ _ (told-is (k .0 - plus)) told-bad) (λ e. d (ap (λ (r : Raw). r .answer) is ∙ e)))
+    is ∙ told-either (ltb (k .0) plus) _ _ told-bad (told-within w (k .0 - plus)) (λ e. d (ap (λ (r : Raw). r .answer) is ∙ e)))
     (λ k. k) (u64-or-not v (rawUnsigned plus w) Bad)
 raw-told (Signed unit) w v d =
     ⊎-elim
@@ -84,6 +87,11 @@ raw-told (Signed unit) w v d =
     (λ k. k) (i64-or-not v (rawSigned unit w) Bad)
 raw-told (Chosen signed list) w v d =
     let b = entryOf signed v in told-either (eqb (b .answer) accepted) _ _ (told-place list (2 ^ w) (b .raw)) told-bad d
+raw-told (Complement top) w v d =
+    ⊎-elim
+    (λ k. let is = ap (λ (o : Operand). ofU64 o (rawComplement top w) Bad) (k .1) in
+    is ∙ told-either (ltb top (k .0)) _ _ told-bad (told-within w (top - k .0)) (λ e. d (ap (λ (r : Raw). r .answer) is ∙ e)))
+    (λ k. k) (u64-or-not v (rawComplement top w) Bad)
 
 -- a number that is counted from `plus` on
 module _ (plus w : ℕ) where
@@ -183,6 +191,23 @@ place-value list (suc n) b k e = by-same (eqb (entry list n) b) refl e (place-va
     by-same true q e below = let s : n ≡ k = same-raw e in (omega arith, rw (sym s) (eqb-true (entry list n) b q))
     by-same false q e below = let r = below e in (omega arith, r .1)
 
+-- a number that is taken from `top`
+module _ (top w : ℕ) where
+  complement-raw : (raw : ℕ) → ComplementFits top w → raw < 2 ^ w → rawComplement top w (top - raw) ≡ Is raw
+  complement-raw raw f h =
+      let l : top - raw ≤ top = omega arith in
+      let e : top - (top - raw) ≡ raw = omega (arith, f .2) in
+      rw (le-ltb top (top - raw) l, e, lt-ltb raw (2 ^ w) h)
+
+  complement-value : (v raw : ℕ) → rawComplement top w v ≡ Is raw → (raw < 2 ^ w) × (top - raw ≡ v)
+  complement-value v raw e =
+      let p = only-else (ltb top v) _ e in
+      let q = only-if (ltb (top - v) (2 ^ w)) _ (p .1) in
+      let s : top - v ≡ raw = same-raw (q .1) in
+      let l = ltb-false top v (p .0) in
+      let h = ltb-true (top - v) (2 ^ w) (q .0) in
+      (omega arith, omega arith)
+
 -- the value of a raw number has that raw number
 pub raw-of-value : (m : Meaning) (w raw : ℕ) → Fitting m w → means m ≡ true → raw < 2 ^ w → rawOf m w (valueOf m w raw) ≡ Is raw
 raw-of-value NoMeaning w raw f some h = absurd (subst T (sym some) tt)
@@ -190,6 +215,7 @@ raw-of-value (Unsigned plus) w raw f some h = unsigned-raw plus w raw h
 raw-of-value (Signed unit) w raw f some h = signed-raw unit w f raw h
 raw-of-value (Chosen signed list) w raw f some h =
     rw (entry-raw signed (entry list raw) (part-lt list (8 * raw) 8)) (place-raw list (2 ^ w) raw (f .1) h)
+raw-of-value (Complement top) w raw f some h = complement-raw top w raw f h
 
 -- the raw number of a value has that value
 pub value-of-raw : (m : Meaning) (w raw : ℕ) (v : Operand) → Fitting m w → rawOf m w v ≡ Is raw → (raw < 2 ^ w) × (valueOf m w raw ≡ v)
@@ -208,3 +234,7 @@ value-of-raw (Chosen signed list) w raw v f e =
     let is : b ≡ Is (b .raw) = ap (λ (a : ℕ). record { answer = a; raw = b .raw }) (eqb-true (b .answer) accepted (p .0)) in
     let r = place-value list (2 ^ w) (b .raw) raw (p .1) in
     (r .0, ap (entryValue signed) (r .1) ∙ entry-value signed v (b .raw) is)
+value-of-raw (Complement top) w raw v f e =
+    let k = of-u64 v (rawComplement top w) e in
+    let r = complement-value top w (k .0) raw (k .2) in
+    (r .0, ap ImmU64 (r .1) ∙ sym (k .1))

@@ -6,18 +6,20 @@ use types.Run.{OneOf, miss}
 use denote.Enum.Declared.{tagOf}
 use Rattle.row.specs.Row.{noRow, means, onlyTimes16}
 use Rattle.row.specs.declared.Meaning.{Meaning}
-use Rattle.row.specs.declared.Meaning.the-variants.{None as NoMeaning, Unsigned, Signed, Chosen}
+use Rattle.row.specs.declared.Meaning.the-variants.{None as NoMeaning, Unsigned, Signed, Chosen, Complement}
 use Rattle.row.specs.declared.Row.{Row}
 use Rattle.row.proofs.Meaning.{the-type as meaning-type}
 
-pub some-meaning : (m : Meaning) → OneOf (1 ∷ 2 ∷ 3 ∷ []) (tagOf meaning-type m) → means m ≡ true
-some-meaning NoMeaning k = absurd (miss (1 ∷ 2 ∷ 3 ∷ []) 0 tt k)
+pub some-meaning : (m : Meaning) → OneOf (1 ∷ 2 ∷ 3 ∷ 4 ∷ []) (tagOf meaning-type m) → means m ≡ true
+some-meaning NoMeaning k = absurd (miss (1 ∷ 2 ∷ 3 ∷ 4 ∷ []) 0 tt k)
 some-meaning (Unsigned plus) k = refl
 some-meaning (Signed unit) k = refl
 some-meaning (Chosen signed list) k = refl
+some-meaning (Complement top) k = refl
 
-pub no-target : (m : Meaning) (row : Row) → OneOf (0 ∷ 1 ∷ 3 ∷ []) (tagOf meaning-type m) → onlyTimes16 m row ≡ noRow
+pub no-target : (m : Meaning) (row : Row) → OneOf (0 ∷ 1 ∷ 3 ∷ 4 ∷ []) (tagOf meaning-type m) → onlyTimes16 m row ≡ noRow
 no-target NoMeaning row k = refl
 no-target (Unsigned plus) row k = refl
-no-target (Signed unit) row k = absurd (miss (0 ∷ 1 ∷ 3 ∷ []) 2 tt k)
+no-target (Signed unit) row k = absurd (miss (0 ∷ 1 ∷ 3 ∷ 4 ∷ []) 2 tt k)
 no-target (Chosen signed list) row k = refl
+no-target (Complement top) row k = refl

@@ -7,6 +7,7 @@ use mathlib.Core.List.{List, [], _∷_}
 use Prim.Native.Nat.{ℕ, _+_, _-_, _*_, _<_, _^_}
 use borrow.Author.Tests.{eqb-true, eq-eqb}
 use lib.Dec.{T, eqb, leb, ltb, leb→le, ltb→lt, eqb→eq}
+use lib.ListN.{length}
 use mir.Facts.{and-yes}
 use Rattle.bits.specs.Parts.{separate}
 use Rattle.form.specs.Form.{X, same}
@@ -17,7 +18,7 @@ use Rattle.table.proofs.Check.{below, checked}
 use Rattle.row.specs.Fits.{Fitting}
 use Rattle.row.specs.Meaning.{entry}
 use Rattle.row.specs.declared.Meaning.{Meaning}
-use Rattle.row.specs.declared.Meaning.the-variants.{None, Unsigned, Signed, Chosen}
+use Rattle.row.specs.declared.Meaning.the-variants.{None, Unsigned, Signed, Chosen, Complement}
 use Rattle.row.specs.declared.Row.{Row}
 
 -- no two of the first n numbers of a list are the same
@@ -33,19 +34,28 @@ meant None w = true
 meant (Unsigned plus) w = leb 1 w && (leb w 64 && leb (plus + 2 ^ w) (2 ^ 64))
 meant (Signed unit) w = leb 1 w && (ltb w 64 && (leb 1 unit && leb (unit * 2 ^ (w - 1)) (2 ^ 63)))
 meant (Chosen signed list) w = leb w 3 && differ list (2 ^ w)
+meant (Complement top) w = leb 1 w && (leb w 64 && leb (2 ^ w) (top + 1))
+
+all-three : (x y z : Bool) → T (x && (y && z)) → T x × T y × T z
+all-three x y z t =
+    let a = and-yes x (y && z) t in
+    let b = and-yes y z (a .1) in
+    (a .0, b .0, b .1)
 
 fits : (m : Meaning) (w : ℕ) → T (meant m w) → Fitting m w
 fits None w t = tt
 fits (Unsigned plus) w t =
-    let a = and-yes (leb 1 w) (leb w 64 && leb (plus + 2 ^ w) (2 ^ 64)) t in
-    let b = and-yes (leb w 64) (leb (plus + 2 ^ w) (2 ^ 64)) (a .1) in
-    (leb→le _ _ (a .0), leb→le _ _ (b .0), leb→le _ _ (b .1))
+    let a = all-three (leb 1 w) (leb w 64) (leb (plus + 2 ^ w) (2 ^ 64)) t in
+    (leb→le _ _ (a .0), leb→le _ _ (a .1), leb→le _ _ (a .2))
 fits (Signed unit) w t =
     let a = and-yes (leb 1 w) (ltb w 64 && (leb 1 unit && leb (unit * 2 ^ (w - 1)) (2 ^ 63))) t in
     let b = and-yes (ltb w 64) (leb 1 unit && leb (unit * 2 ^ (w - 1)) (2 ^ 63)) (a .1) in
     let c = and-yes (leb 1 unit) (leb (unit * 2 ^ (w - 1)) (2 ^ 63)) (b .1) in
     (leb→le _ _ (a .0), ltb→lt _ _ (b .0), leb→le _ _ (c .0), leb→le _ _ (c .1))
 fits (Chosen signed list) w t = let a = and-yes (leb w 3) (differ list (2 ^ w)) t in (leb→le _ _ (a .0), differing list (2 ^ w) (a .1))
+fits (Complement top) w t =
+    let a = all-three (leb 1 w) (leb w 64) (leb (2 ^ w) (top + 1)) t in
+    (leb→le _ _ (a .0), leb→le _ _ (a .1), leb→le _ _ (a .2))
 
 -- no two of its parts meet, in any slot that it can stand in: an X form's in slot 2 alone
 abbrev pub separateIn : ℕ → Row → Bool
@@ -105,6 +115,15 @@ pub row-good : (form : Form) → T (good (form .family) (rowOf form))
 unfolding rowOf
 row-good form = rows-good form lines tt
 
+-- how many forms have a row
+abbrev formsIn : List Line → ℕ
+formsIn [] = 0
+formsIn (l ∷ ls) = length (l .0) + formsIn ls
+
+pub rows-in-all : formsIn lines ≡ 45
+unfolding lines
+rows-in-all = refl
+
 -- a row whose values are times 16 is the form's own row
 keeps : (P : Row → Type 0) (row : Row) (b : Bool) → P row → P noRow → P (cond b row noRow)
 keeps P row true p q = p
@@ -118,6 +137,7 @@ target-good form = by-meaning (rowOf form .meaning)
     by-meaning (Unsigned plus) = tt
     by-meaning (Signed unit) = keeps (λ r. T (good (form .family) r)) (rowOf form) (eqb unit 16) (row-good form) tt
     by-meaning (Chosen signed list) = tt
+    by-meaning (Complement top) = tt
 
 pub target-16 : (form : Form) → isNone (targetRowOf form) ≡ false → targetRowOf form .meaning ≡ Signed 16
 target-16 form some = by-meaning (rowOf form .meaning) refl some
@@ -131,3 +151,4 @@ target-16 form some = by-meaning (rowOf form .meaning) refl some
     by-meaning (Unsigned plus) e s = absurd (subst T s tt)
     by-meaning (Signed unit) e s = by-unit unit (eqb unit 16) refl e s
     by-meaning (Chosen signed list) e s = absurd (subst T s tt)
+    by-meaning (Complement top) e s = absurd (subst T s tt)

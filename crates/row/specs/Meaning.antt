@@ -10,7 +10,7 @@ use Rattle.operand.specs.declared.Operand.{Operand}
 use Rattle.operand.specs.declared.Operand.the-variants.{ImmI64, ImmU64}
 use Rattle.operand.specs.declared.Operand.the-variants.{None as NoOperand}
 use Rattle.row.specs.declared.Meaning.{Meaning}
-use Rattle.row.specs.declared.Meaning.the-variants.{None, Unsigned, Signed, Chosen}
+use Rattle.row.specs.declared.Meaning.the-variants.{None, Unsigned, Signed, Chosen, Complement}
 use Rattle.row.specs.declared.value.Raw.{Raw}
 
 -- a raw number with a sign: the top bit is the sign, and the number counts units
@@ -32,6 +32,7 @@ valueOf None w raw = NoOperand
 valueOf (Unsigned plus) w raw = ImmU64 (plus + raw)
 valueOf (Signed unit) w raw = ImmI64 (signedOf unit w raw)
 valueOf (Chosen signed list) w raw = entryValue signed (entry list raw)
+valueOf (Complement top) w raw = ImmU64 (top - raw)
 
 -- a value's raw number, and the refusal of a value that has none
 abbrev pub Is : ℕ → Raw
@@ -51,8 +52,16 @@ abbrev pub rawSigned : ℕ → ℕ → ℤ → Raw
 rawSigned unit w (pos v) = rawUp unit w v
 rawSigned unit w (negsuc v) = rawDown unit w (suc v)
 
+-- a raw number that is to have w bits
+abbrev pub within : ℕ → ℕ → Raw
+within w raw = cond (ltb raw (2 ^ w)) (Is raw) Bad
+
+-- the raw number of so much more than `plus`, and of so much less than `top`
 abbrev pub rawUnsigned : ℕ → ℕ → ℕ → Raw
-rawUnsigned plus w v = cond (ltb v plus) Bad (cond (ltb (v - plus) (2 ^ w)) (Is (v - plus)) Bad)
+rawUnsigned plus w v = cond (ltb v plus) Bad (within w (v - plus))
+
+abbrev pub rawComplement : ℕ → ℕ → ℕ → Raw
+rawComplement top w v = cond (ltb top v) Bad (within w (top - v))
 
 -- the number of 8 bits of a value, with a sign or without
 abbrev pub entryOf : Bool → Operand → Raw
@@ -70,3 +79,4 @@ rawOf None w value = Bad
 rawOf (Unsigned plus) w value = ofU64 value (rawUnsigned plus w) Bad
 rawOf (Signed unit) w value = ofI64 value (rawSigned unit w) Bad
 rawOf (Chosen signed list) w value = let b = entryOf signed value in cond (eqb (b .answer) accepted) (placeIn list (2 ^ w) (b .raw)) Bad
+rawOf (Complement top) w value = ofU64 value (rawComplement top w) Bad

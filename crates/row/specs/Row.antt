@@ -4,12 +4,12 @@ use mathlib.Core.Bool.{Bool, true, false, cond, not, _||_}
 use mathlib.Core.List.{List, [], _∷_}
 use lib.Dec.{eqb}
 use Rattle.bundle.specs.Bytes.{number}
-use Rattle.form.specs.Form.{a, b, f, m, x, same}
+use Rattle.form.specs.Form.{a, b, f, i, m, x, same}
 use Rattle.form.specs.declared.Form.{Form}
 use Rattle.parts.specs.Placed.{L}
 use Rattle.parts.specs.declared.Part.{Part}
 use Rattle.row.specs.declared.Meaning.{Meaning}
-use Rattle.row.specs.declared.Meaning.the-variants.{None, Unsigned, Signed, Chosen}
+use Rattle.row.specs.declared.Meaning.the-variants.{None, Unsigned, Signed, Chosen, Complement}
 use Rattle.row.specs.declared.Row.{Row}
 
 infix 80 _wide_
@@ -54,25 +54,38 @@ minus n = 256 - n
 abbrev pub increment : Meaning
 increment = Chosen true (number (16 ∷ 8 ∷ 4 ∷ 1 ∷ minus 16 ∷ minus 8 ∷ minus 4 ∷ minus 1 ∷ []))
 
--- the table, in document 01's order; M17's line is document 02's
+-- which one of a list: the shifts of I1's count2
+abbrev pub shift : Meaning
+shift = Chosen false (number (0 ∷ 7 ∷ 15 ∷ 16 ∷ []))
+
+-- the table, in document 01's order; M17's line and the I forms' are document 02's
 unfoldable pub lines : List Line
 unfolding number
 lines =
     (a 2 ∷ a 10 ∷ []) are row (Unsigned 1) (27 wide 2 ∷ [])
-    ∷ (a 3 ∷ a 8 ∷ m 30 ∷ []) are row signed (13 wide 7 ∷ 36 wide 1 ∷ [])
+    ∷ (a 3 ∷ a 8 ∷ m 30 ∷ i 27 ∷ []) are row signed (13 wide 7 ∷ 36 wide 1 ∷ [])
     ∷ (a 4 ∷ []) are row signed (13 wide 7 ∷ 27 wide 6 ∷ 36 wide 1 ∷ [])
     ∷ (a 5 ∷ []) are row signed (13 wide 7 ∷ 27 wide 9 ∷ 22 wide 5 ∷ 36 wide 1 ∷ [])
     ∷ (m 3 ∷ m 8 ∷ m 15 ∷ []) are row signed (13 wide 7 ∷ 27 wide 1 ∷ 36 wide 1 ∷ [])
     ∷ (m 5 ∷ m 10 ∷ []) are row signed (6 wide 7 ∷ 27 wide 1 ∷ 36 wide 1 ∷ [])
     ∷ (m 17 ∷ []) are row increment (13 wide 3 ∷ [])
-    ∷ (m 20 ∷ m 21 ∷ []) are row times16 (6 wide 7 ∷ 20 wide 13 ∷ 36 wide 1 ∷ [])
+    ∷ (m 20 ∷ m 21 ∷ i 20 ∷ []) are row times16 (6 wide 7 ∷ 20 wide 13 ∷ 36 wide 1 ∷ [])
     ∷ (m 22 ∷ m 23 ∷ b 1 ∷ b 2 ∷ b 3 ∷ []) are row times16 (13 wide 20 ∷ 36 wide 1 ∷ [])
     ∷ (f 14 ∷ []) are row times16 (6 wide 20 ∷ 36 wide 1 ∷ [])
-    ∷ (m 37 ∷ m 48 ∷ f 15 ∷ f 16 ∷ b 9 ∷ []) are row unsigned (6 wide 20 ∷ 36 wide 1 ∷ [])
+    ∷ (m 37 ∷ m 48 ∷ f 15 ∷ f 16 ∷ b 9 ∷ i 18 ∷ i 19 ∷ []) are row unsigned (6 wide 20 ∷ 36 wide 1 ∷ [])
     ∷ (m 44 ∷ []) are row unsigned (6 wide 21 ∷ 31 wide 2 ∷ 36 wide 1 ∷ [])
     ∷ (x 1 ∷ x 5 ∷ []) are row unsigned (6 wide 20 ∷ 36 wide 1 ∷ L 0 wide 41 ∷ [])
     ∷ (x 2 ∷ []) are row unsigned (13 wide 7 ∷ 27 wide 9 ∷ 22 wide 5 ∷ 21 wide 1 ∷ L 0 wide 41 ∷ 36 wide 1 ∷ [])
     ∷ (x 3 ∷ x 4 ∷ []) are row times16 (13 wide 20 ∷ L 2 wide 39 ∷ 36 wide 1 ∷ [])
+    ∷ (i 1 ∷ []) are row shift (30 wide 2 ∷ [])
+    ∷ (i 6 ∷ []) are row unsigned (14 wide 5 ∷ [])
+    ∷ (i 8 ∷ []) are row (Complement 31) (20 wide 5 ∷ [])
+    ∷ (i 10 ∷ []) are row unsigned (27 wide 6 ∷ [])
+    ∷ (i 16 ∷ []) are row unsigned (14 wide 6 ∷ [])
+    ∷ (i 21 ∷ []) are row times16 (24 wide 9 ∷ [])
+    ∷ (i 23 ∷ []) are row (Signed 2) (6 wide 7 ∷ 24 wide 8 ∷ 36 wide 1 ∷ [])
+    ∷ (i 24 ∷ []) are row (Signed 65536) (6 wide 27 ∷ 36 wide 1 ∷ [])
+    ∷ (i 30 ∷ []) are row (Unsigned 32) (14 wide 5 ∷ [])
     ∷ []
 
 -- whether a form is one of some
@@ -96,6 +109,7 @@ means None = false
 means (Unsigned plus) = true
 means (Signed unit) = true
 means (Chosen signed list) = true
+means (Complement top) = true
 
 abbrev pub isNone : Row → Bool
 isNone row = not (means (row .meaning))
@@ -106,6 +120,7 @@ onlyTimes16 None row = noRow
 onlyTimes16 (Unsigned plus) row = noRow
 onlyTimes16 (Signed unit) row = cond (eqb unit 16) row noRow
 onlyTimes16 (Chosen signed list) row = noRow
+onlyTimes16 (Complement top) row = noRow
 
 -- the row of a form that has a target
 abbrev pub targetRowOf : Form → Row

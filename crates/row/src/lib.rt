@@ -7,7 +7,7 @@ pub use value::raw_of;
 pub use value::value_of;
 ghost use mathlib.Core.Path.{_≡_};
 ghost use lib.Dec.{T};
-ghost use Rattle.form.specs.Form.{a, b, f, m, x};
+ghost use Rattle.form.specs.Form.{a, b, f, i, m, x};
 ghost use Rattle.parts.specs.Placed.{widthOf, readable};
 ghost use Rattle.row.specs.Row.{isNone, onlyTimes16, rowOf};
 use form::A;
@@ -19,13 +19,14 @@ use form::X;
 use parts::L;
 use parts::Part;
 
-// What the raw number of a row means: itself and so much more; with a sign, so many times itself; or the one that it chooses
-// from a list of numbers of 8 bits, the first of which stands lowest, with a sign where the flag is set.
+// What the raw number of a row means: itself and so much more; with a sign, so many times itself; the one that it chooses
+// from a list of numbers of 8 bits, the first of which stands lowest, with a sign where the flag is set; or so much less itself.
 pub enum Meaning {
     None,
     Unsigned(u64),
     Signed(u64),
     Chosen(bool, u64),
+    Complement(u64),
 }
 
 // Its parts stand lowest first, and the last have no width.
@@ -42,6 +43,12 @@ const CT2D: Part = Part {
     width: 2,
 };
 
+// I1's.
+const CT2D_30: Part = Part {
+    place: 30,
+    width: 2,
+};
+
 const IMM7A: Part = Part { place: 6, width: 7 };
 
 const IMM7B: Part = Part {
@@ -52,6 +59,36 @@ const IMM7B: Part = Part {
 const IMM6D: Part = Part {
     place: 27,
     width: 6,
+};
+
+const COUNT5B: Part = Part {
+    place: 14,
+    width: 5,
+};
+
+const CCOUNT5C: Part = Part {
+    place: 20,
+    width: 5,
+};
+
+const POS6B: Part = Part {
+    place: 14,
+    width: 6,
+};
+
+const TIMM9C: Part = Part {
+    place: 24,
+    width: 9,
+};
+
+const MASK8C: Part = Part {
+    place: 24,
+    width: 8,
+};
+
+const IMM27A: Part = Part {
+    place: 6,
+    width: 27,
 };
 
 const IMM9D: Part = Part {
@@ -131,7 +168,7 @@ const COUNT2: Row = Row {
     parts: [CT2D, NO, NO, NO, NO, NO],
 };
 
-// A3, A8, M30
+// A3, A8, M30, I27
 const IMM8: Row = Row {
     meaning: Meaning::Signed(1),
     parts: [IMM7B, S, NO, NO, NO, NO],
@@ -170,7 +207,7 @@ const INCREMENT: Row = Row {
     parts: [I2B_S, NO, NO, NO, NO, NO],
 };
 
-// M20, M21
+// M20, M21, I20
 const TARGET25B: Row = Row {
     meaning: Meaning::Signed(16),
     parts: [IMM7A, IMM13C, S, NO, NO, NO],
@@ -188,7 +225,7 @@ const TARGET25: Row = Row {
     parts: [IMM20A, S, NO, NO, NO, NO],
 };
 
-// M37, M48, F15, F16, B9
+// M37, M48, F15, F16, B9, I18, I19
 const IMM21: Row = Row {
     meaning: Meaning::Unsigned(0),
     parts: [IMM20A, S, NO, NO, NO, NO],
@@ -218,6 +255,63 @@ const TARGET64: Row = Row {
     parts: [IMM20B, IMM39, S, NO, NO, NO],
 };
 
+// 0, 7, 15, 16, from the lowest byte on.
+const SHIFTS: u64 = 0x100F_0700;
+
+// I1
+const SHIFT: Row = Row {
+    meaning: Meaning::Chosen(false, SHIFTS),
+    parts: [CT2D_30, NO, NO, NO, NO, NO],
+};
+
+// I6
+const COUNT5: Row = Row {
+    meaning: Meaning::Unsigned(0),
+    parts: [COUNT5B, NO, NO, NO, NO, NO],
+};
+
+// I8
+const CCOUNT5: Row = Row {
+    meaning: Meaning::Complement(31),
+    parts: [CCOUNT5C, NO, NO, NO, NO, NO],
+};
+
+// I10, whose count6d stands where imm6d does
+const COUNT6: Row = Row {
+    meaning: Meaning::Unsigned(0),
+    parts: [IMM6D, NO, NO, NO, NO, NO],
+};
+
+// I16
+const POS6: Row = Row {
+    meaning: Meaning::Unsigned(0),
+    parts: [POS6B, NO, NO, NO, NO, NO],
+};
+
+// I21
+const TAG13: Row = Row {
+    meaning: Meaning::Signed(16),
+    parts: [TIMM9C, NO, NO, NO, NO, NO],
+};
+
+// I23, whose mask7a stands where imm7a does
+const MASK17: Row = Row {
+    meaning: Meaning::Signed(2),
+    parts: [IMM7A, MASK8C, S, NO, NO, NO],
+};
+
+// I24
+const IMM44: Row = Row {
+    meaning: Meaning::Signed(65536),
+    parts: [IMM27A, S, NO, NO, NO, NO],
+};
+
+// I30, whose imm5b stands where count5b does
+const IMM5: Row = Row {
+    meaning: Meaning::Unsigned(32),
+    parts: [COUNT5B, NO, NO, NO, NO, NO],
+};
+
 // The row of a form; no row where it has none.
 pub fn row_of(form: Form) -> Row
     ensures { λ r. ⌜ r ≡ rowOf form ⌝ }
@@ -228,6 +322,7 @@ pub fn row_of(form: Form) -> Row
         A => row_a(number),
         B => row_b(number),
         F => row_f(number),
+        form::I => row_i(number),
         M => row_m(number),
         X => row_x(number),
         _ => NO_ROW,
@@ -302,6 +397,27 @@ fn row_f(number: u64) -> Row
         14 => TARGET25,
         15 => IMM21,
         16 => IMM21,
+        _ => NO_ROW,
+    }
+}
+
+fn row_i(number: u64) -> Row
+    ensures { λ r. ⌜ r ≡ rowOf (i number) ⌝ }
+{
+    match number {
+        1 => SHIFT,
+        6 => COUNT5,
+        8 => CCOUNT5,
+        10 => COUNT6,
+        16 => POS6,
+        18 => IMM21,
+        19 => IMM21,
+        20 => TARGET25B,
+        21 => TAG13,
+        23 => MASK17,
+        24 => IMM44,
+        27 => IMM8,
+        30 => IMM5,
         _ => NO_ROW,
     }
 }

@@ -2,8 +2,8 @@
 ghost use mathlib.Core.Path.{_≡_};
 ghost use Prim.Native.Nat.{_≤_, _<_, _^_};
 ghost use Rattle.operand.specs.Pattern.{patternOf};
-ghost use Rattle.row.specs.Meaning.{signedOf, valueOf, entry, entryValue, entryOf, placeIn, rawUp, rawDown, rawOf};
-ghost use Rattle.row.specs.Fits.{UnsignedFits, SignedFits, ChosenFits, Fitting};
+ghost use Rattle.row.specs.Meaning.{signedOf, valueOf, entry, entryValue, within, entryOf, placeIn, rawUp, rawDown, rawOf};
+ghost use Rattle.row.specs.Fits.{UnsignedFits, SignedFits, ChosenFits, ComplementFits, Fitting};
 use crate::Meaning;
 use answer::ACCEPTED;
 use answer::BAD_VALUE;
@@ -21,6 +21,7 @@ pub fn value_of(meaning: Meaning, width: u32, raw: u64) -> Operand
         Meaning::Unsigned(plus) => Operand::ImmU64(plus + raw),
         Meaning::Signed(unit) => signed_value(unit, width, raw),
         Meaning::Chosen(signed, list) => entry_value(signed, entry_at(list, raw)),
+        Meaning::Complement(top) => Operand::ImmU64(top - raw),
     }
 }
 
@@ -84,6 +85,7 @@ pub fn raw_of(meaning: Meaning, width: u32, value: Operand) -> Raw
         Meaning::Unsigned(plus) => raw_unsigned(plus, width, value),
         Meaning::Signed(unit) => raw_signed(unit, width, value),
         Meaning::Chosen(signed, list) => raw_chosen(signed, list, width, value),
+        Meaning::Complement(top) => raw_complement(top, width, value),
     }
 }
 
@@ -97,11 +99,31 @@ fn raw_unsigned(plus: u64, width: u32, value: Operand) -> Raw
     if v < plus {
         return BAD;
     }
-    let rest = v - plus;
-    if (rest >> (width - 1)) < 2 {
+    raw_within(width, v - plus)
+}
+
+fn raw_complement(top: u64, width: u32, value: Operand) -> Raw
+    requires { ⌜ ComplementFits top width ⌝ }
+    ensures { λ r. ⌜ r ≡ rawOf (Meaning.Complement top) width value ⌝ }
+{
+    let Operand::ImmU64(v) = value else {
+        return BAD;
+    };
+    if top < v {
+        return BAD;
+    }
+    raw_within(width, top - v)
+}
+
+// A raw number that is to have so many bits.
+fn raw_within(width: u32, raw: u64) -> Raw
+    requires { ⌜ (1 ≤ width) × (width ≤ 64) ⌝ }
+    ensures { λ r. ⌜ r ≡ within width raw ⌝ }
+{
+    if (raw >> (width - 1)) < 2 {
         Raw {
             answer: ACCEPTED,
-            raw: rest,
+            raw,
         }
     } else {
         BAD

@@ -1,6 +1,6 @@
 -- `last_of` meets its contract: in an arm the family is known, and a byte that no arm names is no family. Assumes nothing.
 use mathlib.Core.List.{[], _∷_}
-use Rattle.form.specs.Form.{A, B, F, M, X, families}
+use Rattle.form.specs.Form.{A, B, F, I, M, X, families}
 use Rattle.table.proofs.Match.{ones, otherwise}
 use Rattle.form.proofs.last_of.Statement.{statement}
 use Rattle.form.proofs.last_of.Tie as tie
@@ -14,4 +14,5 @@ last-of-spec =
     (λ c. rw (c .match .keys3))
     (λ c. rw (c .match .keys4))
     (λ c. rw (c .match .keys5))
-    (λ c. otherwise (ones (X ∷ M ∷ F ∷ B ∷ A ∷ [])) _ families _ tt (c .match .rest)))
+    (λ c. rw (c .match .keys6))
+    (λ c. otherwise (ones (X ∷ M ∷ I ∷ F ∷ B ∷ A ∷ [])) _ families _ tt (c .match .rest)))

@@ -6,11 +6,11 @@ use Rattle.row.specs.Row.{rowOf}
 use Rattle.row.proofs.row_of.Statement.{statement}
 use Rattle.row.proofs.row_of.Tie as tie
 
-returns-6 : tie.Need-returns-6
+returns-7 : tie.Need-returns-7
 unfolding rowOf
-returns-6 c =
+returns-7 c =
     let r = c .match .rest in
-    rw (ne-eqb _ 65 (r .0 .0 .0 .0 .1), ne-eqb _ 66 (r .0 .0 .0 .1), ne-eqb _ 70 (r .0 .0 .1), ne-eqb _ 77 (r .0 .1), ne-eqb _ 88 (r .1))
+    rw (ne-eqb _ 65 (r .0 .0 .0 .0 .0 .1), ne-eqb _ 66 (r .0 .0 .0 .0 .1), ne-eqb _ 70 (r .0 .0 .0 .1), ne-eqb _ 73 (r .0 .0 .1), ne-eqb _ 77 (r .0 .1), ne-eqb _ 88 (r .1))
 
 pub row-of-spec : {M : Type 1} → statement M
 row-of-spec =
@@ -21,9 +21,11 @@ row-of-spec =
     (λ c κs. tt)
     (λ c κs. tt)
     (λ c κs. tt)
+    (λ c κs. tt)
     (λ c. rw (c .before .match .keys1) (c .row-a .ensures))
     (λ c. rw (c .before .match .keys2) (c .row-b .ensures))
     (λ c. rw (c .before .match .keys3) (c .row-f .ensures))
-    (λ c. rw (c .before .match .keys4) (c .row-m .ensures))
-    (λ c. rw (c .before .match .keys5) (c .row-x .ensures))
-    returns-6)
+    (λ c. rw (c .before .match .keys4) (c .row-i .ensures))
+    (λ c. rw (c .before .match .keys5) (c .row-m .ensures))
+    (λ c. rw (c .before .match .keys6) (c .row-x .ensures))
+    returns-7)

@@ -16,6 +16,9 @@ raw-signed-requires c κs = let start = c .before .before .before in subst (λ (
 raw-chosen-requires : tie.Need-raw-chosen-requires
 raw-chosen-requires c κs = let start = c .before .before .before in subst (λ (m : Meaning). Fitting m (start .args .width)) (c .before .meaning3 .given .1) (start .pre)
 
+raw-complement-requires : tie.Need-raw-complement-requires
+raw-complement-requires c κs = let start = c .before .before .before in subst (λ (m : Meaning). Fitting m (start .args .width)) (c .before .meaning4 .given .1) (start .pre)
+
 returns : tie.Need-returns
 returns c = let a = c .before .before .args in sym (ap (λ (m : Meaning). rawOf m (a .width) (a .value)) (c .enum-told .given .1))
 
@@ -28,6 +31,9 @@ returns-3 c = let a = c .before .before .before .before .args in c .raw-signed .
 returns-4 : tie.Need-returns-4
 returns-4 c = let a = c .before .before .before .before .args in c .raw-chosen .ensures ∙ sym (ap (λ (m : Meaning). rawOf m (a .width) (a .value)) (c .before .before .meaning3 .given .1))
 
+returns-5 : tie.Need-returns-5
+returns-5 c = let a = c .before .before .before .before .args in c .raw-complement .ensures ∙ sym (ap (λ (m : Meaning). rawOf m (a .width) (a .value)) (c .before .before .meaning4 .given .1))
+
 pub raw-of-spec : {M : Type 1} → statement M
 raw-of-spec =
     tie.close
@@ -39,7 +45,10 @@ raw-of-spec =
     raw-signed-requires
     (λ c. search needs)
     raw-chosen-requires
+    (λ c. search needs)
+    raw-complement-requires
     returns
     returns-2
     returns-3
-    returns-4)
+    returns-4
+    returns-5)

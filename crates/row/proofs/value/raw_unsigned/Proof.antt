@@ -1,12 +1,10 @@
 -- `raw_unsigned` meets its contract: its tests are the definition's. Assumes nothing.
 use mathlib.Core.Path.{_∙_, sym, ap}
-use Prim.Native.Nat.{_-_, _^_}
 use borrow.Author.Tests.{lt-ltb, le-ltb}
 use Rattle.operand.specs.Kind.{ofU64}
 use Rattle.operand.specs.declared.Operand.{Operand}
 use Rattle.operand.proofs.Kind.{kinds, but, not-u64}
 use Rattle.row.specs.Meaning.{Bad, rawUnsigned}
-use Rattle.row.proofs.Units.{below-top, not-below-top}
 use borrow.Author.Needs.{needs}
 use Rattle.row.proofs.value.raw_unsigned.Statement.{statement}
 use Rattle.row.proofs.value.raw_unsigned.Tie as tie
@@ -26,21 +24,8 @@ returns-3 : tie.Need-returns-3
 returns-3 c =
     let a = c .before .before .before .before .before .args in
     let v = c .before .before .before .value .given in
-    let top = below-top (a .width) (v .0 .0 - a .plus) (c .before .before .before .before .before .pre .0) (c .if2 .taken) in
-    sym
-    (ap (λ (o : Operand). ofU64 o (rawUnsigned (a .plus) (a .width)) Bad) (v .1)
-    ∙ rw (le-ltb (v .0 .0) (a .plus) (c .before .if1 .left), lt-ltb (v .0 .0 - a .plus) (2 ^ a .width) top))
-
-returns-4 : tie.Need-returns-4
-returns-4 c =
-    let a = c .before .before .before .before .before .args in
-    let v = c .before .before .before .value .given in
-    let top = not-below-top (a .width) (v .0 .0 - a .plus) (c .before .before .before .before .before .pre .0) (c .if2 .left) in
-    sym
-    (ap (λ (o : Operand). ofU64 o (rawUnsigned (a .plus) (a .width)) Bad) (v .1)
-    ∙ rw (le-ltb (v .0 .0) (a .plus) (c .before .if1 .left), le-ltb (v .0 .0 - a .plus) (2 ^ a .width) top))
+    c .raw-within .ensures
+    ∙ sym (ap (λ (o : Operand). ofU64 o (rawUnsigned (a .plus) (a .width)) Bad) (v .1) ∙ rw (le-ltb (v .0 .0) (a .plus) (c .before .if1 .left)))
 
 pub raw-unsigned-spec : {M : Type 1} → statement M
-raw-unsigned-spec =
-    tie.close
-    (tie.spec (λ c. search needs) returns returns-2 (λ c. search needs) (λ c. search needs) (λ c. search needs) returns-3 returns-4)
+raw-unsigned-spec = tie.close (tie.spec (λ c. search needs) returns returns-2 (λ c κs. search needs) returns-3)
