@@ -20,6 +20,7 @@ extern "C" {
     fn bench_operands(family: u64, numbers: *const u64, n: usize, words: *const u64, w: usize, ls: *const u64, l: usize) -> u64;
     fn bench_immediate(code: *const u8, length: usize, slot: u64, family: u64, number: u64) -> u64;
     fn bench_listing(text: *const u8, length: usize, out: *mut u8, room: usize) -> u64;
+    fn bench_report(image: *const u8, length: usize, times: u64) -> u64;
     fn bench_write(code: *mut u8, length: usize, slot: u64, family: u64, number: u64, signed: u64, values: *const u64, count: usize) -> u64;
     fn bench_edit(code: *mut u8, length: usize, standing: u64, times: u64) -> u64;
     fn bench_sheet(code: *mut u8, length: usize, standing: u64, times: u64, out: *mut u8, room: usize) -> u64;
@@ -199,6 +200,19 @@ fn listing(random: &mut Random, model: &Model) {
     assert!(first == second, "the listings differ");
 }
 
+fn report(random: &mut Random, model: &Model) {
+    const TIMES: u64 = 100;
+    let image: Vec<u8> = (0..2 * BUNDLES).flat_map(|_| random.next().to_le_bytes()).collect();
+    let theirs = || {
+        let (mut answer, mut report) = (0, [0; 36]);
+        for _ in 0..TIMES {
+            (answer, report) = model.report(black_box(&report), black_box(&image));
+        }
+        report.iter().fold(answer as u64, |sum, n| sum.wrapping_add(*n))
+    };
+    line("report, 65,536 bytes", TIMES as usize, "plain Rust", || unsafe { bench_report(image.as_ptr(), image.len(), TIMES) }, theirs);
+}
+
 fn main() {
     let mut random = Random(0x9e37_79b9_7f4a_7c15);
     let model = Model::new();
@@ -209,4 +223,5 @@ fn main() {
     edits(&mut random, &model);
     sheets(&mut random, &model);
     listing(&mut random, &model);
+    report(&mut random, &model);
 }

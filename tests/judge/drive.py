@@ -4,7 +4,7 @@ Each function takes a `Talk`, which keeps the lines with what the model answers 
 """
 import itertools
 
-from model import FITTING, FORMS, HUGE, PLACES, ROWS, UNITS, WORD, Model, operand, sheet
+from model import FITTING, FORMS, HUGE, NUMBERS, PLACES, ROWS, UNITS, WORD, Model, operand, report_of, sheet
 from standing import Standing
 
 LENGTHS = (0, 1, 15, 16, 17, 31, 32, 33, 48, 100, 65520, 65535, 65536, 65537, 65552, 65600)
@@ -52,7 +52,7 @@ class Talk:
 SAMPLES = (
     "code 40", "put 0 00ff10", "put 3 -", "get 0 4", "sum", "find 0", "cut 1", "join 20 16 1 2 3", "operands 77 49 0 0",
     "immediate 0 2 66 1", "target 0 2 66 1 16", "journal 3", "place 2 1 2 3 4 5", "records", "edit 0 2 66 1 I-16", "undo",
-    "sheet 100", "load 70617463686573093020",
+    "sheet 100", "load 70617463686573093020", "report", "clear", "clear " + " ".join(map(str, range(NUMBERS))),
 )
 
 
@@ -130,6 +130,61 @@ def joins(talk):
             talk(f"join 16 1 {' '.join(str(word if k == slot else 0) for k in range(3))}")
     for _ in range(2000):
         talk(f"join 16 {random.choice(list(UNITS))} {' '.join(str(random.getrandbits(41)) for _ in range(3))}")
+
+
+# ---- the report
+
+def numbers(report):
+    return " ".join(map(str, report))
+
+
+def reports(talk):
+    """Whole and damaged images, sums up to 2 ** 64 - 1 and past it, and what is added in two orders."""
+    random = talk.random
+    talk("clear")
+    for length in LENGTHS:
+        talk.fill(length)
+        talk("report")
+        talk("report")
+    for tag in range(32):
+        talk("clear")
+        talk(f"code {16 * (tag + 1) + random.randrange(16)}")
+        for n in range(tag + 1):
+            talk.bundle(n, tag)
+        talk("report")
+    # one number of a sum stays just within 64 bits, or doesn't; so for each of the 36, of an image with every tag
+    for length in (16 * 32, 16 * 64 + random.randrange(1, 16)):
+        talk(f"code {length}")
+        for n in range(length // 16):
+            talk.bundle(n, n % 32)
+        own = report_of(talk.model.code)
+        for i in range(NUMBERS):
+            for over in (0, 1):
+                report = [random.randrange(1 << 60) for _ in range(NUMBERS)]
+                report[i] = min(HUGE - own[i] - 1 + over, HUGE - 1)
+                talk(f"clear {numbers(report)}")
+                talk("report")
+                talk("report")
+    talk(f"clear {numbers([HUGE - 1] * NUMBERS)}")
+    for length in (0, 15, 16, 65537):
+        talk.fill(length)
+        talk("report")
+    talk.fill(65536)
+    for _ in range(20):
+        talk("clear " + numbers(random.choice((0, HUGE - 1 - random.randrange(9000), random.getrandbits(64))) for _ in range(NUMBERS)))
+        talk("report")
+        talk("sum")
+    images = [random.randbytes(random.choice((0, 16, 17, 31, 160, 1600, 4096))) for _ in range(6)]
+    for _ in range(8):
+        random.shuffle(images)
+        talk("clear")
+        for image in images:
+            talk(f"code {len(image)}")
+            talk(f"put 0 {image.hex() or '-'}")
+            talk("report")
+    talk("journal 3")
+    talk("report")
+    talk("records")
 
 
 # ---- operands: what is refused
@@ -536,12 +591,14 @@ STAGES = {
     "immediate": (("immediate", "target"), immediates),
     "journal": (("journal", "place", "records", "edit", "undo"), journals),
     "sheet": (("sheet", "load"), sheets),
+    "tally": (("report", "clear"), reports),
 }
 
 # every pair of refusals (in 01's order) that can apply together; not among them: 1 with 2 and with 9, 8 with 1 and with 9
 TOGETHER = {
     "find": "10 1", "cut": "10 1 2", "join": "4 2 12", "operands": "3 4", "immediate": "10 1 2 3 5", "target": "10 1 2 3 5 6",
     "edit": "10 1 2 3 5 6 11 7", "undo": "10 11 8 1 9", "sheet": "11 12", "load": "13",
+    "report": "10 6",
 }
 APART = {(1, 2), (1, 9), (8, 1), (8, 9)}
 

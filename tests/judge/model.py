@@ -181,11 +181,23 @@ def text(given):
     return given.hex() or "-"
 
 
+NUMBERS = 36
+
+
+def report_of(image):
+    """A count for each tag, then the bundles, the reserved ones, their stops and the bytes of the tail."""
+    tags = [image[at] % 32 for at in range(0, len(image) - 15, 16)]
+    reserved = sum(tag not in UNITS for tag in tags)
+    stops = sum(len(STOPS.get(tag, [])) for tag in tags)
+    return [tags.count(tag) for tag in range(32)] + [len(tags), reserved, stops, len(image) % 16]
+
+
 class Model:
-    """The state of `probe`: a code and a journal. `reasons` has what applied to the last call."""
+    """The state of `probe`: a code, a journal and a report. `reasons` has what applied to the last call."""
 
     def __init__(self):
         self.code, self.hash = bytearray(), 0
+        self.report = [0] * NUMBERS
         self.count, self.places, self.shown = 0, [(0,) * 5] * PLACES, {}
         self.reasons = []
 
@@ -194,7 +206,7 @@ class Model:
         self.reasons = []
         try:
             name = fields[0].decode("ascii")
-            if len(line) > 400000 or COUNT.get(name, len(fields)) != len(fields) - 1:
+            if len(line) > 400000 or name not in COUNT or len(fields) - 1 not in COUNT[name]:
                 raise Unread
             return getattr(self, "on_" + name)(*fields[1:])
         except (Unread, UnicodeDecodeError):
@@ -264,6 +276,18 @@ class Model:
         if not answer:
             out[:16] = (tag + sum(word << 5 + 41 * k for k, word in enumerate(words))).to_bytes(16, "little")
         return f"join {answer} {text(out)}"
+
+    # the report
+
+    def on_report(self):
+        sums = [had + more for had, more in zip(self.report, report_of(self.code))]
+        answer = self.refused([(10, len(self.code) > MOST), (6, max(sums) >= HUGE)])
+        self.report = self.report if answer else sums
+        return f"report {answer} {' '.join(map(str, self.report))}"
+
+    def on_clear(self, *fields):
+        self.report = list(map(number, fields)) or [0] * NUMBERS
+        return "ok"
 
     # operands: what is refused; what is read is for the oracle to say
 
@@ -380,6 +404,6 @@ class Model:
         return f"load {answer}"
 
 
-# how many fields follow each name
-COUNT = {name[3:]: len(inspect.signature(method).parameters) - 1
-         for name, method in vars(Model).items() if name.startswith("on_")}
+# how many fields may follow each name
+COUNT = {name[3:]: (len(inspect.signature(method).parameters) - 1,)
+         for name, method in vars(Model).items() if name.startswith("on_")} | {"clear": (0, NUMBERS)}

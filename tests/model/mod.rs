@@ -1,4 +1,4 @@
-//! Document 01 in plain Rust: cut, immediates, targets, the journal, sheets, the listing, with all refusals. Bundles are numbers of
+//! Document 01 in plain Rust: cut, immediates, targets, the journal, sheets, the listing, and the report, with all refusals. Bundles are numbers of
 //! 128 bits, and the journal goes by value. Written from the paper, with its forms, units, stops and rows from ../table, and not from the
 //! Rattle. The replayer's stand-in compares with it, and the benchmark times it beside the library.
 
@@ -6,6 +6,7 @@ pub mod immediate;
 pub mod journal;
 mod listing;
 pub mod random;
+mod report;
 pub mod sheet;
 #[path = "../table/table.rs"]
 pub mod table;

@@ -1,7 +1,9 @@
-// Calls that read: `cut`, `operands`, `immediate`, and the listing.
+// Calls that read: `cut`, `operands`, `immediate`, the listing and the report.
 use crate::sum;
 use crate::sum::plus;
 use form::Form;
+use tally::Added;
+use tally::NUMBERS;
 
 // Every bundle of a code, cut.
 #[no_mangle]
@@ -55,4 +57,20 @@ pub extern "C" fn bench_immediate(code: &[u8], slot: u64, family: u64, number: u
 pub extern "C" fn bench_listing(text: &[u8], out: &mut [u8]) -> u64 {
     let written = lister::listing(text, out);
     written.length as u64
+}
+
+// The report of an image, added up so many times.
+#[no_mangle]
+pub extern "C" fn bench_report(image: &[u8], times: u64) -> u64 {
+    let mut last = Added {
+        answer: 0,
+        report: [0; NUMBERS],
+    };
+    let mut left = times;
+    while 0 < left {
+        let report = last.report;
+        last = tally::add(report, image);
+        left -= 1;
+    }
+    sum::of_report(last)
 }

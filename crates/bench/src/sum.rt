@@ -3,6 +3,8 @@ use bundle::Bundle;
 use operand::Operand;
 use operand::Position;
 use operand::Reading;
+use tally::Added;
+use tally::NUMBERS;
 
 pub fn plus(sum: u64, n: u64) -> u64 {
     std::num::wrapping_add_u64(sum, n)
@@ -67,4 +69,15 @@ pub fn of_operand(operand: Operand) -> u64 {
         Operand::ControlRegister(r) => 8000 + r.0 as u64,
         Operand::Indirection(_, r) => 9000 + r.0 as u64,
     }
+}
+
+pub fn of_report(added: Added) -> u64 {
+    let report = added.report;
+    let mut sum = added.answer as u64;
+    let mut i = 0;
+    while i < NUMBERS {
+        sum = plus(sum, report[i]);
+        i += 1;
+    }
+    sum
 }

@@ -7,6 +7,7 @@ pub use half::bits_from;
 pub use half::put;
 pub use half::write;
 pub use template::Template;
+pub use template::template_of;
 pub use template::unitless;
 pub use template::units_of;
 ghost use mathlib.Core.Path.{_≡_};
@@ -19,7 +20,6 @@ use answer::EXHAUSTED_INPUT;
 use answer::NO_ROOM;
 use answer::TOO_LONG;
 use template::NO_TEMPLATE;
-use template::template_of;
 
 // How many bytes a code has at most.
 pub const LONGEST_CODE: usize = 65536;

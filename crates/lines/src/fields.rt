@@ -2,6 +2,9 @@
 ghost use Prim.Native.Nat.{_≤_};
 use text::Number;
 
+// No field ends there.
+const UNREAD: usize = usize::MAX;
+
 pub struct Six(pub u64, pub u64, pub u64, pub u64, pub u64, pub u64);
 
 pub struct Numbers {
@@ -18,34 +21,36 @@ pub fn numbers_at(line: &[u8], from: usize, count: usize) -> Numbers
     requires { ⌜ count ≤ 6 ⌝ }
 {
     let mut of = [0u64; 6];
-    let mut at = from;
-    let mut i = 0;
-    while i < count {
-        let Number::Read(value, end) = text::read_decimal(line, after(line, at)) else {
-            return unread();
-        };
-        of[i] = value;
-        at = end;
-        i += 1;
-    }
+    let at = read_numbers(line, from, &mut of, count);
     let six = apart(of);
     Numbers {
-        ok: true,
+        ok: at != UNREAD,
         at,
         of: six,
     }
 }
 
-fn apart(of: [u64; 6]) -> Six {
-    Six(of[0], of[1], of[2], of[3], of[4], of[5])
+// Puts the first `count` fields from `from` on into `of`, as far as it goes, and answers where they end, or `UNREAD` where one of them
+// is no number.
+pub fn read_numbers(line: &[u8], from: usize, of: &mut [u64], count: usize) -> usize {
+    let mut at = from;
+    let mut i = 0;
+    while i < count {
+        if of.len() <= i {
+            return at;
+        }
+        let Number::Read(value, end) = text::read_decimal(line, after(line, at)) else {
+            return UNREAD;
+        };
+        of[i] = value;
+        at = end;
+        i += 1;
+    }
+    at
 }
 
-fn unread() -> Numbers {
-    Numbers {
-        ok: false,
-        at: 0,
-        of: Six(0, 0, 0, 0, 0, 0),
-    }
+fn apart(of: [u64; 6]) -> Six {
+    Six(of[0], of[1], of[2], of[3], of[4], of[5])
 }
 
 // The place after one space, or past the line's end where there is none.

@@ -1,7 +1,8 @@
 // The commands, by name: first those that show the code, then those that show the journal, then those that
-// change either. A command's answer starts with a word, and each answers where the output stands then.
+// change either, and the report's two. A command's answer starts with a word, and each answers where the output stands then.
 ghost use Prim.Native.Nat.{_≤_};
 
+mod clear;
 mod code;
 mod cut;
 mod edit;
@@ -15,6 +16,7 @@ mod operands;
 mod place;
 mod put;
 mod records;
+mod report;
 mod sheets;
 mod sum;
 mod target;
@@ -47,12 +49,12 @@ pub enum Said {
 // No answer ends there, since each starts with a word: the line doesn't read.
 pub const UNREAD: usize = 0;
 
-const NAMES: [u8; 99] =
-    *b"code get sum find cut join operands immediate target records sheet put journal place undo edit load";
+const NAMES: [u8; 112] =
+    *b"code get sum find cut join operands immediate target records sheet put journal place undo edit load report clear";
 
 // The words that the answers start with.
-const WORDS: [u8; 90] =
-    *b"ok bytes sum find cut join operands immediate target records sheet ok ok ok undo edit load";
+const WORDS: [u8; 100] =
+    *b"ok bytes sum find cut join operands immediate target records sheet ok ok ok undo edit load report ok";
 
 // Places in both lists.
 const CODE: u64 = 0;
@@ -88,6 +90,10 @@ const UNDO: u64 = 14;
 const EDIT: u64 = 15;
 
 const LOAD: u64 = 16;
+
+const REPORT: u64 = 17;
+
+const CLEAR: u64 = 18;
 
 // A line on a code of that length, in its room, and on a journal.
 pub fn answer(
@@ -133,7 +139,7 @@ fn count(command: u64) -> usize
     ensures { λ r. ⌜ r ≤ 6 ⌝ }
 {
     match command {
-        SUM | RECORDS | UNDO | LOAD => 0,
+        SUM | RECORDS | UNDO | LOAD | REPORT | CLEAR => 0,
         GET => 2,
         OPERANDS | IMMEDIATE | EDIT => 4,
         JOIN | TARGET => 5,
@@ -144,7 +150,7 @@ fn count(command: u64) -> usize
 
 // Whether text follows the numbers.
 fn takes_text(command: u64) -> bool {
-    command == PUT || command == EDIT || command == LOAD
+    command == PUT || command == EDIT || command == LOAD || command == CLEAR
 }
 
 fn word(out: &mut [u8], at: usize, command: u64) -> usize {
@@ -168,6 +174,9 @@ fn called(
     }
     if command == SHEET {
         return sheets::answer(of.0, kept, out, at);
+    }
+    if command == REPORT {
+        return report::answer(code, kept, out, at);
     }
     told(out, at, changed(command, of, rest, code, kept))
 }
@@ -193,6 +202,7 @@ fn changed(command: u64, of: Six, rest: &[u8], code: &mut [u8], kept: &mut [u64]
         UNDO => undo::answer(code, kept),
         EDIT => edit::answer(of, rest, code, kept),
         LOAD => load::answer(rest, kept),
+        CLEAR => clear::answer(rest, kept),
         _ => Said::Unread,
     }
 }

