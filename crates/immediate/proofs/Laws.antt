@@ -14,7 +14,7 @@ use Rattle.bundle.proofs.Laws.{or-false}
 use Rattle.form.specs.declared.Form.{Form}
 use Rattle.form.specs.declared.Edit.{Edit}
 use Rattle.row.specs.Row.{isNone, rowOf}
-use Rattle.row.specs.Meaning.{Is}
+use Rattle.meaning.specs.Meaning.{Is}
 use Rattle.immediate.specs.Sound.{Sound}
 use Rattle.immediate.specs.Immediate.{fits, unitAt, readRefusals, rawFor, valueRefusals, changeRefusals, valueIn, partsOf, changedNumber, noChange, changedOf}
 use Rattle.row.specs.declared.Row.{Row}

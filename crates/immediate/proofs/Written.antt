@@ -14,13 +14,13 @@ use Rattle.parts.specs.Placed.{placed, widthOf, inWords}
 use Rattle.parts.proofs.Placed.{past-tag, within-bundle}
 use Rattle.parts.proofs.Steps.{widths-placed, gathered-lt}
 use Rattle.operand.specs.declared.Operand.{Operand}
-use Rattle.row.specs.Meaning.{Is, valueOf, rawOf}
+use Rattle.meaning.specs.Meaning.{means, Is, valueOf, rawOf}
 use Rattle.immediate.specs.Sound.{Sound}
-use Rattle.row.specs.Row.{isNone, means}
+use Rattle.row.specs.Row.{isNone}
 use Rattle.immediate.specs.Immediate.{valueIn, withRaw}
 use Rattle.row.specs.declared.Row.{Row}
-use Rattle.row.specs.declared.value.Raw.{Raw}
-use Rattle.row.proofs.Inverse.{raw-of-value, value-of-raw}
+use Rattle.meaning.specs.declared.Raw.{Raw}
+use Rattle.meaning.proofs.Inverse.{raw-of-value, value-of-raw}
 
 module _ (slot : ℕ) (row : Row) (s : Sound slot row) (n : ℕ) where
   -- the raw number that was written is read

@@ -18,9 +18,9 @@ use Rattle.operand.specs.Pattern.{patternOf}
 use Rattle.operand.specs.declared.Operand.{Operand}
 use Rattle.operand.specs.declared.Operand.the-variants.{None as NoOperand}
 use Rattle.row.specs.Row.{isNone, rowOf, targetRowOf}
-use Rattle.row.specs.Meaning.{valueOf, signedOf, rawOf}
+use Rattle.meaning.specs.Meaning.{valueOf, signedOf, rawOf}
 use Rattle.row.specs.declared.Row.{Row}
-use Rattle.row.specs.declared.value.Raw.{Raw}
+use Rattle.meaning.specs.declared.Raw.{Raw}
 use Rattle.immediate.specs.declared.outcome.Immediate.{Immediate}
 use Rattle.immediate.specs.declared.outcome.Target.{Target}
 use Rattle.immediate.specs.declared.outcome.Changed.{Changed}

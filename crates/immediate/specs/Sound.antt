@@ -3,7 +3,7 @@ use Prim.Native.Nat.{ℕ, _<_}
 use lib.Dec.{T}
 use Rattle.bits.specs.Parts.{separate}
 use Rattle.parts.specs.Placed.{placed, widthOf, readable}
-use Rattle.row.specs.Fits.{Fitting}
+use Rattle.meaning.specs.Fits.{Fitting}
 use Rattle.row.specs.declared.Row.{Row}
 
 -- a row's parts lie in the bundle, no two meet, and its values are of 64 bits

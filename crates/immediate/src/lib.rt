@@ -15,8 +15,8 @@ use answer::BAD_VALUE;
 use bundle::Halves;
 use form::Edit;
 use form::Form;
+use meaning::Meaning;
 use operand::Operand;
-use row::Meaning;
 use row::Row;
 
 // The immediate of a form in a slot of a code's bundle.
@@ -60,7 +60,7 @@ fn value_in(row: Row, slot: u32, bundle: Halves) -> Operand
 {
     let meaning = row.meaning;
     let parts = row.parts;
-    row::value_of(
+    meaning::value_of(
         meaning,
         row::width(parts),
         parts::gather(bundle, slot, parts),
@@ -80,7 +80,7 @@ pub fn change(bundle: Halves, edit: Edit) -> Changed
     }
     let meaning = row.meaning;
     let parts = row.parts;
-    let raw = row::raw_of(meaning, row::width(parts), value);
+    let raw = meaning::raw_of(meaning, row::width(parts), value);
     let refusal = raw.answer;
     if refusal != ACCEPTED {
         return unchanged(refusal);
@@ -142,5 +142,5 @@ fn displacement_in(row: Row, slot: u32, bundle: Halves) -> u64
     ensures { λ r. ⌜ r ≡ patternOf (displacementIn row slot (whole bundle)) ⌝ }
 {
     let parts = row.parts;
-    row::displacement(16, row::width(parts), parts::gather(bundle, slot, parts))
+    meaning::displacement(16, row::width(parts), parts::gather(bundle, slot, parts))
 }

@@ -4,11 +4,12 @@ use mathlib.Core.Bool.{true}
 use mathlib.Core.List.{[], _∷_}
 use types.Run.{OneOf, miss}
 use denote.Enum.Declared.{tagOf}
-use Rattle.row.specs.Row.{noRow, means, onlyTimes16}
-use Rattle.row.specs.declared.Meaning.{Meaning}
-use Rattle.row.specs.declared.Meaning.the-variants.{None as NoMeaning, Unsigned, Signed, Chosen, Complement}
+use Rattle.meaning.specs.Meaning.{means}
+use Rattle.row.specs.Row.{noRow, onlyTimes16}
+use Rattle.meaning.specs.declared.Meaning.{Meaning}
+use Rattle.meaning.specs.declared.Meaning.the-variants.{None as NoMeaning, Unsigned, Signed, Chosen, Complement}
 use Rattle.row.specs.declared.Row.{Row}
-use Rattle.row.proofs.Meaning.{the-type as meaning-type}
+use Rattle.meaning.proofs.Meaning.{the-type as meaning-type}
 
 pub some-meaning : (m : Meaning) → OneOf (1 ∷ 2 ∷ 3 ∷ 4 ∷ []) (tagOf meaning-type m) → means m ≡ true
 some-meaning NoMeaning k = absurd (miss (1 ∷ 2 ∷ 3 ∷ 4 ∷ []) 0 tt k)

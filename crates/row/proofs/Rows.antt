@@ -15,10 +15,10 @@ use Rattle.form.specs.declared.Form.{Form}
 use Rattle.parts.specs.Placed.{placed, widthOf, inWords, readable}
 use Rattle.row.specs.Row.{Line, lines, among, rowIn, rowOf, noRow, isNone, onlyTimes16, targetRowOf}
 use Rattle.table.proofs.Check.{below, checked}
-use Rattle.row.specs.Fits.{Fitting}
-use Rattle.row.specs.Meaning.{entry}
-use Rattle.row.specs.declared.Meaning.{Meaning}
-use Rattle.row.specs.declared.Meaning.the-variants.{None, Unsigned, Signed, Chosen, Complement}
+use Rattle.meaning.specs.Fits.{Fitting}
+use Rattle.meaning.specs.Meaning.{entry}
+use Rattle.meaning.specs.declared.Meaning.{Meaning}
+use Rattle.meaning.specs.declared.Meaning.the-variants.{None, Unsigned, Signed, Chosen, Complement}
 use Rattle.row.specs.declared.Row.{Row}
 
 -- no two of the first n numbers of a list are the same

@@ -8,8 +8,9 @@ use Rattle.form.specs.Form.{a, b, f, i, m, x, same}
 use Rattle.form.specs.declared.Form.{Form}
 use Rattle.parts.specs.Placed.{L}
 use Rattle.parts.specs.declared.Part.{Part}
-use Rattle.row.specs.declared.Meaning.{Meaning}
-use Rattle.row.specs.declared.Meaning.the-variants.{None, Unsigned, Signed, Chosen, Complement}
+use Rattle.meaning.specs.Meaning.{means}
+use Rattle.meaning.specs.declared.Meaning.{Meaning}
+use Rattle.meaning.specs.declared.Meaning.the-variants.{None, Unsigned, Signed, Chosen, Complement}
 use Rattle.row.specs.declared.Row.{Row}
 
 infix 80 _wide_
@@ -104,13 +105,6 @@ unfolding lines
 rowOf form = rowIn form lines
 
 -- no row
-abbrev pub means : Meaning → Bool
-means None = false
-means (Unsigned plus) = true
-means (Signed unit) = true
-means (Chosen signed list) = true
-means (Complement top) = true
-
 abbrev pub isNone : Row → Bool
 isNone row = not (means (row .meaning))
 

@@ -1,10 +1,4 @@
 // The rows of document 01's table: where a form's immediate stands, and what its number means.
-mod value;
-
-pub use value::Raw;
-pub use value::displacement;
-pub use value::raw_of;
-pub use value::value_of;
 ghost use mathlib.Core.Path.{_≡_};
 ghost use lib.Dec.{T};
 ghost use Rattle.form.specs.Form.{a, b, f, i, m, x};
@@ -16,18 +10,9 @@ use form::F;
 use form::Form;
 use form::M;
 use form::X;
+use meaning::Meaning;
 use parts::L;
 use parts::Part;
-
-// What the raw number of a row means: itself and so much more; with a sign, so many times itself; the one that it chooses
-// from a list of numbers of 8 bits, the first of which stands lowest, with a sign where the flag is set; or so much less itself.
-pub enum Meaning {
-    None,
-    Unsigned(u64),
-    Signed(u64),
-    Chosen(bool, u64),
-    Complement(u64),
-}
 
 // Its parts stand lowest first, and the last have no width.
 pub struct Row {

@@ -10,12 +10,12 @@ use Rattle.bundle.specs.Bundle.{whole, halvesOf}
 use Rattle.bundle.proofs.Halves.{halves-whole}
 use Rattle.parts.specs.Placed.{widthOf}
 use Rattle.row.specs.Row.{rowOf}
-use Rattle.row.specs.Fits.{Fitting}
-use Rattle.row.specs.Meaning.{rawOf}
+use Rattle.meaning.specs.Fits.{Fitting}
+use Rattle.meaning.specs.Meaning.{rawOf}
 use Rattle.row.specs.declared.Row.{Row}
-use Rattle.row.specs.declared.value.Raw.{Raw}
+use Rattle.meaning.specs.declared.Raw.{Raw}
 use Rattle.row.proofs.Rows.{row-good}
-use Rattle.row.proofs.Inverse.{raw-told}
+use Rattle.meaning.proofs.Inverse.{raw-told}
 use Rattle.immediate.specs.Sound.{Sound}
 use Rattle.immediate.specs.Immediate.{readRefusals, rawFor, withRaw, noChange}
 use Rattle.immediate.proofs.Laws.{read-sound, unchanged-by, not-read, no-raw, changed-done}

@@ -5,9 +5,9 @@ use Rattle.bundle.specs.Bundle.{whole}
 use Rattle.parts.specs.Placed.{widthOf}
 use Rattle.parts.proofs.Steps.{gathered-lt}
 use Rattle.operand.specs.Pattern.{patternOf}
-use Rattle.row.specs.Meaning.{signedOf}
-use Rattle.row.specs.Fits.{Fitting}
-use Rattle.row.specs.declared.Meaning.{Meaning}
+use Rattle.meaning.specs.Meaning.{signedOf}
+use Rattle.meaning.specs.Fits.{Fitting}
+use Rattle.meaning.specs.declared.Meaning.{Meaning}
 use borrow.Author.Needs.{needs}
 use Rattle.immediate.proofs.displacement_in.Statement.{statement}
 use Rattle.immediate.proofs.displacement_in.Tie as tie

@@ -13,7 +13,7 @@ use Rattle.bundle.specs.Bundle.{whole}
 use Rattle.operand.specs.Pattern.{patternOf}
 use Rattle.row.specs.Row.{rowOf, onlyTimes16, targetRowOf}
 use Rattle.row.specs.declared.Row.{Row}
-use Rattle.row.specs.declared.Meaning.the-variants.{Signed}
+use Rattle.meaning.specs.declared.Meaning.the-variants.{Signed}
 use Rattle.row.proofs.Rows.{target-good, target-16}
 use Rattle.immediate.specs.Sound.{Sound}
 use Rattle.immediate.specs.Immediate.{readRefusals, displacementIn, noTarget, targetIn}

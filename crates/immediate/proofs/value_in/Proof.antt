@@ -2,7 +2,7 @@
 use mathlib.Core.Path.{_∙_, ap₂}
 use Rattle.bundle.specs.Bundle.{whole}
 use Rattle.parts.proofs.Steps.{gathered-lt}
-use Rattle.row.specs.Meaning.{valueOf}
+use Rattle.meaning.specs.Meaning.{valueOf}
 use borrow.Author.Needs.{needs}
 use Rattle.immediate.proofs.value_in.Statement.{statement}
 use Rattle.immediate.proofs.value_in.Tie as tie

@@ -2,7 +2,7 @@
 use mathlib.Core.Path.{_∙_, sym, ap}
 use borrow.Author.Tests.{ne-eqb}
 use Rattle.row.specs.Row.{onlyTimes16}
-use Rattle.row.specs.declared.Meaning.{Meaning}
+use Rattle.meaning.specs.declared.Meaning.{Meaning}
 use Rattle.row.proofs.Kind.{no-target}
 use borrow.Author.Needs.{needs}
 use Rattle.row.proofs.only_times16.Statement.{statement}
