@@ -1,9 +1,9 @@
 // What is to be written, in a buffer with a position. Each function answers the position after what it
 // put; what has no room is dropped.
 use crate::part;
+use hex::put_hex;
 use text::put_byte;
 use text::put_decimal;
-use text::put_hex;
 
 // A space and a number.
 pub fn number(out: &mut [u8], at: usize, n: u64) -> usize {

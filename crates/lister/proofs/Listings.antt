@@ -6,9 +6,9 @@ use lib.ListN.{length}
 use borrow.Author.Tests.{lt-ltb, le-ltb}
 use Rattle.answer.specs.Answer.{first, accepted, tooLong}
 use Rattle.bundle.specs.Bundle.{longestCode}
-use Rattle.text.specs.Hex.{hexBytes}
-use Rattle.text.specs.declared.hex.Ending.{Ending}
-use Rattle.text.proofs.Enough.{decisive, enough}
+use Rattle.hex.specs.Hex.{hexBytes}
+use Rattle.hex.specs.declared.Ending.{Ending}
+use Rattle.hex.proofs.Enough.{decisive, enough}
 use Rattle.lister.specs.Listing.{listRefusals, listed, listingOf, Decides}
 
 pub short-listed : (code : List ℕ) → length code ≤ longestCode → first (listRefusals code) ≡ accepted

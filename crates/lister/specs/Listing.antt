@@ -9,13 +9,13 @@ use Rattle.answer.specs.Answer.{Refusal, badBundle, tooLong}
 use Rattle.bundle.specs.Bundle.{longestCode, cutOf}
 use Rattle.bundle.specs.Template.{markedUnits}
 use Rattle.bundle.specs.declared.Bundle.{Bundle}
+use Rattle.hex.specs.Hex.{hexBytes}
+use Rattle.hex.specs.declared.Ending.{Ending}
+use Rattle.hex.specs.declared.Ending.the-variants.{Whole, BadHex, TooLong}
 use Rattle.table.specs.Ascii.{ascii}
 use Rattle.text.specs.Ascii.{tab, line}
 use Rattle.text.specs.Decimal.{decimal}
 use Rattle.text.specs.Fields.{fields}
-use Rattle.text.specs.Hex.{hexBytes}
-use Rattle.text.specs.declared.hex.Ending.{Ending}
-use Rattle.text.specs.declared.hex.Ending.the-variants.{Whole, BadHex, TooLong}
 
 -- the first line
 abbrev pub header : List ℕ

@@ -15,7 +15,7 @@ use answer::ACCEPTED;
 use answer::NO_ROOM;
 use answer::TOO_LONG;
 use bundle::LONGEST_CODE;
-use text::Ending;
+use hex::Ending;
 use text::Written;
 
 // So many characters of a text decide its listing: three for each byte, and two digits of one byte more.
@@ -30,7 +30,7 @@ pub fn listing(text: &[u8], out: &mut [u8]) -> Written
     ensures enough { λ _. do ⌜ Decides (← ⟦ENOUGH⟧ .entry) (now (text .entry)) ⌝ }
 {
     let mut code = [0u8; LONGEST_CODE];
-    let decoded = text::decode(text, &mut code);
+    let decoded = hex::decode(text, &mut code);
     let count = decoded.count;
     let ending = decoded.ending;
     match ending {

@@ -4,11 +4,11 @@ mod image;
 mod said;
 
 use answer::ACCEPTED;
+use hex::Ending;
 use libc::STDIN_FILENO;
 use libc::STDOUT_FILENO;
 use tally::Added;
 use tally::NUMBERS;
-use text::Ending;
 
 fn main() {
     let count = os::arg_count();
@@ -53,7 +53,7 @@ fn typed() -> Added {
     let mut given = [0u8; lister::ENOUGH];
     let mut bytes = image::room();
     let count = io::read_full(STDIN_FILENO, &mut given);
-    let decoded = text::decode(&given[..count], &mut bytes);
+    let decoded = hex::decode(&given[..count], &mut bytes);
     let ending = decoded.ending;
     let report = [0u64; NUMBERS];
     if let Ending::BadHex = ending {

@@ -1,6 +1,4 @@
-pub mod Enough
 pub mod Filling
-pub mod Fronts
 pub mod Numbers
 pub mod Numerals
 pub mod RoundTrip

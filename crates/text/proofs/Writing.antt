@@ -2,7 +2,7 @@
 -- lost. By induction on the text, a byte at a time. Assumes nothing.
 use mathlib.Core.Path.{_≡_, refl, sym, ap, _∙_}
 use mathlib.Core.List.{List, [], _∷_, _++_, append-assoc, append-nil}
-use Prim.Native.Nat.{ℕ, zero, suc, _+_, _-_, _/_, _%_, _^_, min, _≤_, _<_}
+use Prim.Native.Nat.{ℕ, zero, suc, _+_, _-_, _^_, min, _≤_, _<_}
 use native.Mathlib.Nat.{add-zero, add-suc, suc-add, zero-add}
 use native.Mathlib.Decide.{decLt}
 use native.Mathlib.Omega.{arith}
@@ -10,7 +10,6 @@ use lib.ListN.{length, getD, take, drop, set, length-append, length-drop, drop-o
 use lib.Seq.{length-take-le, take-all, take-length, take-append-seam, set-out, sets-eq, length-sets}
 use Rattle.text.specs.Decimal.{decimal}
 use Rattle.text.specs.Fields.{fields}
-use Rattle.text.specs.Hex.{digitOf, hexOf}
 use Rattle.text.specs.Put.{written, past, Put}
 
 pub written-append : (out : List ℕ) (at : ℕ) (a b : List ℕ) → written (written out at a) (at + length a) b ≡ written out at (a ++ b)
@@ -104,9 +103,3 @@ fields-all zero (n ∷ ns) [] h = refl
 fields-all (suc i) (n ∷ ns) [] h = refl
 fields-all zero (n ∷ ns) (e ∷ ends) h = absurd (omega arith)
 fields-all (suc i) (n ∷ ns) (e ∷ ends) h = rw (fields-all i ns ends (omega arith))
-
--- bytes in hex, as far as the first i of them
-pub hex-next : (i : ℕ) (bytes : List ℕ) → i < length bytes → let b = getD bytes i 0 in hexOf (take (suc i) bytes) ≡ hexOf (take i bytes) ++ (digitOf (b / 16) ∷ digitOf (b % 16) ∷ [])
-hex-next i [] h = absurd (omega arith)
-hex-next zero (b ∷ bytes) h = refl
-hex-next (suc i) (b ∷ bytes) h = rw (hex-next i bytes (omega arith))

@@ -1,7 +1,6 @@
 pub mod Ascii
 pub mod Decimal
 pub mod Fields
-pub mod Hex
 pub mod Number
 pub mod Put
 pub mod Whole

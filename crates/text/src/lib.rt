@@ -1,11 +1,10 @@
-// Text as bytes: numbers in decimal, fields of them, and bytes in hex; read and written.
+// Text as bytes: numbers in decimal and fields of them, read and written.
 //
 // A `put` function writes at a place of the output and answers the place after what it wrote, or the
 // last that a number can tell where that is past it. A byte for which the output has no place is lost,
 // so a run on an output with none measures the text.
 mod decimal;
 mod fields;
-mod hex;
 mod number;
 mod put;
 mod whole;
@@ -17,11 +16,6 @@ pub use fields::TAB;
 pub use fields::begins;
 pub use fields::read_field;
 pub use fields::read_fields;
-pub use hex::Decoded;
-pub use hex::Ending;
-pub use hex::decode;
-pub use hex::digit_value;
-pub use hex::put_hex;
 pub use number::Number;
 pub use number::read_decimal;
 pub use put::put_byte;

@@ -6,10 +6,10 @@ use native.Mathlib.Omega.{arith}
 use lib.ListN.{length, take, replicate, length-replicate}
 use lib.Seq.{length-take-le}
 use Rattle.bundle.specs.Bundle.{longestCode}
-use Rattle.text.specs.Hex.{hexBytes, decodedOf}
-use Rattle.text.specs.declared.hex.Ending.the-variants.{Whole, BadHex, TooLong}
+use Rattle.hex.specs.Hex.{hexBytes, decodedOf}
+use Rattle.hex.specs.declared.Ending.the-variants.{Whole, BadHex, TooLong}
+use Rattle.hex.proofs.Fronts.{decoded-ending, decoded-room, decoded-bytes}
 use Rattle.text.specs.Whole.{wroteOf}
-use Rattle.text.proofs.Fronts.{decoded-ending, decoded-room, decoded-bytes}
 use Rattle.text.proofs.Wholes.{whole-passed}
 use Rattle.lister.specs.Listing.{listOf, listRefusals, listingOf}
 use Rattle.lister.proofs.Listings.{short-listed, listing-is, listing-enough}

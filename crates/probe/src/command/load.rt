@@ -4,17 +4,17 @@ ghost use lib.ListN.{length};
 use crate::command::Said;
 use crate::kept;
 use lines::fields;
-use lines::hex;
-use lines::hex::Spelt;
 use lines::part;
+use lines::spelt;
+use lines::spelt::Spelt;
 
 pub fn answer(rest: &[u8], kept: &mut [u64]) -> Said {
     let text = fields::rest(rest);
-    let Spelt::Of(count) = hex::count(text) else {
+    let Spelt::Of(count) = spelt::count(text) else {
         return Said::Unread;
     };
     let mut room = room();
-    hex::put(text, &mut room);
+    spelt::put(text, &mut room);
     Said::Answer(loaded(kept, &room, count))
 }
 

@@ -1,13 +1,13 @@
 // `put AT BYTES`: writes bytes into the code.
 use crate::command::Said;
 use lines::fields;
-use lines::hex;
-use lines::hex::Spelt;
 use lines::part;
+use lines::spelt;
+use lines::spelt::Spelt;
 
 pub fn answer(place: u64, rest: &[u8], code: &mut [u8]) -> Said {
     let text = fields::rest(rest);
-    let Spelt::Of(count) = hex::count(text) else {
+    let Spelt::Of(count) = spelt::count(text) else {
         return Said::Unread;
     };
     let start = place as usize;
@@ -18,6 +18,6 @@ pub fn answer(place: u64, rest: &[u8], code: &mut [u8]) -> Said {
     if end < start {
         return Said::Unread;
     }
-    hex::put(text, &mut code[start..end]);
+    spelt::put(text, &mut code[start..end]);
     Said::Nothing
 }
