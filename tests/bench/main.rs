@@ -6,10 +6,10 @@
 mod model;
 
 use model::immediate::Value;
-use model::journal::{self, Journal};
+use model::journal::{self, Journal, Record};
 use model::random::Random;
 use model::table::{self, Family};
-use model::{sheet, Model};
+use model::{load, sheet, Model};
 use of000::bench as old;
 use std::hint::black_box;
 use std::time::Instant;
@@ -19,6 +19,17 @@ extern "C" {
     fn bench_cut(code: *const u8, length: usize) -> u64;
     fn bench_operands(family: u64, numbers: *const u64, n: usize, words: *const u64, w: usize, ls: *const u64, l: usize) -> u64;
     fn bench_immediate(code: *const u8, length: usize, slot: u64, family: u64, number: u64) -> u64;
+    fn bench_record(
+        code: *const u8,
+        length: usize,
+        other: *const u8,
+        size: usize,
+        slot: u64,
+        family: u64,
+        number: u64,
+        values: *const u64,
+        count: usize,
+    ) -> u64;
     fn bench_listing(text: *const u8, length: usize, out: *mut u8, room: usize) -> u64;
     fn bench_report(image: *const u8, length: usize, times: u64) -> u64;
     fn bench_write(code: *mut u8, length: usize, slot: u64, family: u64, number: u64, signed: u64, values: *const u64, count: usize) -> u64;
@@ -90,7 +101,7 @@ fn fitting(letter: u8) -> (u64, u64) {
     (0..32).flat_map(|tag| [1, 2, 0].map(|slot| (tag, slot))).find(|(tag, slot)| fits(*tag, *slot)).unwrap()
 }
 
-/// A form of each row of the table, read and written.
+/// A form of each row of the table, read and written, and the records of what was written, tested.
 fn immediates(random: &mut Random, model: &Model) {
     for row in table::rows() {
         let signed = row.signed;
@@ -109,7 +120,7 @@ fn immediates(random: &mut Random, model: &Model) {
         // of numbers so small that M17 and A2 have them too
         let numbers = (0..BUNDLES as i64).map(|n| if signed { n % 8 - 4 } else { n % 4 });
         let values: Vec<u64> = numbers.map(|n| row.value(n as u64 & row.highest()).pattern()).collect();
-        let (mut mine, mut other) = (code.clone(), code);
+        let (mut mine, mut other) = (code.clone(), code.clone());
         let (mut first, mut second) = (Vec::new(), Vec::new());
         let ours = || {
             let refused = unsafe {
@@ -130,6 +141,17 @@ fn immediates(random: &mut Random, model: &Model) {
         };
         line(&format!("immediate written, {form}"), BUNDLES, "plain Rust", ours, writes);
         assert!(first == second, "{form}: the codes differ");
+
+        let ours = || unsafe {
+            let (old, new) = (code.as_ptr(), first.as_ptr());
+            bench_record(old, code.len(), new, first.len(), slot, family, number, values.as_ptr(), values.len())
+        };
+        let record = |n: usize| {
+            let (old, new) = (load(&code, n), load(&first, n));
+            Record { bundle: n as u64, slot, family: asked(), number, value: values[n], old, new }
+        };
+        let tests = || (0..BUNDLES).filter(|n| model.may_stand(&record(*n))).count() as u64;
+        line(&format!("record tested, {form}"), BUNDLES, "plain Rust", ours, tests);
     }
 }
 
@@ -149,7 +171,7 @@ fn edits(random: &mut Random, model: &Model) {
             let mut sum = 0;
             for _ in 0..TIMES {
                 let edited = model.edit(&mut other, journal, 63, 2, b'B' as u64, 1, Value::Signed(32));
-                let undone = journal::undo(&mut other, edited.1);
+                let undone = model.undo(&mut other, edited.1);
                 sum += (edited.0 + undone.0) as u64;
                 journal = undone.1;
             }
@@ -160,36 +182,47 @@ fn edits(random: &mut Random, model: &Model) {
     }
 }
 
+/// With five fields a line, as sheets were before a record told of its edit.
+fn old_sheet(journal: &Journal) -> String {
+    let halves = |n: u128| format!("{}\t{}", n as u64, (n >> 64) as u64);
+    let line = |one: &Record| format!("{}\t{}\t{}\n", one.bundle, halves(one.old), halves(one.new));
+    let standing = &journal.records[..journal.count as usize];
+    format!("patches\t{}\n", journal.count) + &standing.iter().map(line).collect::<String>()
+}
+
 fn sheets(random: &mut Random, model: &Model) {
     const TIMES: u64 = 200;
     let code = code_of(random, 16);
     let (mut mine, mut other) = (code.clone(), code);
-    let (mut first, mut second) = (vec![0; 5707], vec![0; 5707]);
+    let (mut first, mut second) = (vec![0; sheet::LONGEST], vec![0; sheet::LONGEST]);
     let ours = || unsafe { bench_sheet(mine.as_mut_ptr(), mine.len(), FULL, TIMES, first.as_mut_ptr(), first.len()) };
     let mut length = 0;
     let theirs = || {
         let journal = filled(model, &mut other, FULL);
         let mut sum = 0;
         for _ in 0..TIMES {
-            length = sheet::write(journal, &mut second).1;
+            length = model.write_sheet(journal, &mut second).1;
             sum += length as u64;
         }
         sum
     };
     line("sheet of 64 records written", TIMES as usize, "plain Rust", ours, theirs);
     assert!(first == second, "the sheets differ");
-    let text = &first[..length];
-    let theirs = || {
-        let mut journal = Journal::empty();
-        let mut sum = 0;
-        for _ in 0..TIMES {
-            let loaded = sheet::load(journal, text);
-            sum += loaded.0 as u64;
-            journal = loaded.1;
-        }
-        sum
-    };
-    line("sheet of 64 records loaded", TIMES as usize, "plain Rust", || unsafe { bench_load(text.as_ptr(), text.len(), TIMES) }, theirs);
+    let old = old_sheet(&filled(model, &mut other, FULL));
+    for (what, text) in [("64 records", &first[..length]), ("64 old lines", old.as_bytes())] {
+        let theirs = || {
+            let mut journal = Journal::empty();
+            let mut sum = 0;
+            for _ in 0..TIMES {
+                let loaded = model.load_sheet(journal, text);
+                sum += loaded.0 as u64;
+                journal = loaded.1;
+            }
+            sum
+        };
+        let ours = || unsafe { bench_load(text.as_ptr(), text.len(), TIMES) };
+        line(&format!("sheet of {what} loaded"), TIMES as usize, "plain Rust", ours, theirs);
+    }
 }
 
 fn listing(random: &mut Random, model: &Model) {

@@ -4,7 +4,8 @@ Each function takes a `Talk`, which keeps the lines with what the model answers 
 """
 import itertools
 
-from model import FITTING, FORMS, HUGE, NUMBERS, PLACES, ROWS, UNITS, WORD, Model, operand, report_of, sheet
+from model import (
+    FITTING, FORMS, HUGE, NUMBERS, PLACES, ROWS, UNITS, WORD, Bundle, FREE, Model, joined, old_fields, operand, report_of, sheet)
 from standing import Standing
 
 LENGTHS = (0, 1, 15, 16, 17, 31, 32, 33, 48, 100, 65520, 65535, 65536, 65537, 65552, 65600)
@@ -51,7 +52,7 @@ class Talk:
 
 SAMPLES = (
     "code 40", "put 0 00ff10", "put 3 -", "get 0 4", "sum", "find 0", "cut 1", "join 20 16 1 2 3", "operands 77 49 0 0",
-    "immediate 0 2 66 1", "target 0 2 66 1 16", "journal 3", "place 2 1 2 3 4 5", "records", "edit 0 2 66 1 I-16", "undo",
+    "immediate 0 2 66 1", "target 0 2 66 1 16", "journal 3", "place 2 1 2 B1 3 4 5 6 7", "records", "edit 0 2 66 1 I-16", "undo",
     "sheet 100", "load 70617463686573093020", "report", "clear", "clear " + " ".join(map(str, range(NUMBERS))),
 )
 
@@ -345,6 +346,62 @@ def shown(talk, n=None):
         talk(f"get {16 * n} 16")
 
 
+def put_record(talk, i, one):
+    return talk(f"place {i} {' '.join(map(str, one))}")
+
+
+def put_journal(talk, records):
+    talk(f"journal {len(records)}")
+    for i, one in enumerate(records):
+        put_record(talk, i, one)
+
+
+def halves(number):
+    return number % HUGE, number >> 64
+
+
+def whole_record(random, n, new):
+    return n, 0, "-", 0, *halves(random.getrandbits(128)), *halves(new)
+
+
+def field_record(random, n, new, name, slot):
+    """The record of an edit that gave that bundle: its old one has another number there, or the same by chance."""
+    row, bundle = ROWS[name], Bundle(new.to_bytes(16, "little"))
+    value = row.read([bundle.words[slot], bundle.words[1]])
+    old = int.from_bytes(bundle.with_value(slot, row, row.value(random.getrandbits(row.width))), "little")
+    return n, slot, name, value % HUGE, *halves(old), *halves(new)
+
+
+def any_record(random, n, new):
+    """A record that passes: of an edit, where the new bundle has a slot with a row, or of a whole bundle."""
+    fit = [(name, slot) for slot, unit in enumerate(UNITS.get(new % 32, "")) for name in ROWS if unit in FITTING[name[0]]]
+    if fit and random.random() < 0.7:
+        return field_record(random, n, new, *random.choice(fit))
+    return whole_record(random, n, new)
+
+
+def with_tag(random, tag):
+    return random.getrandbits(128) & ~31 | tag
+
+
+def changed(one):
+    """The record with one of its nine numbers changed: the bundle's, slot's, letter's, form's, value's and each half's."""
+    bundle, slot, form, value, *_ = one
+    for other in (bundle + 1, 4095, 4096, 4096 + bundle, HUGE - 1):
+        yield other, *one[1:]
+    for other in (0, 1, 2, 3, slot + 256, slot + (1 << 32), HUGE - 1):
+        yield bundle, other, *one[2:]
+    letter, number = (form[0], int(form[1:])) if form != "-" else ("A", 0)
+    letters, numbers = "ABFIJMQXZ", (0, 1, 2, number + 1, number + 10, number + 256, HUGE - 1)
+    for other in [a + str(number) for a in letters] + [letter + str(n) for n in numbers] + ["-"]:
+        yield bundle, slot, other, *one[3:]
+    for other in (0, 1, 16, value + 1, value - 1, value + 16, value - 16, value ^ 1 << 63, value ^ 1 << 20, -value, HUGE - 1):
+        yield *one[:3], other % HUGE, *one[4:]
+    for i in range(4, 8):
+        for other in (0, one[i] ^ 1, one[i] ^ 1 << 63, one[i] ^ 1 << (37 * i + value) % 64, HUGE - 1):
+            yield *one[:i], other, *one[i + 1:]
+
+
 def value_for(random, family, number):
     row = ROWS.get(f"{chr(family)}{number}") if family < 128 else None
     if row is None or random.random() < 0.08:
@@ -418,7 +475,8 @@ def undo(talk, standing):
 def same(talk, standing, taken, predicted, n):
     assert taken == predicted, f"demand 3 predicts another answer to {talk.lines[-1]}"
     assert talk.model.code == standing.code, f"demand 3 gives another code after {talk.lines[-1]}"
-    assert talk.model.count == len(standing.edits), f"demand 3 gives another count after {talk.lines[-1]}"
+    told = [one[:4] for one in talk.model.places[:talk.model.count]]
+    assert told == standing.told(), f"demand 3 gives other records after {talk.lines[-1]}"
     shown(talk, n)
 
 
@@ -467,21 +525,101 @@ def any_journal(talk):
     inside = max(1, len(code) // 16)
     for i in range(min(count, PLACES)):
         n = random.choice((random.randrange(inside), random.randrange(4096)))
-        old, new = random.getrandbits(128), random.getrandbits(128)
+        new = with_tag(random, random.randrange(32))
         if random.random() < 0.6 and 16 * n + 16 <= len(code):
             new = int.from_bytes(code[16 * n:16 * n + 16], "little")
-        talk(f"place {i} {n} {old % HUGE} {old >> 64} {new % HUGE} {new >> 64}")
+        put_record(talk, i, any_record(random, n, new))
     last = min(count, PLACES) - 1
     if random.random() < 0.25 and last >= 0:
-        talk(f"place {random.choice((last, random.randrange(last + 1)))} {random.choice((4096, 4097, 1 << 60, HUGE - 1))} 0 0 0 0")
+        i = random.choice((last, random.randrange(last + 1)))
+        one = talk.model.places[i]
+        far = random.choice((4096, 4097, 1 << 60, HUGE - 1)), *one[1:]
+        put_record(talk, i, random.choice((far, random.choice(list(changed(one))))))
     if random.random() < 0.25 and last < PLACES - 1:
-        one = [0] * 5
-        one[random.randrange(5)] = random.choice((1, HUGE - 1))
-        talk(f"place {random.choice((last + 1, PLACES - 1))} {' '.join(map(str, one))}")
+        put_record(talk, random.choice((last + 1, PLACES - 1)), random.choice(list(changed(FREE))))
+
+
+def names(talk):
+    """Every byte as a form's letter, and forms that there aren't: a record holds those with a capital letter."""
+    number = b"1", b"0", b"49", str(HUGE - 1).encode()
+    bad = b"", b"01", b"00", b"-1", b"+1", b"1x", b"A", b"-", str(HUGE).encode(), str(10 * HUGE).encode(), b"9" * 40
+    letters = [bytes([byte]) for byte in range(256) if byte != 10]
+    for form in [letter + b"1" for letter in letters] + [b"A" + letter for letter in letters] + [b"1" + letter for letter in letters]:
+        talk(b"place 3 0 0 %s 0 0 0 0 0" % form)
+        talk("records")
+    for letter, rest in itertools.product((b"A", b"M", b"X", b"Q", b"Z", b"@", b"[", b"a", b"", b"-"), number + bad):
+        for count in (0, 1):
+            talk(f"journal {count}")
+            talk(b"place 0 0 0 %s%s 0 0 0 0 0" % (letter, rest))
+            talk("records")
+            talk("undo")
+
+
+def wrong_in_one(talk, calls):
+    """Calls on journals that are wrong in one number of one place, standing or free, or are by chance not."""
+    random = talk.random
+    for count in (0, 1, 2, 5, 63, 64):
+        talk("code 1024")
+        for n in range(64):
+            talk.bundle(n, 16)
+        records = [any_record(random, n, int.from_bytes(talk.model.code[16 * n:16 * n + 16], "little")) for n in range(count)]
+        for i in {0, count // 2, max(0, count - 1), min(count, PLACES - 1), PLACES - 1}:
+            some = list(changed(records[i] if i < count else FREE))
+            for one in some if count < 63 else random.sample(some, 12):
+                put_journal(talk, records)
+                put_record(talk, i, one)
+                for line in calls:
+                    talk(line)
+                    shown(talk, 63)
+
+
+def belonging(talk):
+    """Records of every form with a row, in slots that it fits: what passes, and what is wrong in one number or in several."""
+    random = talk.random
+    for name, tag, slot in slots_of_rows():
+        if name[0] == "X" or random.random() < 0.3:
+            one = field_record(random, 0, with_tag(random, tag), name, slot)
+            yield one
+            yield from random.sample(list(changed(one)), 16)
+            yield from beside(random, one)
+
+
+def beside(random, one):
+    """Records near one of an edit: with its halves swapped, a bit changed in both, another form of its row, the raw number as a value."""
+    n, slot, name, value, *_ = one
+    old, new, row = one[4:6], one[6:], ROWS[name]
+    yield n, slot, name, value, *new, *new
+    yield n, slot, name, value, *new, *old
+    yield n, slot, name, value, *old, *old
+    yield n, 0, "-", 0, *old, *new
+    yield n, slot, "-", value, *old, *new
+    for bit in (*random.sample(range(5, 128), 4), *range(5)):
+        other = [half ^ part for half, part in zip(one[4:], halves(1 << bit) * 2)]
+        yield n, slot, name, value, *other
+    for other in ROWS:
+        if ROWS[other].parts == row.parts or random.random() < 0.1:
+            yield n, slot, other, value, *old, *new
+    for raw in (0, 1, (1 << row.width) - 1, 1 << row.width - 1, random.getrandbits(row.width)):
+        made = Bundle(joined(*old)).with_value(slot, row, row.value(raw))
+        for said in (row.value(raw), raw, row.value(raw) + (1 << row.width), row.value(raw) ^ 1 << 63):
+            yield n, slot, name, said % HUGE, *old, *halves(int.from_bytes(made, "little"))
+
+
+def tested(talk):
+    """A journal of one such record, and an undo of it."""
+    talk("code 16")
+    for one in belonging(talk):
+        put_journal(talk, [one])
+        talk(f"put 0 {joined(*one[6:]).hex()}")
+        talk("undo")
+        shown(talk, 0)
 
 
 def journals(talk):
     full(talk)
+    names(talk)
+    wrong_in_one(talk, ("edit 63 2 66 1 I-16", "undo", "edit 63 0 77 44 U7"))
+    tested(talk)
     row_edits(talk)
     runs(talk, 120, 300)
     refusals(talk, 20000)
@@ -489,9 +627,14 @@ def journals(talk):
 
 # ---- sheets
 
+EXAMPLE = (0, 2, "B1", 16, 70368744177712, 9223372036863164416, 70368744177712, 9223372105582641152)
+
+
 def small_sheets():
-    return (sheet([(0, 70368744177712, 9223372036863164416, 70368744177712, 9223372105582641152)]),
-            sheet([(4095, 0, 1, HUGE - 1, 10), (7, 1 << 63, 20, 300, 4000)]))
+    """Two of each kind of line."""
+    odd = [(4095, 0, "-", 0, 0, 1, HUGE - 1, 10), (7, 0, "-", 0, 1 << 63, 20, 300, 4000)]
+    negative = (12, 2, "I24", -(1 << 43) % HUGE, 0, 0, 0, 1 << 59)
+    return sheet([EXAMPLE]), sheet([odd[0], negative]), sheet([old_fields(EXAMPLE)]), sheet(list(map(old_fields, odd)))
 
 
 def load(talk, data):
@@ -503,53 +646,110 @@ def damaged(talk):
     random = talk.random
     for text in small_sheets():
         talk("journal 65")
+        load(talk, text)
+        assert talk.model.count < 65, "a small sheet is none"
         for at in range(len(text)):
             for byte in range(256):
                 load(talk, text[:at] + bytes([byte]) + text[at + 1:])
             load(talk, text[:at] + text[at + 1:])
-            for byte in b"\t\n0123 +-\r":
+            for byte in b"\t\n0123 +-\rA":
                 load(talk, text[:at] + bytes([byte]) + text[at:])
             load(talk, text[:at])
             talk("records")
     head = b"patches\t"
-    record = b"1\t2\t3\t4\t5\n"
-    for text in (b"", head, head + b"0", head + b"0\n", head + b"00\n", head + b"+0\n", head + b"0\n\n", head + b" 0\n", head + b"0\r\n",
-                 head + b"-\n", head + b"1\n", head + b"0\n" + record, head + b"1\n" + record, head + b"1\n" + record[:-1],
-                 head + b"2\n" + record, head + b"1\n" + record * 2, b"Patches\t0\n", b"patches 0\n", b"patches\t0\t\n", b"\n" + head + b"0\n",
-                 b"\xef\xbb\xbf" + head + b"0\n", head + b"\xd9\xa0\n"):
-        talk("journal 65")
-        load(talk, text)
-        talk("records")
-    for field in range(5):
-        for value in ("0", "00", "01", "+1", "-1", " 1", "1 ", "", "4095", "4096", "65536", str(HUGE - 1), str(HUGE), str(HUGE + 1), str(HUGE * 10), "9" * 30, "0" * 21, "1.0", "0x1", "1e3", "1\r"):
-            fields = ["1", "2", "3", "4", "5"]
-            fields[field] = value
-            load(talk, head + b"1\n" + "\t".join(fields).encode() + b"\n")
+    for record in (b"1\t0\t-\t0\t2\t3\t4\t5\n", b"1\t2\t3\t4\t5\n"):
+        for text in (b"", head, head + b"0", head + b"0\n", head + b"00\n", head + b"+0\n", head + b"0\n\n", head + b" 0\n", head + b"0\r\n",
+                     head + b"-\n", head + b"1\n", head + b"0\n" + record, head + b"1\n" + record, head + b"1\n" + record[:-1],
+                     head + b"2\n" + record, head + b"1\n" + record * 2, b"Patches\t0\n", b"patches 0\n", b"patches\t0\t\n",
+                     b"\n" + head + b"0\n", b"\xef\xbb\xbf" + head + b"0\n", head + b"\xd9\xa0\n"):
+            talk("journal 65")
+            load(talk, text)
             talk("records")
-    for count in (0, 1, 2, 63, 64, 65, 66, 100, 1024):
-        for said in (count - 1, count, count + 1, HUGE + count):
-            load(talk, head + str(said).encode() + b"\n" + record * count)
-            talk("records")
-    for size in (1, 100, 5706, 5707, 5708, 65536, 199990):
+        for field in range(record.count(b"\t") + 1):
+            for value in ("0", "00", "01", "+1", "-1", " 1", "1 ", "", "4095", "4096", "65536", str(HUGE - 1), str(HUGE), str(HUGE + 1), str(HUGE * 10),
+                          "9" * 30, "0" * 21, "1.0", "0x1", "1e3", "1\r", "-", "--", "A0", "A1", "M48", "m48", "M", "M048", f"A{HUGE}"):
+                fields = record.strip().split(b"\t")
+                fields[field] = value.encode()
+                load(talk, head + b"1\n" + b"\t".join(fields) + b"\n")
+                talk("records")
+        for count in (0, 1, 2, 63, 64, 65, 66, 100, 1024):
+            for said in (count - 1, count, count + 1, HUGE + count):
+                load(talk, head + str(said).encode() + b"\n" + record * count)
+                talk("records")
+    for size in (1, 100, 5706, 5707, 5708, 7434, 7435, 7436, 65536, 199990):
         load(talk, head + b"0\n" + b"\n" * size)
         load(talk, random.randbytes(size))
     talk("records")
 
 
+def mixed(talk):
+    """Sheets in which the two kinds of lines stand beside each other, every way up to four lines, and one among many; and lines that have
+    other numbers of fields."""
+    random = talk.random
+    news = [with_tag(random, random.choice(list(UNITS))) for _ in range(PLACES)]
+    records = [any_record(random, n, new) for n, new in enumerate(news)]
+    ways = [kinds for count in range(5) for kinds in itertools.product((False, True), repeat=count)]
+    for count, most in itertools.product((5, 63, 64), (False, True)):
+        ways += [[(i == odd) != most for i in range(count)] for odd in (0, 1, count // 2, count - 1, count)]
+    for kinds in ways:
+        load(talk, sheet([old_fields(one) if old else one for one, old in zip(records, kinds)]))
+        talk("records")
+    for fields in itertools.chain((EXAMPLE[:count] for count in range(8)), (EXAMPLE + more for more in ((0,), (0,) * 8))):
+        for lines in ([fields], [EXAMPLE, fields], [fields, EXAMPLE], [old_fields(EXAMPLE), fields]):
+            load(talk, sheet(lines))
+            talk("records")
+
+
+def whole_lines(talk):
+    """Lines of whole bundles: their halves are free, their slot and value 0."""
+    random = talk.random
+    for slot, value in itertools.product((0, 1, 2, 3, 256, 1 << 32, HUGE - 1), (0, 1, 16, 256, 1 << 32, 1 << 63, HUGE - 1)):
+        for old, new in ((0, 0), (0, 1), (random.getrandbits(128), random.getrandbits(128))):
+            one = random.randrange(4096), slot, "-", value, *halves(old), *halves(new)
+            load(talk, sheet([one]))
+            put_journal(talk, [one])
+            talk("sheet 130")
+
+
+def told(talk):
+    """Lines whose form, slot, value and halves belong together, or don't, alone and behind one that does; what is refused by 13 as a line
+    makes a journal that is refused by 11."""
+    for one in belonging(talk):
+        talk("journal 0")
+        load(talk, sheet([one]))
+        talk("records")
+        load(talk, sheet([EXAMPLE, one]))
+        put_journal(talk, [one])
+        answer = talk("sheet 200")
+        assert answer.startswith("sheet 11") == (talk.answers[-4] == "load 13"), "loading and validity aren't one test"
+
+
+LONGEST = 7435
+
+
+def longest(talk):
+    """The longest sheet of each kind: 64 lines of 116 bytes, and of 89."""
+    ones = (1 << 128) - 32 | 8
+    one = field_record(talk.random, 4095, ones, "M20", 0)
+    put_journal(talk, [one] * PLACES)
+    assert len(sheet([one] * PLACES)) == LONGEST
+    for length in (LONGEST - 1, LONGEST, LONGEST + 1, 130000, 130001, 0):
+        talk(f"sheet {length}")
+    talk("records")
+    for lines in ([one] * PLACES, [old_fields(one)] * PLACES):
+        talk("journal 0")
+        load(talk, sheet(lines))
+        talk("records")
+
+
 def written(talk):
     """Sheets of journals of every kind into outputs of every length about their own, and loaded again."""
     random = talk.random
-    talk("journal 64")
-    for i in range(PLACES):
-        talk(f"place {i} 4095 {' '.join([str(HUGE - 1)] * 4)}")
-    for length in (5706, 5707, 5708, 130000, 130001, 0):
-        talk(f"sheet {length}")
-    talk("records")
     for _ in range(1500):
         talk.random_code()
         any_journal(talk)
         text = sheet(talk.model.places[:min(PLACES, talk.model.count)])
-        for length in {0, len(text) - 1, len(text), len(text) + 1, random.randrange(6000)}:
+        for length in {0, len(text) - 1, len(text), len(text) + 1, random.randrange(8000)}:
             talk(f"sheet {length}")
         if random.random() < 0.5:
             any_journal(talk)
@@ -558,9 +758,9 @@ def written(talk):
 
 
 def sheets_in_runs(talk):
-    """Demand 3 with the sheet written and loaded between the calls of a run."""
+    """Demand 3 with the sheet written and loaded between the calls of a run; now and then it is an old tool's sheet of the same records."""
     random = talk.random
-    for _ in range(40):
+    for _ in range(60):
         talk.fill(160)
         busy = list(range(10))
         for n in busy:
@@ -568,18 +768,29 @@ def sheets_in_runs(talk):
         talk("journal 0")
         standing = Standing(talk.model.code)
         for _ in range(60):
-            if random.random() < 0.2:
-                text = talk("sheet 6000").split(" ")[3]
+            kind = random.random()
+            if kind < 0.2:
+                text = talk(f"sheet {LONGEST}").split(" ")[3]
                 talk(f"load {text}")
+                shown(talk)
+            elif kind < 0.22:
+                load(talk, sheet(list(map(old_fields, talk.model.places[:talk.model.count]))))
+                standing.whole = len(standing.edits)
                 shown(talk)
             step(talk, standing, busy, 0.3)
         while standing.edits:
             undo(talk, standing)
+        assert talk.model.code == standing.first, "undoing all edits doesn't give the first code"
 
 
 def sheets(talk):
+    longest(talk)
     written(talk)
     damaged(talk)
+    mixed(talk)
+    whole_lines(talk)
+    told(talk)
+    wrong_in_one(talk, (f"sheet {LONGEST}", "undo", f"sheet {LONGEST}"))
     sheets_in_runs(talk)
 
 

@@ -3,6 +3,7 @@
 Written from the two papers and not from the Rattle; forms, units, stops and rows are those of ../table. A `Model` answers line by line, as the
 program does.
 """
+import functools
 import inspect
 import pathlib
 import re
@@ -27,6 +28,13 @@ class Row:
         if chosen:
             assert len(chosen) == 1 << self.width
             self.low, self.high = min(chosen), max(chosen)
+
+    def kind(self):
+        return "I" if self.signed else "U"
+
+    def of_pattern(self, pattern):
+        """The number of the row's kind with that 64-bit pattern."""
+        return pattern - HUGE if self.signed and pattern >> 63 else pattern
 
     def value(self, number):
         """What a number of the row's width means."""
@@ -125,30 +133,85 @@ def operand(text):
     return (found["kind"], int(found["register"])) if int(found["register"]) < 256 else None
 
 
+# ---- records: bundle, slot, form (as in `M48`, or `-` for a whole bundle), value's pattern, old low, old high, new low, new high
+
+FREE = (0, 0, "-", 0, 0, 0, 0, 0)
+
+
+def joined(low, high):
+    return low.to_bytes(8, "little") + high.to_bytes(8, "little")
+
+
+def taken(bundle, slot, letter, row, value):
+    """Whether an edit of that bundle, by a form with that family's letter and row, is taken with a number of the row's kind."""
+    return bool(bundle.units and row and slot <= 2 and bundle.units[slot] in FITTING[letter] and row.takes(value))
+
+
+@functools.lru_cache(1 << 16)
+def passes(slot, form, value, old_low, old_high, new_low, new_high):
+    """Whether a record is a whole bundle's, or an edit of its old bundle by slot, form and value gives its new one."""
+    if form == "-":
+        return slot == 0 and value == 0
+    row, bundle = ROWS.get(form), Bundle(joined(old_low, old_high))
+    value = row and row.of_pattern(value)
+    return taken(bundle, slot, form[0], row, value) and bundle.with_value(slot, row, value) == joined(new_low, new_high)
+
+
+def may_stand(one):
+    return one[0] <= 4095 and passes(*one[1:])
+
+
 # ---- sheets
 
-DECIMAL = rb"(0|[1-9][0-9]*)"
-HEAD, RECORD = re.compile(rb"patches\t" + DECIMAL), re.compile(rb"\t".join([DECIMAL] * 5))
+DECIMAL = rb"(0|[1-9][0-9]{0,19})"
+HEAD = re.compile(rb"patches\t" + DECIMAL)
+LINE = re.compile(rb"\t".join([DECIMAL, DECIMAL, rb"(-|[A-Z](?:0|[1-9][0-9]{0,19}))", *[DECIMAL] * 5]))
+OLD_LINE = re.compile(rb"\t".join([DECIMAL] * 5))
 
 
-def sheet(records):
-    lines = [f"patches\t{len(records)}"] + ["\t".join(map(str, one)) for one in records]
-    return "".join(line + "\n" for line in lines).encode()
+def sheet(lines):
+    """A text with those fields in its lines; a record's are the record."""
+    return "".join("\t".join(map(str, fields)) + "\n" for fields in [("patches", len(lines)), *lines]).encode()
+
+
+def old_fields(one):
+    """A record's line as it was when a record was a bundle's number and its halves."""
+    return one[0], *one[4:]
+
+
+def full(line):
+    """The record of a line of eight fields, or nothing."""
+    found = LINE.fullmatch(line)
+    if not found:
+        return None
+    bundle, slot, form, *rest = found.groups()
+    return int(bundle), int(slot), form.decode(), *map(int, rest)
+
+
+def old(line):
+    """The record of a line of five fields, or nothing."""
+    found = OLD_LINE.fullmatch(line)
+    if not found:
+        return None
+    bundle, *halves = map(int, found.groups())
+    return bundle, 0, "-", 0, *halves
+
+
+def stands(one):
+    return bool(one) and max(one[:2] + one[3:]) < HUGE and may_stand(one)
 
 
 def loaded(text):
-    """The records of a sheet, or nothing where the text is none."""
+    """The records of a sheet, all of its lines of one kind, or nothing where the text is none."""
     lines = text.split(b"\n")
     head = HEAD.fullmatch(lines[0])
     if lines[-1] or not head or int(head[1]) > PLACES or int(head[1]) != len(lines) - 2:
         return None
-    records = [RECORD.fullmatch(line) for line in lines[1:-1]]
-    if not all(records):
-        return None
-    records = [tuple(map(int, one.groups())) for one in records]
-    if any(one[0] > 4095 or max(one) >= HUGE for one in records):
-        return None
-    return records
+    for kind in (full, old):
+        records = [kind(line) for line in lines[1:-1]]
+        if all(map(stands, records)):
+            return records
+    return None
 
 
 # ---- the lines
@@ -177,6 +240,16 @@ def data(field):
     return b"" if field == b"-" else bytes.fromhex(field.decode())
 
 
+FORM = re.compile(rb"-|[A-Z](?P<number>0|[1-9][0-9]{0,19})")
+
+
+def form(field):
+    found = FORM.fullmatch(field)
+    if not found or int(found["number"] or 0) >= HUGE:
+        raise Unread
+    return field.decode()
+
+
 def text(given):
     return given.hex() or "-"
 
@@ -198,7 +271,7 @@ class Model:
     def __init__(self):
         self.code, self.hash = bytearray(), 0
         self.report = [0] * NUMBERS
-        self.count, self.places, self.shown = 0, [(0,) * 5] * PLACES, {}
+        self.count, self.places, self.shown = 0, [FREE] * PLACES, {}
         self.reasons = []
 
     def answer(self, line):
@@ -313,7 +386,7 @@ class Model:
         answer = self.refused(reasons)
         if answer:
             return f"immediate {answer} None"
-        return f"immediate 0 {'I' if row.signed else 'U'}{row.read([bundle.words[slot], bundle.words[1]])}"
+        return f"immediate 0 {row.kind()}{row.read([bundle.words[slot], bundle.words[1]])}"
 
     def on_target(self, n, slot, family, form, address):
         n, slot, family, form, address = map(number, (n, slot, family, form, address))
@@ -329,22 +402,23 @@ class Model:
 
     def valid(self):
         standing, rest = self.places[:self.count], self.places[self.count:]
-        return self.count <= PLACES and all(one[0] <= 4095 for one in standing) and not any(map(any, rest))
+        return self.count <= PLACES and all(map(may_stand, standing)) and rest.count(FREE) == len(rest)
 
     def place(self, i, one):
         self.places[i] = one
-        self.shown[i] = f" {i}:" + ":".join(map(str, one)) if any(one) else ""
+        self.shown[i] = f" {i}:" + ":".join(map(str, one)) if one != FREE else ""
 
     def halves(self, n):
         given = self.code[16 * n:16 * n + 16]
         return int.from_bytes(given[:8], "little"), int.from_bytes(given[8:], "little")
 
     def on_journal(self, count):
-        self.count, self.places, self.shown = number(count), [(0,) * 5] * PLACES, {}
+        self.count, self.places, self.shown = number(count), [FREE] * PLACES, {}
         return "ok"
 
-    def on_place(self, i, bundle, old_low, old_high, new_low, new_high):
-        i, one = number(i), tuple(map(number, (bundle, old_low, old_high, new_low, new_high)))
+    def on_place(self, i, bundle, slot, name, value, old_low, old_high, new_low, new_high):
+        halves = map(number, (old_low, old_high, new_low, new_high))
+        i, one = number(i), (number(bundle), number(slot), form(name), number(value), *halves)
         if i >= PLACES:
             raise Unread
         self.place(i, one)
@@ -361,26 +435,26 @@ class Model:
         kind, value = value
         row = row_of(family, form)
         reasons, bundle = self.of_slot(n, slot, family, form, row)
-        wrong = kind not in "IU" or bool(row and (kind != ("I" if row.signed else "U") or not row.takes(value)))
+        wrong = kind not in "IU" or bool(row and (kind != row.kind() or not row.takes(value)))
         answer = self.refused(reasons + [(6, wrong), (11, not self.valid()), (7, self.count == PLACES)])
         if not answer:
             old = self.halves(n)
             self.write(16 * n, bundle.with_value(slot, row, value))
-            self.place(self.count, (n, *old, *self.halves(n)))
+            self.place(self.count, (n, slot, f"{chr(family)}{form}", value % HUGE, *old, *self.halves(n)))
             self.count += 1
         return f"edit {answer}"
 
     def on_undo(self):
-        n, *halves = self.places[self.count - 1] if 0 < self.count <= PLACES else (None,) * 5
-        inside = n is not None and 16 * n + 16 <= len(self.code)
-        stale = inside and list(self.halves(n)) != halves[2:]
+        last = self.places[self.count - 1] if 0 < self.count <= PLACES else None
+        n = last and last[0]
+        inside = last and 16 * n + 16 <= len(self.code)
         answer = self.refused([
             (10, len(self.code) > MOST), (11, not self.valid()), (8, self.count == 0),
-            (1, n is not None and not inside), (9, stale)])
+            (1, last and not inside), (9, inside and self.halves(n) != last[6:])])
         if not answer:
             self.count -= 1
-            self.write(16 * n, halves[0].to_bytes(8, "little") + halves[1].to_bytes(8, "little"))
-            self.place(self.count, (0,) * 5)
+            self.write(16 * n, joined(*last[4:6]))
+            self.place(self.count, FREE)
         return f"undo {answer}"
 
     # sheets

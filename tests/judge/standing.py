@@ -2,30 +2,31 @@
 
 After every call the code is the first code with the standing edits made in order.
 """
-from model import MOST, PLACES, bundle_at, fits, is_form, row_of
+from model import HUGE, MOST, PLACES, ROWS, bundle_at, row_of, taken
 
 
 def made(data, edit):
     """Sixteen bytes with an edit made."""
-    _, slot, row, value = edit
-    return bundle_at(data, 0).with_value(slot, row, value)
+    _, slot, form, value = edit
+    return bundle_at(data, 0).with_value(slot, ROWS[form], value)
 
 
 class Standing:
+    """The edits that stand. Of the first `whole` of them an old sheet was loaded, which doesn't tell them."""
+
     def __init__(self, code):
-        self.first, self.code, self.edits = bytes(code), bytearray(code), []
+        self.first, self.code, self.edits, self.whole = bytes(code), bytearray(code), [], 0
 
     def acceptable(self, n, slot, family, form, kind, value):
         """Whether the code as it stands takes the edit."""
         bundle, row = bundle_at(self.code, n), row_of(family, form)
         return bool(
-            len(self.code) <= MOST and bundle and bundle.units and row and slot <= 2 and is_form(family, form)
-            and fits(family, bundle.units, slot) and kind == ("I" if row.signed else "U") and row.takes(value))
+            len(self.code) <= MOST and bundle and row and kind == row.kind() and taken(bundle, slot, chr(family), row, value))
 
     def edit(self, n, slot, family, form, kind, value):
         if not self.acceptable(n, slot, family, form, kind, value) or len(self.edits) == PLACES:
             return False
-        self.edits.append((n, slot, row_of(family, form), value))
+        self.edits.append((n, slot, f"{chr(family)}{form}", value))
         self.remake(n)
         return True
 
@@ -33,7 +34,13 @@ class Standing:
         if not self.edits:
             return False
         self.remake(self.edits.pop()[0])
+        self.whole = min(self.whole, len(self.edits))
         return True
+
+    def told(self):
+        """What the records tell: bundle, slot, form and value's pattern of each edit."""
+        whole = [(n, 0, "-", 0) for n, _, _, _ in self.edits[:self.whole]]
+        return whole + [(n, slot, form, value % HUGE) for n, slot, form, value in self.edits[self.whole:]]
 
     def remake(self, n):
         data = self.first[16 * n:16 * n + 16]

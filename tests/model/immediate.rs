@@ -54,6 +54,11 @@ impl Row {
         whole
     }
 
+    /// The value of the row's kind with that pattern.
+    fn of_pattern(&self, pattern: u64) -> Value {
+        if self.signed { Value::Signed(pattern as i64) } else { Value::Unsigned(pattern) }
+    }
+
     /// A number as a value of the row's kind.
     fn of_kind(&self, n: i64) -> Value {
         if self.signed { Value::Signed(n) } else { Value::Unsigned(n as u64) }
@@ -90,16 +95,22 @@ impl Row {
 }
 
 impl Model {
-    /// The bundle, the row and the slot, or the refusal.
-    fn open<'a>(&self, code: &[u8], bundle: u64, slot: u64, family: u64, row: Option<&'a Row>) -> Result<(u128, &'a Row, u32), u8> {
-        let whole = find(code, bundle)?;
+    /// The row and the slot in a bundle, or the refusal.
+    fn within<'a>(&self, whole: u128, slot: u64, family: u64, row: Option<&'a Row>) -> Result<(&'a Row, u32), u8> {
         let units = self.units(whole).ok_or(2)?;
         let row = row.ok_or(3)?;
         let unit = units.get(slot as usize).ok_or(5)?;
         if !self.fitting[family as usize].contains(unit) {
             return Err(5);
         }
-        Ok((whole, row, slot as u32))
+        Ok((row, slot as u32))
+    }
+
+    /// The bundle, the row and the slot, or the refusal.
+    fn open<'a>(&self, code: &[u8], bundle: u64, slot: u64, family: u64, row: Option<&'a Row>) -> Result<(u128, &'a Row, u32), u8> {
+        let whole = find(code, bundle)?;
+        let (row, slot) = self.within(whole, slot, family, row)?;
+        Ok((whole, row, slot))
     }
 
     pub fn immediate(&self, code: &[u8], bundle: u64, slot: u64, family: u64, number: u64) -> (u8, Value) {
@@ -123,5 +134,12 @@ impl Model {
         let (old, row, slot) = self.open(code, bundle, slot, family, self.row(family, number))?;
         let raw = row.raw(value).ok_or(6)?;
         Ok((old, row.scatter(old, slot, raw)))
+    }
+
+    /// A bundle with the value of that pattern in it, or the refusal.
+    pub fn changed(&self, old: u128, slot: u64, family: u64, number: u64, pattern: u64) -> Result<u128, u8> {
+        let (row, slot) = self.within(old, slot, family, self.row(family, number))?;
+        let raw = row.raw(row.of_pattern(pattern)).ok_or(6)?;
+        Ok(row.scatter(old, slot, raw))
     }
 }

@@ -33,7 +33,7 @@ fn mask(width: u32) -> u64 {
     u64::MAX >> (64 - width)
 }
 
-fn load(code: &[u8], bundle: usize) -> u128 {
+pub fn load(code: &[u8], bundle: usize) -> u128 {
     u128::from_le_bytes(code[16 * bundle..16 * bundle + 16].try_into().unwrap())
 }
 

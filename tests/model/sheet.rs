@@ -2,20 +2,41 @@
 
 use super::journal::{Journal, Record};
 use super::text::Text;
+use super::Model;
 
-const LONGEST: usize = 5707;
+pub const LONGEST: usize = 7435;
 
-pub fn write(journal: Journal, out: &mut [u8]) -> (u8, usize) {
-    if !journal.valid() {
-        return (11, 0);
+impl Model {
+    pub fn write_sheet(&self, journal: Journal, out: &mut [u8]) -> (u8, usize) {
+        if !self.valid(&journal) {
+            return (11, 0);
+        }
+        if out.len() < LONGEST {
+            let length = put(&journal, &mut []);
+            if out.len() < length {
+                return (12, 0);
+            }
+        }
+        (0, put(&journal, out))
     }
-    if out.len() < LONGEST {
-        let length = put(&journal, &mut []);
-        if out.len() < length {
-            return (12, 0);
+
+    pub fn load_sheet(&self, journal: Journal, text: &[u8]) -> (u8, Journal) {
+        match self.loaded(text, full).or_else(|| self.loaded(text, old)) {
+            Some(loaded) => (0, loaded),
+            None => (13, journal),
         }
     }
-    (0, put(&journal, out))
+
+    /// The journal of a sheet whose lines are all of one kind.
+    fn loaded(&self, mut text: &[u8], line: impl Fn(&mut &[u8]) -> Option<Record>) -> Option<Journal> {
+        text = text.strip_prefix(b"patches\t")?;
+        let mut journal = Journal::empty();
+        journal.count = number(&mut text, b'\n').filter(|count| *count <= 64)?;
+        for place in &mut journal.records[..journal.count as usize] {
+            *place = line(&mut text).filter(|one| self.may_stand(one))?;
+        }
+        text.is_empty().then_some(journal)
+    }
 }
 
 fn put(journal: &Journal, out: &mut [u8]) -> usize {
@@ -24,6 +45,14 @@ fn put(journal: &Journal, out: &mut [u8]) -> usize {
     text.field(journal.count, b'\n');
     for place in &journal.records[..journal.count as usize] {
         text.field(place.bundle, b'\t');
+        text.field(place.slot, b'\t');
+        if place.family == 0 {
+            text.put(b"-\t");
+        } else {
+            text.put(&[place.family as u8]);
+            text.field(place.number, b'\t');
+        }
+        text.field(place.value, b'\t');
         text.field(place.old as u64, b'\t');
         text.field((place.old >> 64) as u64, b'\t');
         text.field(place.new as u64, b'\t');
@@ -53,20 +82,26 @@ fn whole(text: &mut &[u8], end: u8) -> Option<u128> {
     Some(low as u128 | (number(text, end)? as u128) << 64)
 }
 
-fn loaded(mut text: &[u8]) -> Option<Journal> {
-    text = text.strip_prefix(b"patches\t")?;
-    let mut journal = Journal::empty();
-    journal.count = number(&mut text, b'\n').filter(|count| *count <= 64)?;
-    for place in &mut journal.records[..journal.count as usize] {
-        let bundle = number(&mut text, b'\t').filter(|bundle| *bundle <= 4095)?;
-        *place = Record { bundle, old: whole(&mut text, b'\t')?, new: whole(&mut text, b'\n')? };
+/// A form's family and number; zeros for `-`.
+fn form(text: &mut &[u8]) -> Option<(u64, u64)> {
+    if let Some(rest) = text.strip_prefix(b"-\t") {
+        *text = rest;
+        return Some((0, 0));
     }
-    text.is_empty().then_some(journal)
+    let family = text.first().filter(|byte| byte.is_ascii_uppercase())?;
+    *text = &text[1..];
+    Some((*family as u64, number(text, b'\t')?))
 }
 
-pub fn load(journal: Journal, text: &[u8]) -> (u8, Journal) {
-    match loaded(text) {
-        Some(loaded) => (0, loaded),
-        None => (13, journal),
-    }
+/// A line of eight fields.
+fn full(text: &mut &[u8]) -> Option<Record> {
+    let (bundle, slot) = (number(text, b'\t')?, number(text, b'\t')?);
+    let (family, number_of) = form(text)?;
+    let value = number(text, b'\t')?;
+    Some(Record { bundle, slot, family, number: number_of, value, old: whole(text, b'\t')?, new: whole(text, b'\n')? })
+}
+
+/// A line of five fields, as sheets had them before records told of edits.
+fn old(text: &mut &[u8]) -> Option<Record> {
+    Some(Record::whole(number(text, b'\t')?, whole(text, b'\t')?, whole(text, b'\n')?))
 }

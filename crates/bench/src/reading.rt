@@ -1,7 +1,8 @@
-// Calls that read: `cut`, `operands`, `immediate`, the listing and the report.
+// Calls that read: `cut`, `operands`, `immediate`, a record's test, the listing and the report.
 use crate::sum;
 use crate::sum::plus;
 use form::Form;
+use record::Record;
 use tally::Added;
 use tally::NUMBERS;
 
@@ -47,6 +48,39 @@ pub extern "C" fn bench_immediate(code: &[u8], slot: u64, family: u64, number: u
         let read = immediate::immediate(code, n as u64, slot, form);
         let value = read.value;
         sum = plus(sum, sum::of_operand(value));
+        n += 1;
+    }
+    sum
+}
+
+// How many records may stand, of edits that set a form in a slot of every bundle to a value and gave another code.
+#[no_mangle]
+pub extern "C" fn bench_record(
+    code: &[u8],
+    other: &[u8],
+    slot: u64,
+    family: u64,
+    number: u64,
+    values: &[u64],
+) -> u64 {
+    let form = Form { family, number };
+    let count = code.len() / 16;
+    let mut sum = 0;
+    let mut n = 0;
+    while n < count {
+        let before = bundle::load(code, n as u64);
+        let after = bundle::load(other, n as u64);
+        let old = before.halves;
+        let new = after.halves;
+        let one = Record {
+            bundle: n as u64,
+            slot,
+            form,
+            value: sum::at(values, n),
+            old,
+            new,
+        };
+        sum = plus(sum, record::may_stand(one) as u64);
         n += 1;
     }
     sum

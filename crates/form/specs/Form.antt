@@ -43,6 +43,10 @@ m n = record { family = M; number = n }
 abbrev pub x : ℕ → Form
 x n = record { family = X; number = n }
 
+-- no form
+abbrev pub noForm : Form
+noForm = record { family = 0; number = 0 }
+
 -- the same form
 abbrev pub same : Form → Form → Bool
 same f g = eqb (f .family) (g .family) && eqb (f .number) (g .number)

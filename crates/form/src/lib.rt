@@ -21,6 +21,12 @@ pub struct Form {
     pub number: u64,
 }
 
+// No form: what a record of a whole bundle has.
+pub const NO_FORM: Form = Form {
+    family: 0,
+    number: 0,
+};
+
 pub struct Edit {
     pub bundle: u64,
     pub slot: u64,

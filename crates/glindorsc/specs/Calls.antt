@@ -5,9 +5,7 @@ use mathlib.Core.List.{List, _∷_, _++_, map}
 use Rattle.bundle.specs.Bundle.{cutOf}
 use Rattle.bundle.specs.declared.Bundle.{Bundle}
 use Rattle.form.specs.declared.Form.{Form}
-use Rattle.operand.specs.Kind.{ofI64, ofU64}
-use Rattle.operand.specs.Pattern.{patternOf}
-use Rattle.operand.specs.declared.Operand.{Operand}
+use Rattle.operand.specs.Pattern.{patternIn}
 use Rattle.immediate.specs.Immediate.{immediateOf, targetOf}
 
 -- an answer, and what the output then holds
@@ -27,10 +25,6 @@ cutCall code k = record { answer = cutOf code k .answer; out = numbersOf (cutOf 
 pub record Answered : Type 0 where
   pub answer : ℕ
   pub number : ℕ
-
--- the 64-bit pattern of an immediate, and 0 of any other operand
-abbrev pub patternIn : Operand → ℕ
-patternIn o = ofI64 o patternOf (ofU64 o (λ v. v) 0)
 
 unfoldable pub immediateCall : List ℕ → ℕ → ℕ → Form → Answered
 immediateCall code k slot form =

@@ -1,9 +1,8 @@
 // The calls for programs in C and Rust: cut, immediate and target, on numbers and byte slices.
 ghost use mathlib.Core.Path.{_≡_};
-ghost use Rattle.glindorsc.specs.Calls.{Answered, Filled, numbersOf, patternIn, cutCall, immediateCall, targetCall};
+ghost use Rattle.glindorsc.specs.Calls.{Answered, Filled, numbersOf, cutCall, immediateCall, targetCall};
 use bundle::Bundle;
 use form::Form;
-use operand::Operand;
 
 // Cuts a bundle. The output becomes the tag, the three units, the three slots and, for each slot, 1 where a stop follows.
 #[no_mangle]
@@ -49,19 +48,8 @@ pub extern "C" fn glindorsc_immediate(
 {
     let read = immediate::immediate(code, bundle, slot, Form { family, number });
     let operand = read.value;
-    *value = pattern_in(operand);
+    *value = operand::pattern_in(operand);
     read.answer
-}
-
-// The 64-bit pattern of an immediate, and 0 of any other operand.
-fn pattern_in(value: Operand) -> u64
-    ensures { λ r. ⌜ r ≡ patternIn value ⌝ }
-{
-    match value {
-        Operand::ImmI64(v) => operand::pattern(v),
-        Operand::ImmU64(v) => v,
-        _ => 0,
-    }
 }
 
 // The target of a form in a slot of the bundle at an address.

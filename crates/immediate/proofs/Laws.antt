@@ -77,7 +77,7 @@ module _ (n : ℕ) (e : Edit) (taken : first (changeRefusals n e) ≡ accepted) 
   pub change-sound : Sound (e .slot) (rowOf (e .form))
   change-sound = read-sound n (e .slot) (e .form) (rowOf (e .form)) (row-good (e .form)) change-read
 
-  change-raw : rawFor (rowOf (e .form)) (e .value) ≡ Is (rawFor (rowOf (e .form)) (e .value) .raw)
+  pub change-raw : rawFor (rowOf (e .form)) (e .value) ≡ Is (rawFor (rowOf (e .form)) (e .value) .raw)
   change-raw =
       let answer = eqb-true (rawFor (rowOf (e .form)) (e .value) .answer) accepted (not-false _ (none-applies (changeRefusals n e) tt taken .1 .1 .1 .0)) in
       λ i. record { answer = answer i; raw = rawFor (rowOf (e .form)) (e .value) .raw }

@@ -19,7 +19,7 @@ use Rattle.form.specs.declared.Edit.{Edit}
 use Rattle.immediate.specs.Immediate.{changeRefusals, changedNumber}
 use Rattle.immediate.proofs.Laws.{changed-lt}
 use Rattle.journal.specs.Edit.{Outcome, codeRefusals, rewritten, made, recordOf, roomRefusals, editRefusals, editOf, undoRefusals, undoOf}
-use Rattle.journal.specs.Journal.{limit, standing, journalOf, viewOf, withRecord}
+use Rattle.journal.specs.Journal.{standing, journalOf, viewOf, withRecord}
 use Rattle.journal.specs.Plan.{refusedPlan, editPlanOf, undoPlanOf, carriedOut}
 use Rattle.journal.specs.declared.plan.Plan.{Plan}
 use Rattle.journal.specs.declared.records.Journal.{Journal}
@@ -83,25 +83,25 @@ module _ (code : List ℕ) (e : Edit) (taken : first (codeRefusals code e) ≡ a
   taken-lt b = changed-lt (numberAt code (e .bundle)) e taken-changes (number-at-lt code (e .bundle) taken-found b)
 
 -- an edit's plan carried out is the edit
-module _ (code : List ℕ) (e : Edit) where
-  pub edit-found : (view : View) → editPlanOf code view e .answer ≡ accepted → findAnswer code (editPlanOf code view e .bundle) ≡ accepted
+module _ (places : ℕ) (code : List ℕ) (e : Edit) where
+  pub edit-found : (view : View) → editPlanOf places code view e .answer ≡ accepted → findAnswer code (editPlanOf places code view e .bundle) ≡ accepted
   unfolding editPlanOf
   edit-found view =
-      decided-found code _ (first (editRefusals code view e)) (λ a. taken-found code e (parts-accept (codeRefusals code e) (roomRefusals view) tt a .0))
+      decided-found code _ (first (editRefusals places code view e)) (λ a. taken-found code e (parts-accept (codeRefusals code e) (roomRefusals places view) tt a .0))
 
-  pub edit-carried : Bytes code → (j : Journal) → carriedOut code j (editPlanOf code (viewOf j) e) ≡ editOf code j e
+  pub edit-carried : Bytes code → (j : Journal) → carriedOut code j (editPlanOf places code (viewOf places j) e) ≡ editOf places code j e
   unfolding editPlanOf editOf made
   edit-carried b j =
-      decided-carried code _ (first (editRefusals code (viewOf j) e)) j _ _ refl
+      decided-carried code _ (first (editRefusals places code (viewOf places j) e)) j _ _ refl
       (λ a.
-      let p = parts-accept (codeRefusals code e) (roomRefusals (viewOf j)) tt a in
-      let n = none-applies (roomRefusals (viewOf j)) tt (p .1) in (
-        view-pushes j (not-false _ (n .0)) (recordOf code e) (leb-false limit (viewOf j .count) (n .1 .0)),
+      let p = parts-accept (codeRefusals code e) (roomRefusals places (viewOf places j)) tt a in
+      let n = none-applies (roomRefusals places (viewOf places j)) tt (p .1) in (
+        view-pushes places j (not-false _ (n .0)) (recordOf code e) (leb-false places (viewOf places j .count) (n .1 .0)),
         ap (rewritten code (e .bundle)) (whole-halves _ (taken-lt code e (p .0) b)),
       ))
 
 -- an undo's plan carried out is the undo
-module _ (code : List ℕ) where
+module _ (places : ℕ) (code : List ℕ) where
   pub undo-found : (view : View) → undoPlanOf code view .answer ≡ accepted → findAnswer code (undoPlanOf code view .bundle) ≡ accepted
   unfolding undoPlanOf
   undo-found view =
@@ -110,8 +110,8 @@ module _ (code : List ℕ) where
       let n = none-applies (undoRefusals code view) tt e in
       found-when code (view .last .bundle) (record { short = ltb-false _ _ (n .0); within = ltb-false _ _ (n .1 .1 .1 .0) }))
 
-  pub undo-carried : (j : Journal) → carriedOut code j (undoPlanOf code (viewOf j)) ≡ undoOf code j
+  pub undo-carried : (j : Journal) → carriedOut code j (undoPlanOf code (viewOf places j)) ≡ undoOf places code j
   unfolding undoPlanOf undoOf
   undo-carried j =
-      decided-carried code _ (first (undoRefusals code (viewOf j))) j _ _ refl
-      (λ e. (view-pops j (not-false _ (none-applies (undoRefusals code (viewOf j)) tt e .1 .0)), refl))
+      decided-carried code _ (first (undoRefusals code (viewOf places j))) j _ _ refl
+      (λ e. (view-pops places j (not-false _ (none-applies (undoRefusals code (viewOf places j)) tt e .1 .0)), refl))

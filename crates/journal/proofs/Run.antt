@@ -7,7 +7,7 @@ use Prim.Native.Nat.{ℕ, zero, suc, _+_, _*_, _≤_, _<_, _^_, zero-le}
 use native.Mathlib.Decide.{ℕ-discrete}
 use native.Mathlib.Numerals.{add-one}
 use native.Mathlib.Omega.{arith}
-use borrow.Author.Tests.{le-ltb, le-leb, leb-false, eq-eqb, eqb-true, eqb-false}
+use borrow.Author.Tests.{le-ltb, le-leb, leb-false, eqb-true, eqb-false}
 use lib.Dec.{leb, eqb, eqb·suc-zero}
 use lib.ListN.{length, take, drop, length-append}
 use lib.Seq.{drop-drop, drop-length}
@@ -15,19 +15,20 @@ use Rattle.answer.specs.Answer.{Refusal, accepted, full, empty, first, outcome}
 use Rattle.answer.proofs.Laws.{none-applies, accepts, refuses}
 use Rattle.bits.specs.Part.{bit}
 use Rattle.bundle.specs.Bundle.{longestCode, numberAt, halvesOf, whole}
-use Rattle.bundle.specs.declared.half.Halves.{Halves}
 use Rattle.bundle.proofs.Bytes.{Bytes}
 use Rattle.bundle.proofs.Halves.{whole-halves}
 use Rattle.bundle.proofs.Laws.{number-at-lt}
 use Rattle.bundle.proofs.Lies.{Lies, lies, found-when}
 use Rattle.form.specs.declared.Edit.{Edit}
 use Rattle.row.specs.Row.{rowOf}
-use Rattle.immediate.specs.Immediate.{valueIn, changedNumber}
+use Rattle.immediate.specs.Immediate.{valueIn, changeRefusals, changedNumber}
 use Rattle.immediate.proofs.Laws.{changed-value, changed-bit}
-use Rattle.journal.specs.Journal.{limit, highest, noRecord, mayStand, all, standing, journalOf, validOf, viewOf}
-use Rattle.journal.specs.Edit.{Outcome, codeRefusals, rewritten, made, sameHalves, roomRefusals, editOf, undoRefusals, undoOf, recordOf}
+use Rattle.record.specs.Record.{highest, noRecord, sameHalves, editRecord, mayStand}
+use Rattle.record.specs.declared.Record.{Record}
+use Rattle.record.proofs.Laws.{same-halves, edit-passes}
+use Rattle.journal.specs.Journal.{all, standing, journalOf, validOf, viewOf}
+use Rattle.journal.specs.Edit.{Outcome, codeRefusals, rewritten, made, roomRefusals, editOf, undoRefusals, undoOf, recordOf}
 use Rattle.journal.specs.Demand3.{Call, edit, undo, step, run, madeAll, answerTo, taken, after, standingEdits, recordsOf, expected, SetsOnlyItsBits, thenUndo, Holds, Demand3}
-use Rattle.journal.specs.declared.records.Record.{Record}
 use Rattle.journal.specs.declared.records.Journal.{Journal}
 use Rattle.journal.proofs.Laws.{taken-found, taken-changes, taken-lt, parts-accept, first-past}
 use Rattle.journal.proofs.Rewritten.{rewritten-before, rewritten-past, rewritten-number, rewritten-length, rewritten-twice, rewritten-bytes, rewritten-own}
@@ -46,8 +47,8 @@ module _ (code : List ℕ) (e : Edit) (fits : Fits code e) where
   in-code : Lies code (e .bundle)
   in-code = lies code (e .bundle) (taken-found code e fits)
 
-  low : leb (e .bundle) highest ≡ true
-  low = le-leb (e .bundle) highest (omega (arith, in-code .short, in-code .within))
+  low : e .bundle ≤ highest
+  low = omega (arith, in-code .short, in-code .within)
 
   made-length : length (made code e) ≡ length code
   unfolding made
@@ -85,46 +86,55 @@ module _ (code : List ℕ) (e : Edit) (fits : Fits code e) where
           past = rewritten-past code (e .bundle) in-code (newNumber code e);
         }
 
+-- what holds of the record of every edit that a bundle takes
+abbrev pub OfEdits : (Record → Bool) → Type 0
+OfEdits test = (n : ℕ) (e : Edit) → n < 2 ^ 128 → e .bundle ≤ highest → first (changeRefusals n e) ≡ accepted → test (editRecord n e) ≡ true
+
+edits-stand : OfEdits mayStand
+edits-stand n e h low taken = ap₂ (λ (t u : Bool). t && u) (le-leb (e .bundle) highest low) (edit-passes n e taken h)
+
 -- the code takes each of the edits after those before it, and there is room for each
-abbrev Stands : List ℕ → List Edit → Type 0
-Stands code [] = Unit {0}
-Stands code (e ∷ es) = Fits (madeAll code es) e × (length es < limit) × Stands code es
+abbrev Stands : ℕ → List ℕ → List Edit → Type 0
+Stands places code [] = Unit {0}
+Stands places code (e ∷ es) = Fits (madeAll code es) e × (length es < places) × Stands places code es
 
 -- calls with a valid journal of some records
-module _ (code : List ℕ) (rs : List Record) (valid : validOf (journalOf rs) ≡ true) where
-  shown : viewOf (journalOf rs) ≡ record { valid = true; count = length rs; last = getLastD rs noRecord }
-  shown = journal-shows rs valid
+module _ (places : ℕ) (code : List ℕ) (rs : List Record) (valid : validOf places (journalOf places rs) ≡ true) where
+  shown : viewOf places (journalOf places rs) ≡ record { valid = true; count = length rs; last = getLastD rs noRecord }
+  shown = journal-shows places rs valid
 
   -- an edit
   module _ (e : Edit) where
-    edit-of : (a : ℕ) → first (codeRefusals code e ++ (full, leb limit (length rs)) ∷ []) ≡ a
-        → editOf code (journalOf rs) e
+    edit-of : (a : ℕ) → first (codeRefusals code e ++ (full, leb places (length rs)) ∷ []) ≡ a
+        → editOf places code (journalOf places rs) e
         ≡ outcome a
-        (record { answer = accepted; journal = journalOf (rs ++ (recordOf code e ∷ [])); code = made code e })
-        (record { answer = a; journal = journalOf rs; code = code })
+        (record { answer = accepted; journal = journalOf places (rs ++ (recordOf code e ∷ [])); code = made code e })
+        (record { answer = a; journal = journalOf places rs; code = code })
     unfolding editOf made
-    edit-of a q = rw (shown, journal-stands, first-past (codeRefusals code e) (roomRefusals (record { valid = true; count = length rs; last = getLastD rs noRecord })) ((full, leb limit (length rs)) ∷ []) refl, q)
+    edit-of a q = rw (shown, journal-stands, first-past (codeRefusals code e) (roomRefusals places (record { valid = true; count = length rs; last = getLastD rs noRecord })) ((full, leb places (length rs)) ∷ []) refl, q)
 
   -- undoing a last record
-  undo-of : (last : Record) (a : ℕ) → getLastD rs noRecord ≡ last → first (undoRefusals code (record { valid = true; count = length rs; last = last })) ≡ a
-      → undoOf code (journalOf rs)
-      ≡ outcome a (record { answer = accepted; journal = journalOf (dropLast rs); code = rewritten code (last .bundle) (whole (last .old)) }) (record { answer = a; journal = journalOf rs; code = code })
+  pub undo-of : (last : Record) (a : ℕ) → getLastD rs noRecord ≡ last → first (undoRefusals code (record { valid = true; count = length rs; last = last })) ≡ a
+      → undoOf places code (journalOf places rs)
+      ≡ outcome a (record { answer = accepted; journal = journalOf places (dropLast rs); code = rewritten code (last .bundle) (whole (last .old)) }) (record { answer = a; journal = journalOf places rs; code = code })
   unfolding undoOf
   undo-of last a e q = rw (shown, journal-stands, e, q)
 
-same-halves : (h : Halves) → sameHalves h h ≡ true
-same-halves h = ap₂ (λ (a b : Bool). a && b) (eq-eqb (h .low) (h .low) refl) (eq-eqb (h .high) (h .high) refl)
-
-module _ (code : List ℕ) (b : Bytes code) (short : length code ≤ longestCode) where
-  all-bytes : (es : List Edit) → Stands code es → Bytes (madeAll code es)
+module _ (places : ℕ) (code : List ℕ) (b : Bytes code) (short : length code ≤ longestCode) where
+  all-bytes : (es : List Edit) → Stands places code es → Bytes (madeAll code es)
   all-bytes [] s = b
   all-bytes (e ∷ es) s = made-bytes (madeAll code es) e (s .0) (all-bytes es (s .2))
 
-  all-low : (es : List Edit) → Stands code es → all mayStand (recordsOf code es) ≡ true
-  all-low [] s = refl
-  all-low (e ∷ es) s = all-append mayStand (recordsOf code es) _ ∙ ap₂ (λ (t u : Bool). t && (u && true)) (all-low es (s .2)) (low (madeAll code es) e (s .0))
+  all-records : (test : Record → Bool) → OfEdits test → (es : List Edit) → Stands places code es → all test (recordsOf code es) ≡ true
+  all-records test holds [] s = refl
+  all-records test holds (e ∷ es) s =
+      let fits = s .0 in
+      let one =
+      holds (numberAt (madeAll code es) (e .bundle)) e (number-at-lt (madeAll code es) (e .bundle) (taken-found (madeAll code es) e fits) (all-bytes es (s .2)))
+      (low (madeAll code es) e fits) (taken-changes (madeAll code es) e fits) in
+      all-append test (recordsOf code es) _ ∙ ap₂ (λ (t u : Bool). t && (u && true)) (all-records test holds es (s .2)) one
 
-  at-most : (es : List Edit) → Stands code es → length es ≤ limit
+  at-most : (es : List Edit) → Stands places code es → length es ≤ places
   at-most [] s = zero-le
   at-most (e ∷ es) s = s .1
 
@@ -132,14 +142,14 @@ module _ (code : List ℕ) (b : Bytes code) (short : length code ≤ longestCode
   records-length [] = refl
   records-length (e ∷ es) = length-append (recordsOf code es) _ ∙ omega (arith, records-length es)
 
-  valid : (es : List Edit) → Stands code es → validOf (journalOf (recordsOf code es)) ≡ true
+  valid : (es : List Edit) → Stands places code es → validOf places (journalOf places (recordsOf code es)) ≡ true
   valid es s =
-      journal-valid (recordsOf code es)
-      ∙ ap₂ (λ (t u : Bool). t && u) (le-leb (length (recordsOf code es)) limit (omega (arith, records-length es, at-most es s))) (all-low es s)
+      journal-valid places (recordsOf code es)
+      ∙ ap₂ (λ (t u : Bool). t && u) (le-leb (length (recordsOf code es)) places (omega (arith, records-length es, at-most es s))) (all-records mayStand edits-stand es s)
 
   -- what there is while edits stand, after a call with this answer
   abbrev Standing : ℕ → List Edit → Outcome
-  Standing a es = record { answer = a; journal = journalOf (recordsOf code es); code = madeAll code es }
+  Standing a es = record { answer = a; journal = journalOf places (recordsOf code es); code = madeAll code es }
 
   now-stands : (a : ℕ) (es ds : List Edit) → outcome a (Standing accepted es) (Standing a ds) ≡ Standing a (outcome a es ds)
   now-stands a es ds = go (eqb a accepted) refl
@@ -149,92 +159,92 @@ module _ (code : List ℕ) (b : Bytes code) (short : length code ≤ longestCode
       go false e = refl
 
   -- a call while edits stand
-  module _ (es : List Edit) (s : Stands code es) where
+  module _ (es : List Edit) (s : Stands places code es) where
     module _ (e : Edit) where
       -- an edit that is taken fits, and there is a place for its record
-      taken-fits : answerTo code es (edit e) ≡ accepted → Fits (madeAll code es) e × (length es < limit)
+      taken-fits : answerTo places code es (edit e) ≡ accepted → Fits (madeAll code es) e × (length es < places)
       taken-fits a =
-          let p = parts-accept (codeRefusals (madeAll code es) e) ((full, leb limit (length es)) ∷ []) tt a in
-          (p .0, leb-false limit (length es) (none-applies ((full, leb limit (length es)) ∷ []) tt (p .1) .0))
+          let p = parts-accept (codeRefusals (madeAll code es) e) ((full, leb places (length es)) ∷ []) tt a in
+          (p .0, leb-false places (length es) (none-applies ((full, leb places (length es)) ∷ []) tt (p .1) .0))
 
-      edit-as-expected : editOf (madeAll code es) (journalOf (recordsOf code es)) e ≡ expected code es (edit e)
+      edit-as-expected : editOf places (madeAll code es) (journalOf places (recordsOf code es)) e ≡ expected places code es (edit e)
       edit-as-expected =
-          edit-of (madeAll code es) (recordsOf code es) (valid es s) e (answerTo code es (edit e)) (ap (λ (n : ℕ). first (codeRefusals (madeAll code es) e ++ (full, leb limit n) ∷ [])) (records-length es))
-          ∙ now-stands (answerTo code es (edit e)) (e ∷ es) es
+          edit-of places (madeAll code es) (recordsOf code es) (valid es s) e (answerTo places code es (edit e)) (ap (λ (n : ℕ). first (codeRefusals (madeAll code es) e ++ (full, leb places n) ∷ [])) (records-length es))
+          ∙ now-stands (answerTo places code es (edit e)) (e ∷ es) es
 
-      edit-stands : Stands code (after code es (edit e))
-      edit-stands = go (ℕ-discrete (answerTo code es (edit e)) accepted)
+      edit-stands : Stands places code (after places code es (edit e))
+      edit-stands = go (ℕ-discrete (answerTo places code es (edit e)) accepted)
         where
-          go : Dec (answerTo code es (edit e) ≡ accepted) → Stands code (after code es (edit e))
-          go (yes a) = subst (Stands code) (sym (accepts (answerTo code es (edit e)) (e ∷ es) es a)) (taken-fits a .0, taken-fits a .1, s)
-          go (no d) = subst (Stands code) (sym (refuses (answerTo code es (edit e)) (e ∷ es) es d)) s
+          go : Dec (answerTo places code es (edit e) ≡ accepted) → Stands places code (after places code es (edit e))
+          go (yes a) = subst (Stands places code) (sym (accepts (answerTo places code es (edit e)) (e ∷ es) es a)) (taken-fits a .0, taken-fits a .1, s)
+          go (no d) = subst (Stands places code) (sym (refuses (answerTo places code es (edit e)) (e ∷ es) es d)) s
 
   -- undoing is taken where an edit stands
-  undo-answer : (e : Edit) (es : List Edit) → answerTo code (e ∷ es) undo ≡ accepted
+  undo-answer : (e : Edit) (es : List Edit) → answerTo places code (e ∷ es) undo ≡ accepted
   undo-answer e es = rw (eqb·suc-zero (length es))
 
-  undo-after : (es : List Edit) → after code es undo ≡ drop 1 es
+  undo-after : (es : List Edit) → after places code es undo ≡ drop 1 es
   undo-after [] = refl
-  undo-after (e ∷ es) = accepts (answerTo code (e ∷ es) undo) es (e ∷ es) (undo-answer e es)
+  undo-after (e ∷ es) = accepts (answerTo places code (e ∷ es) undo) es (e ∷ es) (undo-answer e es)
 
   -- the last record is of a bundle that stands as it says
-  last-stands : (e : Edit) (es : List Edit) → Stands code (e ∷ es)
+  last-stands : (e : Edit) (es : List Edit) → Stands places code (e ∷ es)
       → first (undoRefusals (madeAll code (e ∷ es)) (record { valid = true; count = length (recordsOf code (e ∷ es)); last = recordOf (madeAll code es) e })) ≡ accepted
   last-stands e es s =
       let l = made-lies (madeAll code es) e (s .0) in
       let new = ap (λ (n : ℕ). sameHalves (halvesOf n) (halvesOf (newNumber (madeAll code es) e))) (made-number (madeAll code es) e (s .0) (all-bytes es (s .2))) ∙ same-halves (halvesOf (newNumber (madeAll code es) e)) in
       rw (le-ltb longestCode _ (l .short), records-length (e ∷ es), eqb·suc-zero (length es), le-ltb _ (16 * e .bundle + 16) (l .within), new)
 
-  undo-as-expected : (es : List Edit) → Stands code es → undoOf (madeAll code es) (journalOf (recordsOf code es)) ≡ expected code es undo
-  undo-as-expected [] s = undo-of code [] (valid [] tt) (getLastD [] noRecord) empty refl (rw (le-ltb longestCode (length code) short))
+  undo-as-expected : (es : List Edit) → Stands places code es → undoOf places (madeAll code es) (journalOf places (recordsOf code es)) ≡ expected places code es undo
+  undo-as-expected [] s = undo-of places code [] (valid [] tt) (getLastD [] noRecord) empty refl (rw (le-ltb longestCode (length code) short))
   undo-as-expected (e ∷ es) s =
       let now-standing = sym (undo-after (e ∷ es)) in
-      let journal = ap journalOf (drop-last-snoc (recordsOf code es) _) ∙ ap (λ (ds : List Edit). journalOf (recordsOf code ds)) now-standing in
+      let journal = ap (journalOf places) (drop-last-snoc (recordsOf code es) _) ∙ ap (λ (ds : List Edit). journalOf places (recordsOf code ds)) now-standing in
       let restored = unmade (madeAll code es) e (s .0) (all-bytes es (s .2)) ∙ ap (madeAll code) now-standing in
-      undo-of (madeAll code (e ∷ es)) (recordsOf code (e ∷ es)) (valid (e ∷ es) s) _ accepted (last-snoc (recordsOf code es) _) (last-stands e es s)
+      undo-of places (madeAll code (e ∷ es)) (recordsOf code (e ∷ es)) (valid (e ∷ es) s) _ accepted (last-snoc (recordsOf code es) _) (last-stands e es s)
       ∙ (λ i. record { answer = sym (undo-answer e es) i; journal = journal i; code = restored i })
 
-  undo-stands : (es : List Edit) → Stands code es → Stands code (after code es undo)
+  undo-stands : (es : List Edit) → Stands places code es → Stands places code (after places code es undo)
   undo-stands [] s = tt
-  undo-stands (e ∷ es) s = subst (Stands code) (sym (undo-after (e ∷ es))) (s .2)
+  undo-stands (e ∷ es) s = subst (Stands places code) (sym (undo-after (e ∷ es))) (s .2)
 
-  call-stands : (es : List Edit) → Stands code es → (call : Call) → Stands code (after code es call)
+  call-stands : (es : List Edit) → Stands places code es → (call : Call) → Stands places code (after places code es call)
   call-stands es s (edit e) = edit-stands es s e
   call-stands es s undo = undo-stands es s
 
-  as-expected : (es : List Edit) → Stands code es → (o : Outcome) → o .code ≡ madeAll code es → o .journal ≡ journalOf (recordsOf code es) → (call : Call) → step o call ≡ expected code es call
+  as-expected : (es : List Edit) → Stands places code es → (o : Outcome) → o .code ≡ madeAll code es → o .journal ≡ journalOf places (recordsOf code es) → (call : Call) → step places o call ≡ expected places code es call
   as-expected es s o c j (edit e) =
-      ap₂ (λ (code : List ℕ) (journal : Journal). editOf code journal e) c j ∙ edit-as-expected es s e
-  as-expected es s o c j undo = ap₂ undoOf c j ∙ undo-as-expected es s
+      ap₂ (λ (code : List ℕ) (journal : Journal). editOf places code journal e) c j ∙ edit-as-expected es s e
+  as-expected es s o c j undo = ap₂ (undoOf places) c j ∙ undo-as-expected es s
 
-  all-stand : (calls : List Call) → Stands code (standingEdits code calls)
+  all-stand : (calls : List Call) → Stands places code (standingEdits places code calls)
   all-stand [] = tt
-  all-stand (call ∷ calls) = call-stands (standingEdits code calls) (all-stand calls) call
+  all-stand (call ∷ calls) = call-stands (standingEdits places code calls) (all-stand calls) call
 
-  reached : (calls : List Call) → (run code calls .code ≡ madeAll code (standingEdits code calls)) × (run code calls .journal ≡ journalOf (recordsOf code (standingEdits code calls)))
+  reached : (calls : List Call) → (run places code calls .code ≡ madeAll code (standingEdits places code calls)) × (run places code calls .journal ≡ journalOf places (recordsOf code (standingEdits places code calls)))
   reached [] = (refl, refl)
   reached (call ∷ calls) =
       let r = reached calls in
-      let x = as-expected (standingEdits code calls) (all-stand calls) (run code calls) (r .0) (r .1) call in
+      let x = as-expected (standingEdits places code calls) (all-stand calls) (run places code calls) (r .0) (r .1) call in
       (ap (λ (o : Outcome). o .code) x, ap (λ (o : Outcome). o .journal) x)
 
-  next : (calls : List Call) (call : Call) → run code (call ∷ calls) ≡ expected code (standingEdits code calls) call
-  next calls = let r = reached calls in as-expected (standingEdits code calls) (all-stand calls) (run code calls) (r .0) (r .1)
+  next : (calls : List Call) (call : Call) → run places code (call ∷ calls) ≡ expected places code (standingEdits places code calls) call
+  next calls = let r = reached calls in as-expected (standingEdits places code calls) (all-stand calls) (run places code calls) (r .0) (r .1)
 
   -- so many undos leave so many edits fewer
-  undos-drop : (n : ℕ) (calls : List Call) → standingEdits code (thenUndo n calls) ≡ drop n (standingEdits code calls)
+  undos-drop : (n : ℕ) (calls : List Call) → standingEdits places code (thenUndo n calls) ≡ drop n (standingEdits places code calls)
   undos-drop zero calls = refl
   undos-drop (suc n) calls =
-      undo-after (standingEdits code (thenUndo n calls))
+      undo-after (standingEdits places code (thenUndo n calls))
       ∙ ap (drop 1) (undos-drop n calls)
-      ∙ drop-drop 1 n (standingEdits code calls)
-      ∙ ap (λ (m : ℕ). drop m (standingEdits code calls)) (add-one n)
+      ∙ drop-drop 1 n (standingEdits places code calls)
+      ∙ ap (λ (m : ℕ). drop m (standingEdits places code calls)) (add-one n)
 
-  none-left : (es : List Edit) → (answerTo code es undo ≡ accepted → ⊥) → es ≡ []
+  none-left : (es : List Edit) → (answerTo places code es undo ≡ accepted → ⊥) → es ≡ []
   none-left [] d = refl
   none-left (e ∷ es) d = absurd (d (undo-answer e es))
 
-  pub holds : (calls : List Call) → Holds code calls
+  pub holds : (calls : List Call) → Holds places code calls
   holds calls =
       record {
         code-is = reached calls .0;
@@ -244,9 +254,9 @@ module _ (code : List ℕ) (b : Bytes code) (short : length code ≤ longestCode
             subst (λ (c : List ℕ). SetsOnlyItsBits c e) (sym (reached calls .0))
             (only-its-bits (madeAll code es) e (taken-fits es (all-stand calls) e (sym (answer (edit e)) ∙ a) .0) (all-bytes es (all-stand calls)));
         refused-keeps = λ call d.
-            let same = refuses (answerTo code es call) (taken es call) es (λ a. d (answer call ∙ a)) in (
+            let same = refuses (answerTo places code es call) (taken es call) es (λ a. d (answer call ∙ a)) in (
               ap (λ (o : Outcome). o .code) (next calls call) ∙ ap (madeAll code) same ∙ sym (reached calls .0),
-              ap (λ (o : Outcome). o .journal) (next calls call) ∙ ap (λ (ds : List Edit). journalOf (recordsOf code ds)) same ∙ sym (reached calls .1),
+              ap (λ (o : Outcome). o .journal) (next calls call) ∙ ap (λ (ds : List Edit). journalOf places (recordsOf code ds)) same ∙ sym (reached calls .1),
             );
         undo-refused = λ d. none-left es (λ a. d (answer undo ∙ a));
         undone =
@@ -254,14 +264,21 @@ module _ (code : List ℕ) (b : Bytes code) (short : length code ≤ longestCode
       }
     where
       es : List Edit
-      es = standingEdits code calls
+      es = standingEdits places code calls
 
-      answer : (call : Call) → run code (call ∷ calls) .answer ≡ answerTo code (standingEdits code calls) call
+      answer : (call : Call) → run places code (call ∷ calls) .answer ≡ answerTo places code (standingEdits places code calls) call
       answer call = ap (λ (o : Outcome). o .answer) (next calls call)
 
   -- a run's journal is valid
-  pub run-valid : (calls : List Call) → validOf (run code calls .journal) ≡ true
-  run-valid calls = ap validOf (reached calls .1) ∙ valid (standingEdits code calls) (all-stand calls)
+  pub run-valid : (calls : List Call) → validOf places (run places code calls .journal) ≡ true
+  run-valid calls = ap (validOf places) (reached calls .1) ∙ valid (standingEdits places code calls) (all-stand calls)
+
+  -- and what holds of every edit's record holds of those that stand in it
+  pub run-all : (test : Record → Bool) → OfEdits test → (calls : List Call) → all test (standing (run places code calls .journal)) ≡ true
+  run-all test of-edits calls =
+      ap (λ (j : Journal). all test (standing j)) (reached calls .1)
+      ∙ ap (all test) (journal-stands places (recordsOf code (standingEdits places code calls)))
+      ∙ all-records test of-edits (standingEdits places code calls) (all-stand calls)
 
 pub demand-3 : Demand3
 demand-3 = holds

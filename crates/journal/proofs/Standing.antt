@@ -1,5 +1,5 @@
--- The laws of the journal's view. A journal's places are its records and free places after them, `limit` together; so a record is added
--- where the free places begin and taken where the records end. Assumes nothing.
+-- The laws of the journal's view. A journal's places are its records and free places after them; so a record is added where the free places
+-- begin and taken where the records end. Assumes nothing.
 use mathlib.Core.Path.{_≡_, refl, sym, ap, ap₂, _∙_, subst}
 use mathlib.Core.Bool.{Bool, true, false, cond, _&&_, and-true, and-false, and-assoc}
 use mathlib.Core.List.{List, [], _∷_, _++_, append-assoc, dropLast, getLastD}
@@ -10,23 +10,25 @@ use lib.Dec.{T, eqb, leb, leb→le, eqb→eq}
 use lib.ListN.{length, getD, set, take, drop, replicate, length-append, length-replicate, length-drop, take-append-drop, List·getD-eq-default}
 use lib.Seq.{set-at, getD-at, take-append-seam, drop-append-seam, length-take-le}
 use mir.Facts.{and-yes, yes-and}
-use Rattle.journal.specs.Journal.{limit, noRecord, isZero, isFree, mayStand, all, standing, journalOf, validOf, viewOf, recordAt, withRecord, JournalStands, JournalValid, ValidIsJournal, JournalReads, JournalPushes, JournalPops}
-use Rattle.journal.specs.declared.records.Record.{Record}
+use Rattle.record.specs.Record.{noRecord, isFree, mayStand}
+use Rattle.record.specs.declared.Record.{Record}
+use Rattle.record.proofs.Laws.{free-is-none}
+use Rattle.journal.specs.Journal.{all, standing, journalOf, validOf, viewOf, recordAt, withRecord, JournalStands, JournalValid, ValidIsJournal, JournalReads, JournalPushes, JournalPops}
 use Rattle.journal.specs.declared.records.Journal.{Journal}
 use Rattle.journal.specs.declared.records.View.{View}
 
--- the free places after n records
-abbrev free : ℕ → List Record
-free n = replicate (limit - n) noRecord
+-- the free ones of so many places after n records
+abbrev free : ℕ → ℕ → List Record
+free places n = replicate (places - n) noRecord
 
-one-more : (n : ℕ) → n < limit → free n ≡ noRecord ∷ free (n + 1)
-one-more n h =
-    let e : limit - n ≡ suc (limit - (n + 1)) = omega arith in
+one-more : (places n : ℕ) → n < places → free places n ≡ noRecord ∷ free places (n + 1)
+one-more places n h =
+    let e : places - n ≡ suc (places - (n + 1)) = omega arith in
     ap (λ (m : ℕ). replicate m noRecord) e
 
 pub journal-stands : JournalStands
 unfolding standing journalOf
-journal-stands rs = take-append-seam rs _
+journal-stands places rs = take-append-seam rs _
 
 -- what holds of every place holds of the records that stand
 pub standing-all : (test : Record → Bool) (j : Journal) → T (all test (j .records)) → T (all test (standing j))
@@ -43,9 +45,9 @@ pub standing-places : (j : Journal) → standing j ≡ take (j .count) (j .recor
 unfolding standing
 standing-places j = refl
 
-pub journal-counts : (rs : List Record) → journalOf rs .count ≡ length rs
+pub journal-counts : (places : ℕ) (rs : List Record) → journalOf places rs .count ≡ length rs
 unfolding journalOf
-journal-counts rs = refl
+journal-counts places rs = refl
 
 pub all-append : (test : Record → Bool) (rs qs : List Record) → all test (rs ++ qs) ≡ all test rs && all test qs
 all-append test [] qs = refl
@@ -57,26 +59,14 @@ all-free (suc n) = all-free n
 
 pub journal-valid : JournalValid
 unfolding validOf standing journalOf
-journal-valid rs = go (leb (length rs) limit) refl
+journal-valid places rs = go (leb (length rs) places) refl
   where
-    go : (few : Bool) → leb (length rs) limit ≡ few → validOf (journalOf rs) ≡ few && all mayStand rs
-    go false e = rw (e, and-false (eqb (length (rs ++ free (length rs))) limit))
+    go : (few : Bool) → leb (length rs) places ≡ few → validOf places (journalOf places rs) ≡ few && all mayStand rs
+    go false e = rw (e, and-false (eqb (length (rs ++ free places (length rs))) places))
     go true e =
-        let few : length rs ≤ limit = leb-true _ _ e in
-        let long : length (rs ++ free (length rs)) ≡ limit = omega (arith, length-append rs (free (length rs)), length-replicate (limit - length rs) noRecord) in
-        rw (e, take-append-seam rs (free (length rs)), drop-append-seam rs (free (length rs)), all-free (limit - length rs), eq-eqb _ _ long) (and-true (all mayStand rs))
-
-free-is-none : (r : Record) → T (isFree r) → r ≡ noRecord
-free-is-none r t =
-    let b = and-yes (eqb (r .bundle) 0 && isZero (r .old)) (isZero (r .new)) t in
-    let a = and-yes (eqb (r .bundle) 0) (isZero (r .old)) (b .0) in
-    let o = and-yes (eqb (r .old .low) 0) (eqb (r .old .high) 0) (a .1) in
-    let n = and-yes (eqb (r .new .low) 0) (eqb (r .new .high) 0) (b .1) in
-    λ i. record {
-      bundle = eqb→eq (r .bundle) 0 (a .0) i;
-      old = record { low = eqb→eq (r .old .low) 0 (o .0) i; high = eqb→eq (r .old .high) 0 (o .1) i };
-      new = record { low = eqb→eq (r .new .low) 0 (n .0) i; high = eqb→eq (r .new .high) 0 (n .1) i };
-    }
+        let few : length rs ≤ places = leb-true _ _ e in
+        let long : length (rs ++ free places (length rs)) ≡ places = omega (arith, length-append rs (free places (length rs)), length-replicate (places - length rs) noRecord) in
+        rw (e, take-append-seam rs (free places (length rs)), drop-append-seam rs (free places (length rs)), all-free (places - length rs), eq-eqb _ _ long) (and-true (all mayStand rs))
 
 free-are-none : (rs : List Record) → T (all isFree rs) → rs ≡ replicate (length rs) noRecord
 free-are-none [] t = refl
@@ -86,15 +76,15 @@ free-are-none (r ∷ rs) t =
 
 pub valid-is-journal : ValidIsJournal
 unfolding validOf standing journalOf
-valid-is-journal j v =
+valid-is-journal places j v =
     let rs = j .records in
-    let t = and-yes (eqb (length rs) limit && leb (j .count) limit && all mayStand (take (j .count) rs)) (all isFree (drop (j .count) rs)) (subst T (sym v) tt) in
-    let u = and-yes (eqb (length rs) limit && leb (j .count) limit) (all mayStand (take (j .count) rs)) (t .0) in
-    let w = and-yes (eqb (length rs) limit) (leb (j .count) limit) (u .0) in
-    let places : length rs ≡ limit = eqb→eq (length rs) limit (w .0) in
-    let few : j .count ≤ limit = leb→le (j .count) limit (w .1) in
+    let t = and-yes (eqb (length rs) places && leb (j .count) places && all mayStand (take (j .count) rs)) (all isFree (drop (j .count) rs)) (subst T (sym v) tt) in
+    let u = and-yes (eqb (length rs) places && leb (j .count) places) (all mayStand (take (j .count) rs)) (t .0) in
+    let w = and-yes (eqb (length rs) places) (leb (j .count) places) (u .0) in
+    let long : length rs ≡ places = eqb→eq (length rs) places (w .0) in
+    let few : j .count ≤ places = leb→le (j .count) places (w .1) in
     let count : length (take (j .count) rs) ≡ j .count = length-take-le (j .count) rs (omega arith) in
-    let left : limit - length (take (j .count) rs) ≡ length (drop (j .count) rs) = omega (arith, length-drop (j .count) rs) in
+    let left : places - length (take (j .count) rs) ≡ length (drop (j .count) rs) = omega (arith, length-drop (j .count) rs) in
     let records =
     ap (λ (n : ℕ). take (j .count) rs ++ replicate n noRecord) left
     ∙ ap (λ (qs : List Record). take (j .count) rs ++ qs) (sym (free-are-none (drop (j .count) rs) (t .1)))
@@ -103,7 +93,7 @@ valid-is-journal j v =
 
 pub journal-reads : JournalReads
 unfolding journalOf
-journal-reads rs i = go rs (limit - length rs) i
+journal-reads places rs i = go rs (places - length rs) i
   where
     go : (rs : List Record) (n i : ℕ) → getD (rs ++ replicate n noRecord) i noRecord ≡ getD rs i noRecord
     go [] zero i = refl
@@ -114,13 +104,13 @@ journal-reads rs i = go rs (limit - length rs) i
 
 pub journal-pushes : JournalPushes
 unfolding journalOf
-journal-pushes rs r h =
+journal-pushes places rs r h =
     let long : length rs + 1 ≡ length (rs ++ (r ∷ [])) = sym (length-append rs (r ∷ [])) in
     let records =
-    ap (λ (qs : List Record). set (rs ++ qs) (length rs) r) (one-more (length rs) h)
+    ap (λ (qs : List Record). set (rs ++ qs) (length rs) r) (one-more places (length rs) h)
     ∙ set-at rs noRecord _ r (length rs) refl
-    ∙ sym (append-assoc rs (r ∷ []) (free (length rs + 1)))
-    ∙ ap (λ (n : ℕ). (rs ++ (r ∷ [])) ++ free n) long in
+    ∙ sym (append-assoc rs (r ∷ []) (free places (length rs + 1)))
+    ∙ ap (λ (n : ℕ). (rs ++ (r ∷ [])) ++ free places n) long in
     λ i. record { count = long i; records = records i }
 
 -- some records are all but the last and the last
@@ -155,96 +145,100 @@ last-at (r ∷ rs) = let n : length rs ≡ length (r ∷ rs) - 1 = omega arith i
 
 pub journal-pops : JournalPops
 unfolding journalOf
-journal-pops [] h = refl
-journal-pops (r ∷ rs) h =
+journal-pops places [] h = ap (λ (rs : List Record). record { count = 0; records = rs }) (still-free (places - 0))
+  where
+    still-free : (n : ℕ) → set (replicate n noRecord) 0 noRecord ≡ replicate n noRecord
+    still-free zero = refl
+    still-free (suc n) = refl
+journal-pops places (r ∷ rs) h =
     let qs = dropLast (r ∷ rs) in
     let long : length (r ∷ rs) - 1 ≡ length qs = omega (arith, drop-last-length r rs) in
     let more : length qs + 1 ≡ length (r ∷ rs) = omega (arith, drop-last-length r rs) in
-    let few : length qs < limit = omega arith in
+    let few : length qs < places = omega arith in
     let last = getLastD (r ∷ rs) noRecord in
     let records =
-    ap₂ (λ (ps : List Record) (n : ℕ). set (ps ++ free (length (r ∷ rs))) n noRecord) (but-last r rs) long
+    ap₂ (λ (ps : List Record) (n : ℕ). set (ps ++ free places (length (r ∷ rs))) n noRecord) (but-last r rs) long
     ∙ ap (λ (ps : List Record). set ps (length qs) noRecord) (append-assoc qs (last ∷ []) _)
     ∙ set-at qs last _ noRecord (length qs) refl
-    ∙ ap (λ (n : ℕ). qs ++ noRecord ∷ free n) (sym more)
-    ∙ ap (λ (ps : List Record). qs ++ ps) (sym (one-more (length qs) few)) in
+    ∙ ap (λ (n : ℕ). qs ++ noRecord ∷ free places n) (sym more)
+    ∙ ap (λ (ps : List Record). qs ++ ps) (sym (one-more places (length qs) few)) in
     λ i. record { count = long i; records = records i }
 
 -- what a valid journal is, by the records that stand in it
-module _ (j : Journal) (v : validOf j ≡ true) where
+module _ (places : ℕ) (j : Journal) (v : validOf places j ≡ true) where
   pub valid-counts : j .count ≡ length (standing j)
-  valid-counts = ap (λ (i : Journal). i .count) (sym (valid-is-journal j v)) ∙ journal-counts (standing j)
+  valid-counts = ap (λ (i : Journal). i .count) (sym (valid-is-journal places j v)) ∙ journal-counts places (standing j)
 
-  pub valid-places : length (j .records) ≡ limit
+  pub valid-places : length (j .records) ≡ places
   unfolding validOf
   valid-places =
       let rs = j .records in
-      let t = and-yes (eqb (length rs) limit && leb (j .count) limit && all mayStand (standing j)) (all isFree (drop (j .count) rs)) (subst T (sym v) tt) in
-      let u = and-yes (eqb (length rs) limit && leb (j .count) limit) (all mayStand (standing j)) (t .0) in
-      eqb→eq (length rs) limit (and-yes (eqb (length rs) limit) (leb (j .count) limit) (u .0) .0)
+      let t = and-yes (eqb (length rs) places && leb (j .count) places && all mayStand (standing j)) (all isFree (drop (j .count) rs)) (subst T (sym v) tt) in
+      let u = and-yes (eqb (length rs) places && leb (j .count) places) (all mayStand (standing j)) (t .0) in
+      eqb→eq (length rs) places (and-yes (eqb (length rs) places) (leb (j .count) places) (u .0) .0)
 
-  valid-tests : T (leb (length (standing j)) limit) × T (all mayStand (standing j))
+  valid-tests : T (leb (length (standing j)) places) × T (all mayStand (standing j))
   valid-tests =
-      and-yes (leb (length (standing j)) limit) (all mayStand (standing j))
-      (subst T (sym v ∙ ap validOf (sym (valid-is-journal j v)) ∙ journal-valid (standing j)) tt)
+      and-yes (leb (length (standing j)) places) (all mayStand (standing j))
+      (subst T (sym v ∙ ap (validOf places) (sym (valid-is-journal places j v)) ∙ journal-valid places (standing j)) tt)
 
-  pub valid-few : length (standing j) ≤ limit
+  pub valid-few : length (standing j) ≤ places
   valid-few = leb→le _ _ (valid-tests .0)
 
   pub valid-stand : T (all mayStand (standing j))
   valid-stand = valid-tests .1
 
   pub valid-reads : (i : ℕ) → recordAt j i ≡ getD (standing j) i noRecord
-  valid-reads i = ap (λ (j : Journal). recordAt j i) (sym (valid-is-journal j v)) ∙ journal-reads (standing j) i
+  valid-reads i = ap (λ (j : Journal). recordAt j i) (sym (valid-is-journal places j v)) ∙ journal-reads places (standing j) i
 
   valid-last : recordAt j (j .count - 1) ≡ getLastD (standing j) noRecord
   valid-last = ap (λ (n : ℕ). recordAt j (n - 1)) valid-counts ∙ valid-reads (length (standing j) - 1) ∙ sym (last-at (standing j))
 
   -- what is shown of it
-  pub valid-view : viewOf j ≡ record { valid = true; count = j .count; last = recordAt j (j .count - 1) }
+  pub valid-view : viewOf places j ≡ record { valid = true; count = j .count; last = recordAt j (j .count - 1) }
   unfolding viewOf
   valid-view = rw v (λ i. record { valid = true; count = sym valid-counts i; last = sym valid-last i })
 
-  pub empty-view : j .count ≡ 0 → viewOf j ≡ record { valid = true; count = 0; last = noRecord }
+  pub empty-view : j .count ≡ 0 → viewOf places j ≡ record { valid = true; count = 0; last = noRecord }
   empty-view e =
       let none : length (standing j) ≤ j .count - 1 = omega (arith, valid-counts) in
       let last = valid-reads (j .count - 1) ∙ List·getD-eq-default (standing j) noRecord none in
       valid-view ∙ (λ i. record { valid = true; count = e i; last = last i })
 
-pub invalid-view : (j : Journal) → validOf j ≡ false → viewOf j ≡ record { valid = false; count = 0; last = noRecord }
+pub invalid-view : (places : ℕ) (j : Journal) → validOf places j ≡ false → viewOf places j ≡ record { valid = false; count = 0; last = noRecord }
 unfolding viewOf
-invalid-view j e = rw e
+invalid-view places j e = rw e
 
 -- what a valid journal of some records shows
-pub journal-shows : (rs : List Record) → validOf (journalOf rs) ≡ true → viewOf (journalOf rs) ≡ record { valid = true; count = length rs; last = getLastD rs noRecord }
+pub journal-shows : (places : ℕ) (rs : List Record) → validOf places (journalOf places rs) ≡ true → viewOf places (journalOf places rs) ≡ record { valid = true; count = length rs; last = getLastD rs noRecord }
 unfolding viewOf
-journal-shows rs v = rw (v, journal-stands)
+journal-shows places rs v = rw (v, journal-stands)
 
 -- a journal shows whether it is valid
-pub view-shows : (j : Journal) → viewOf j .valid ≡ validOf j
+pub view-shows : (places : ℕ) (j : Journal) → viewOf places j .valid ≡ validOf places j
 unfolding viewOf
-view-shows j = go (validOf j)
+view-shows places j = go (validOf places j)
   where
     go : (t : Bool) → cond {A = View} t (record { valid = true; count = length (standing j); last = getLastD (standing j) noRecord }) (record { valid = false; count = 0; last = noRecord }) .valid ≡ t
     go true = refl
     go false = refl
 
 -- a journal that is shown as valid
-module _ (j : Journal) (v : viewOf j .valid ≡ true) where
-  view-valid : validOf j ≡ true
-  view-valid = sym (view-shows j) ∙ v
+module _ (places : ℕ) (j : Journal) (v : viewOf places j .valid ≡ true) where
+  view-valid : validOf places j ≡ true
+  view-valid = sym (view-shows places j) ∙ v
 
-  shown : viewOf j ≡ record { valid = true; count = length (standing j); last = getLastD (standing j) noRecord }
+  shown : viewOf places j ≡ record { valid = true; count = length (standing j); last = getLastD (standing j) noRecord }
   unfolding viewOf
   shown = rw view-valid
 
-  pub view-pushes : (r : Record) → viewOf j .count < limit → withRecord j (viewOf j .count) r (viewOf j .count + 1) ≡ journalOf (standing j ++ (r ∷ []))
+  pub view-pushes : (r : Record) → viewOf places j .count < places → withRecord j (viewOf places j .count) r (viewOf places j .count + 1) ≡ journalOf places (standing j ++ (r ∷ []))
   view-pushes r h =
       let count = ap (λ (w : View). w .count) shown in
-      ap₂ (λ (j : Journal) (n : ℕ). withRecord j n r (n + 1)) (sym (valid-is-journal j view-valid)) count
-      ∙ journal-pushes (standing j) r (subst (λ (n : ℕ). n < limit) count h)
+      ap₂ (λ (j : Journal) (n : ℕ). withRecord j n r (n + 1)) (sym (valid-is-journal places j view-valid)) count
+      ∙ journal-pushes places (standing j) r (subst (λ (n : ℕ). n < places) count h)
 
-  pub view-pops : withRecord j (viewOf j .count - 1) noRecord (viewOf j .count - 1) ≡ journalOf (dropLast (standing j))
+  pub view-pops : withRecord j (viewOf places j .count - 1) noRecord (viewOf places j .count - 1) ≡ journalOf places (dropLast (standing j))
   view-pops =
-      ap₂ (λ (j : Journal) (n : ℕ). withRecord j (n - 1) noRecord (n - 1)) (sym (valid-is-journal j view-valid)) (ap (λ (w : View). w .count) shown)
-      ∙ journal-pops (standing j) (valid-few j view-valid)
+      ap₂ (λ (j : Journal) (n : ℕ). withRecord j (n - 1) noRecord (n - 1)) (sym (valid-is-journal places j view-valid)) (ap (λ (w : View). w .count) shown)
+      ∙ journal-pops places (standing j) (valid-few places j view-valid)

@@ -8,9 +8,9 @@ use Rattle.form.specs.declared.Edit.{Edit}
 use Rattle.journal.specs.Edit.{Outcome, editOf, undoOf}
 use Rattle.journal.specs.declared.records.Journal.{Journal}
 
-pub edit-unique : (code : List ℕ) (journal : Journal) (e : Edit) {r s : Outcome}
-    → r ≡ editOf code journal e → s ≡ editOf code journal e → r ≡ s
-edit-unique code journal e = one-outcome
+pub edit-unique : (places : ℕ) (code : List ℕ) (journal : Journal) (e : Edit) {r s : Outcome}
+    → r ≡ editOf places code journal e → s ≡ editOf places code journal e → r ≡ s
+edit-unique places code journal e = one-outcome
 
-pub undo-unique : (code : List ℕ) (journal : Journal) {r s : Outcome} → r ≡ undoOf code journal → s ≡ undoOf code journal → r ≡ s
-undo-unique code journal = one-outcome
+pub undo-unique : (places : ℕ) (code : List ℕ) (journal : Journal) {r s : Outcome} → r ≡ undoOf places code journal → s ≡ undoOf places code journal → r ≡ s
+undo-unique places code journal = one-outcome

@@ -13,23 +13,23 @@ use Rattle.bundle.specs.Bundle.{longestCode, numberAt}
 use Rattle.form.specs.declared.Edit.{Edit}
 use Rattle.row.specs.Row.{rowOf}
 use Rattle.immediate.specs.Immediate.{valueIn, partsOf}
-use Rattle.journal.specs.Journal.{limit, journalOf}
+use Rattle.record.specs.declared.Record.{Record}
+use Rattle.journal.specs.Journal.{journalOf}
 use Rattle.journal.specs.Edit.{Outcome, codeRefusals, made, recordOf, editOf, undoOf}
-use Rattle.journal.specs.declared.records.Record.{Record}
 
 pub data Call : Type 0 where
   edit : Edit → Call
   undo : Call
 
--- one call, given the code and the journal that the last handed back
-abbrev pub step : Outcome → Call → Outcome
-step s (edit e) = editOf (s .code) (s .journal) e
-step s undo = undoOf (s .code) (s .journal)
+-- one call with a journal of so many places, given the code and the journal that the last handed back
+abbrev pub step : ℕ → Outcome → Call → Outcome
+step places s (edit e) = editOf places (s .code) (s .journal) e
+step places s undo = undoOf places (s .code) (s .journal)
 
 -- a run from a first code and an empty journal; the last call stands first, so what is said of every run is said of every prefix
-abbrev pub run : List ℕ → List Call → Outcome
-run code [] = record { answer = accepted; journal = journalOf []; code = code }
-run code (call ∷ calls) = step (run code calls) call
+abbrev pub run : ℕ → List ℕ → List Call → Outcome
+run places code [] = record { answer = accepted; journal = journalOf places []; code = code }
+run places code (call ∷ calls) = step places (run places code calls) call
 
 -- the code with edits made in order; the last stands first
 abbrev pub madeAll : List ℕ → List Edit → List ℕ
@@ -37,9 +37,9 @@ madeAll code [] = code
 madeAll code (e ∷ es) = made (madeAll code es) e
 
 -- what a call answers while these edits stand
-abbrev pub answerTo : List ℕ → List Edit → Call → ℕ
-answerTo code es (edit e) = first (codeRefusals (madeAll code es) e ++ (full, leb limit (length es)) ∷ [])
-answerTo code es undo = first ((empty, eqb (length es) 0) ∷ [])
+abbrev pub answerTo : ℕ → List ℕ → List Edit → Call → ℕ
+answerTo places code es (edit e) = first (codeRefusals (madeAll code es) e ++ (full, leb places (length es)) ∷ [])
+answerTo places code es undo = first ((empty, eqb (length es) 0) ∷ [])
 
 -- the standing edits after a call that is taken
 abbrev pub taken : List Edit → Call → List Edit
@@ -48,13 +48,13 @@ taken [] undo = []
 taken (e ∷ es) undo = es
 
 -- the standing edits after a call
-abbrev pub after : List ℕ → List Edit → Call → List Edit
-after code es call = outcome (answerTo code es call) (taken es call) es
+abbrev pub after : ℕ → List ℕ → List Edit → Call → List Edit
+after places code es call = outcome (answerTo places code es call) (taken es call) es
 
 -- the edits that stand after a run, worked out from the first code and the calls alone
-abbrev pub standingEdits : List ℕ → List Call → List Edit
-standingEdits code [] = []
-standingEdits code (call ∷ calls) = after code (standingEdits code calls) call
+abbrev pub standingEdits : ℕ → List ℕ → List Call → List Edit
+standingEdits places code [] = []
+standingEdits places code (call ∷ calls) = after places code (standingEdits places code calls) call
 
 -- the standing edits' records, the oldest first
 abbrev pub recordsOf : List ℕ → List Edit → List Record
@@ -62,12 +62,12 @@ recordsOf code [] = []
 recordsOf code (e ∷ es) = recordsOf code es ++ (recordOf (madeAll code es) e ∷ [])
 
 -- what there is after a call
-abbrev pub expected : List ℕ → List Edit → Call → Outcome
-expected code es call =
+abbrev pub expected : ℕ → List ℕ → List Edit → Call → Outcome
+expected places code es call =
     record {
-      answer = answerTo code es call;
-      journal = journalOf (recordsOf code (after code es call));
-      code = madeAll code (after code es call);
+      answer = answerTo places code es call;
+      journal = journalOf places (recordsOf code (after places code es call));
+      code = madeAll code (after places code es call);
     }
 
 -- an edit sets the bits of its one immediate and no other
@@ -82,16 +82,16 @@ abbrev pub thenUndo : ℕ → List Call → List Call
 thenUndo n calls = replicate n undo ++ calls
 
 -- what demand 3 says after a run
-pub record Holds (code : List ℕ) (calls : List Call) : Type 0 where
-  pub code-is : run code calls .code ≡ madeAll code (standingEdits code calls)
-  pub journal-is : run code calls .journal ≡ journalOf (recordsOf code (standingEdits code calls))
-  pub next-is : (call : Call) → run code (call ∷ calls) ≡ expected code (standingEdits code calls) call
-  pub edits-only : (e : Edit) → run code (edit e ∷ calls) .answer ≡ accepted → SetsOnlyItsBits (run code calls .code) e
-  pub refused-keeps : (call : Call) → (run code (call ∷ calls) .answer ≡ accepted → ⊥)
-      → (run code (call ∷ calls) .code ≡ run code calls .code) × (run code (call ∷ calls) .journal ≡ run code calls .journal)
-  pub undo-refused : (run code (undo ∷ calls) .answer ≡ accepted → ⊥) → standingEdits code calls ≡ []
-  pub undone : run code (thenUndo (length (standingEdits code calls)) calls) .code ≡ code
+pub record Holds (places : ℕ) (code : List ℕ) (calls : List Call) : Type 0 where
+  pub code-is : run places code calls .code ≡ madeAll code (standingEdits places code calls)
+  pub journal-is : run places code calls .journal ≡ journalOf places (recordsOf code (standingEdits places code calls))
+  pub next-is : (call : Call) → run places code (call ∷ calls) ≡ expected places code (standingEdits places code calls) call
+  pub edits-only : (e : Edit) → run places code (edit e ∷ calls) .answer ≡ accepted → SetsOnlyItsBits (run places code calls .code) e
+  pub refused-keeps : (call : Call) → (run places code (call ∷ calls) .answer ≡ accepted → ⊥)
+      → (run places code (call ∷ calls) .code ≡ run places code calls .code) × (run places code (call ∷ calls) .journal ≡ run places code calls .journal)
+  pub undo-refused : (run places code (undo ∷ calls) .answer ≡ accepted → ⊥) → standingEdits places code calls ≡ []
+  pub undone : run places code (thenUndo (length (standingEdits places code calls)) calls) .code ≡ code
 
--- of every code of at most `longestCode` bytes and every run
+-- of every number of places, every code of at most `longestCode` bytes and every run
 abbrev pub Demand3 : Type 0
-Demand3 = (code : List ℕ) → ((i : ℕ) → getD code i 0 < 2 ^ 8) → length code ≤ longestCode → (calls : List Call) → Holds code calls
+Demand3 = (places : ℕ) (code : List ℕ) → ((i : ℕ) → getD code i 0 < 2 ^ 8) → length code ≤ longestCode → (calls : List Call) → Holds places code calls

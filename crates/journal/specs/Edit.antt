@@ -1,17 +1,17 @@
 -- The calls `edit` and `undo`. Assumes nothing.
 use Prim.Native.Nat.{ℕ, _+_, _*_}
-use mathlib.Core.Bool.{Bool, true, false, not, _&&_}
+use mathlib.Core.Bool.{not}
 use mathlib.Core.List.{List, [], _∷_, _++_, dropLast}
 use lib.Dec.{eqb, leb, ltb}
 use lib.ListN.{length, take, drop}
 use Rattle.answer.specs.Answer.{Refusal, first, outcome, accepted, exhaustedInput, full, empty, stale, tooLong, badJournal}
 use Rattle.bundle.specs.Bytes.{bytes}
 use Rattle.bundle.specs.Bundle.{longestCode, numberAt, findRefusals, halvesOf, whole}
-use Rattle.bundle.specs.declared.half.Halves.{Halves}
 use Rattle.form.specs.declared.Edit.{Edit}
 use Rattle.immediate.specs.Immediate.{changeRefusals, changedNumber}
-use Rattle.journal.specs.Journal.{limit, standing, journalOf, viewOf}
-use Rattle.journal.specs.declared.records.Record.{Record}
+use Rattle.record.specs.Record.{editRecord, sameHalves}
+use Rattle.record.specs.declared.Record.{Record}
+use Rattle.journal.specs.Journal.{standing, journalOf, viewOf}
 use Rattle.journal.specs.declared.records.Journal.{Journal}
 use Rattle.journal.specs.declared.records.View.{View}
 
@@ -33,29 +33,25 @@ pub record Outcome : Type 0 where
   pub journal : Journal
   pub code : List ℕ
 
--- when there is no room for a record, by what the journal shows
-abbrev pub roomRefusals : View → List Refusal
-roomRefusals view = (badJournal, not (view .valid)) ∷ (full, leb limit (view .count)) ∷ []
+-- when none of so many places is left for a record, by what the journal shows
+abbrev pub roomRefusals : ℕ → View → List Refusal
+roomRefusals places view = (badJournal, not (view .valid)) ∷ (full, leb places (view .count)) ∷ []
 
 -- when an edit is refused
-abbrev pub editRefusals : List ℕ → View → Edit → List Refusal
-editRefusals code view e = codeRefusals code e ++ roomRefusals view
+abbrev pub editRefusals : ℕ → List ℕ → View → Edit → List Refusal
+editRefusals places code view e = codeRefusals code e ++ roomRefusals places view
 
 -- the record of an edit
 abbrev pub recordOf : List ℕ → Edit → Record
-recordOf code e = let n = numberAt code (e .bundle) in record { bundle = e .bundle; old = halvesOf n; new = halvesOf (changedNumber n e) }
+recordOf code e = editRecord (numberAt code (e .bundle)) e
 
--- what `edit` comes to: one record more
-unfoldable pub editOf : List ℕ → Journal → Edit → Outcome
-editOf code journal e =
-    let answer = first (editRefusals code (viewOf journal) e) in
+-- what `edit` comes to with a journal of so many places: one record more
+unfoldable pub editOf : ℕ → List ℕ → Journal → Edit → Outcome
+editOf places code journal e =
+    let answer = first (editRefusals places code (viewOf places journal) e) in
     outcome answer
-    (record { answer = accepted; journal = journalOf (standing journal ++ (recordOf code e ∷ [])); code = made code e })
+    (record { answer = accepted; journal = journalOf places (standing journal ++ (recordOf code e ∷ [])); code = made code e })
     (record { answer = answer; journal = journal; code = code })
-
--- the same two halves
-abbrev pub sameHalves : Halves → Halves → Bool
-sameHalves a b = eqb (a .low) (b .low) && eqb (a .high) (b .high)
 
 -- when undoing is refused, by what the journal shows
 abbrev pub undoRefusals : List ℕ → View → List Refusal
@@ -69,11 +65,11 @@ undoRefusals code view =
     ∷ []
 
 -- what `undo` comes to: the last record's old bundle, and one record less
-unfoldable pub undoOf : List ℕ → Journal → Outcome
-undoOf code journal =
-    let view = viewOf journal in
+unfoldable pub undoOf : ℕ → List ℕ → Journal → Outcome
+undoOf places code journal =
+    let view = viewOf places journal in
     let last = view .last in
     let answer = first (undoRefusals code view) in
     outcome answer
-    (record { answer = accepted; journal = journalOf (dropLast (standing journal)); code = rewritten code (last .bundle) (whole (last .old)) })
+    (record { answer = accepted; journal = journalOf places (dropLast (standing journal)); code = rewritten code (last .bundle) (whole (last .old)) })
     (record { answer = answer; journal = journal; code = code })

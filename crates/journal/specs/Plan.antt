@@ -5,7 +5,8 @@ use mathlib.Core.List.{List}
 use Rattle.answer.specs.Answer.{first, outcome, accepted}
 use Rattle.bundle.specs.Bundle.{halvesOf, whole}
 use Rattle.form.specs.declared.Edit.{Edit}
-use Rattle.journal.specs.Journal.{noRecord, withRecord}
+use Rattle.record.specs.Record.{noRecord}
+use Rattle.journal.specs.Journal.{withRecord}
 use Rattle.journal.specs.Edit.{Outcome, rewritten, recordOf, editRefusals, undoRefusals}
 use Rattle.journal.specs.declared.records.Journal.{Journal}
 use Rattle.journal.specs.declared.records.View.{View}
@@ -15,10 +16,10 @@ use Rattle.journal.specs.declared.plan.Plan.{Plan}
 abbrev pub refusedPlan : ℕ → Plan
 refusedPlan answer = record { answer = answer; bundle = 0; halves = halvesOf 0; place = 0; kept = noRecord; count = 0 }
 
--- an edit keeps its record at the first free place
-unfoldable pub editPlanOf : List ℕ → View → Edit → Plan
-editPlanOf code view e =
-    let answer = first (editRefusals code view e) in
+-- an edit keeps its record at the first free one of so many places
+unfoldable pub editPlanOf : ℕ → List ℕ → View → Edit → Plan
+editPlanOf places code view e =
+    let answer = first (editRefusals places code view e) in
     let r = recordOf code e in
     outcome answer (record { answer = accepted; bundle = e .bundle; halves = r .new; place = view .count; kept = r; count = view .count + 1 }) (refusedPlan answer)
 

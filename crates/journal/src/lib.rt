@@ -5,12 +5,9 @@ mod records;
 pub use records::Edited;
 pub use records::Journal;
 pub use records::LIMIT;
-pub use records::NONE;
-pub use records::Record;
 pub use records::View;
 pub use records::empty;
 pub use records::journal_of;
-pub use records::may_stand;
 pub use records::places;
 pub use records::view_of;
 pub use records::with_record;
@@ -18,6 +15,7 @@ ghost use mathlib.Core.Path.{_≡_};
 ghost use Rattle.answer.specs.Answer.{accepted};
 ghost use Rattle.bundle.specs.Bundle.{findAnswer, whole};
 ghost use Rattle.journal.specs.Edit.{Outcome, rewritten, editOf, undoOf};
+ghost use Rattle.journal.specs.Journal.{limit};
 ghost use Rattle.journal.specs.Plan.{carriedOut};
 use answer::ACCEPTED;
 use bundle::Halves;
@@ -26,7 +24,7 @@ use plan::Plan;
 
 // Makes an edit, and records its bundle before and after.
 pub fn edit(code: &mut [u8], journal: Journal, edit: Edit) -> Edited
-    ensures { λ r. ⌜ _≡_ {A = Outcome} (record { answer = r .answer; journal = r .journal; code = now (code .exit) }) (editOf (now (code .entry)) journal edit) ⌝ }
+    ensures { λ r. ⌜ _≡_ {A = Outcome} (record { answer = r .answer; journal = r .journal; code = now (code .exit) }) (editOf limit (now (code .entry)) journal edit) ⌝ }
 {
     let plan = plan::edit_plan(code, view_of(journal), edit);
     carry_out(code, journal, plan)
@@ -34,7 +32,7 @@ pub fn edit(code: &mut [u8], journal: Journal, edit: Edit) -> Edited
 
 // Writes the last record's old bundle, and frees its place.
 pub fn undo(code: &mut [u8], journal: Journal) -> Edited
-    ensures { λ r. ⌜ _≡_ {A = Outcome} (record { answer = r .answer; journal = r .journal; code = now (code .exit) }) (undoOf (now (code .entry)) journal) ⌝ }
+    ensures { λ r. ⌜ _≡_ {A = Outcome} (record { answer = r .answer; journal = r .journal; code = now (code .exit) }) (undoOf limit (now (code .entry)) journal) ⌝ }
 {
     let plan = plan::undo_plan(code, view_of(journal));
     carry_out(code, journal, plan)

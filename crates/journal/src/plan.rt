@@ -1,11 +1,10 @@
 // What `edit` and `undo` decide, on values alone: nothing is written here.
 ghost use mathlib.Core.Path.{_≡_};
 ghost use Rattle.answer.specs.Answer.{first};
-ghost use Rattle.journal.specs.Edit.{sameHalves, roomRefusals, undoRefusals};
+ghost use Rattle.journal.specs.Edit.{roomRefusals, undoRefusals};
+ghost use Rattle.journal.specs.Journal.{limit};
 ghost use Rattle.journal.specs.Plan.{refusedPlan, editPlanOf, undoPlanOf};
 use crate::records::LIMIT;
-use crate::records::NONE;
-use crate::records::Record;
 use crate::records::View;
 use answer::ACCEPTED;
 use answer::BAD_JOURNAL;
@@ -16,6 +15,8 @@ use answer::STALE;
 use answer::TOO_LONG;
 use bundle::Halves;
 use form::Edit;
+use record::NONE;
+use record::Record;
 
 // The answer, the bundle to write, the record to keep and its place, and how many records stand then.
 pub struct Plan {
@@ -42,7 +43,7 @@ fn refused(answer: u8) -> Plan
 
 // An edit keeps its record at the first free place.
 pub fn edit_plan(code: &[u8], view: View, edit: Edit) -> Plan
-    ensures { λ r. ⌜ r ≡ editPlanOf (now (code .entry)) view edit ⌝ }
+    ensures { λ r. ⌜ r ≡ editPlanOf limit (now (code .entry)) view edit ⌝ }
 {
     let bundle = edit.bundle;
     let loaded = bundle::load(code, bundle);
@@ -62,19 +63,28 @@ pub fn edit_plan(code: &[u8], view: View, edit: Edit) -> Plan
         return refused(answer);
     }
     let new = changed.bundle;
+    let form = edit.form;
+    let value = edit.value;
     Plan {
         answer,
         bundle,
         halves: new,
         place: count,
-        kept: Record { bundle, old, new },
+        kept: Record {
+            bundle,
+            slot: edit.slot,
+            form,
+            value: operand::pattern_in(value),
+            old,
+            new,
+        },
         count: count + 1,
     }
 }
 
 // Why no record can be added.
 fn room_refusal(view: View) -> u8
-    ensures { λ r. ⌜ r ≡ first (roomRefusals view) ⌝ }
+    ensures { λ r. ⌜ r ≡ first (roomRefusals limit view) ⌝ }
 {
     if !view.valid {
         return BAD_JOURNAL;
@@ -126,17 +136,8 @@ fn undo_refusal(code: &[u8], view: View) -> u8
     }
     let present = loaded.halves;
     let new = last.new;
-    if !same(present, new) {
+    if !record::same_halves(present, new) {
         return STALE;
     }
     ACCEPTED
-}
-
-fn same(a: Halves, b: Halves) -> bool
-    ensures { λ r. ⌜ r ≡ sameHalves a b ⌝ }
-{
-    if a.low != b.low {
-        return false;
-    }
-    a.high == b.high
 }

@@ -4,22 +4,13 @@ ghost use mathlib.Core.List.{[]};
 ghost use Prim.Native.Nat.{_≤_};
 ghost use lib.ListN.{take};
 ghost use Rattle.answer.specs.Answer.{accepted};
-ghost use Rattle.journal.specs.Journal.{limit, isZero, isFree, mayStand, placeValid, journalOf, viewOf, withRecord};
+ghost use Rattle.journal.specs.Journal.{limit, placeValid, journalOf, viewOf, withRecord};
 use answer::ACCEPTED;
-use bundle::Halves;
+use record::NONE;
+use record::Record;
 
 // So many records may stand.
 pub const LIMIT: u64 = 64;
-
-// The highest number of a bundle.
-const HIGHEST: u64 = 4095;
-
-// A bundle's number, and the bundle before and after.
-pub struct Record {
-    pub bundle: u64,
-    pub old: Halves,
-    pub new: Halves,
-}
 
 // Only the functions of this file reach its records.
 pub struct Journal {
@@ -40,15 +31,8 @@ pub struct Edited {
     pub journal: Journal,
 }
 
-// What a free place holds.
-pub const NONE: Record = Record {
-    bundle: 0,
-    old: Halves { low: 0, high: 0 },
-    new: Halves { low: 0, high: 0 },
-};
-
 pub fn empty() -> Journal
-    ensures { λ r. ⌜ r ≡ journalOf [] ⌝ }
+    ensures { λ r. ⌜ r ≡ journalOf limit [] ⌝ }
 {
     Journal {
         count: 0,
@@ -67,7 +51,7 @@ pub fn places(journal: Journal) -> [Record; LIMIT as usize]
 // The journal of the first `count` of some records.
 pub fn journal_of(count: u64, mut records: [Record; LIMIT as usize]) -> Journal
     requires { ⌜ count ≤ limit ⌝ }
-    ensures { λ r. ⌜ r ≡ journalOf (take count records) ⌝ }
+    ensures { λ r. ⌜ r ≡ journalOf limit (take count records) ⌝ }
 {
     let mut place = count;
     while place < LIMIT {
@@ -91,44 +75,19 @@ pub fn with_record(mut journal: Journal, place: u64, one: Record, count: u64) ->
     }
 }
 
-fn is_zero(halves: Halves) -> bool
-    ensures { λ r. ⌜ r ≡ isZero halves ⌝ }
-{
-    if halves.low != 0 {
-        return false;
-    }
-    halves.high == 0
-}
-
-fn is_free(place: Record) -> bool
-    ensures { λ r. ⌜ r ≡ isFree place ⌝ }
-{
-    if place.bundle != 0 {
-        return false;
-    }
-    let old = place.old;
-    if !is_zero(old) {
-        return false;
-    }
-    let new = place.new;
-    is_zero(new)
-}
-
-pub fn may_stand(one: Record) -> bool
-    ensures { λ r. ⌜ r ≡ mayStand one ⌝ }
-{
-    one.bundle <= HIGHEST
-}
-
 fn place_valid(stands: bool, one: Record) -> bool
     ensures { λ r. ⌜ r ≡ placeValid stands one ⌝ }
 {
-    if stands { may_stand(one) } else { is_free(one) }
+    if stands {
+        record::may_stand(one)
+    } else {
+        record::is_free(one)
+    }
 }
 
 // Whether the count is at most the limit, the records that stand may, and the places past the count are free; and if so what is shown.
 pub fn view_of(journal: Journal) -> View
-    ensures { λ r. ⌜ r ≡ viewOf journal ⌝ }
+    ensures { λ r. ⌜ r ≡ viewOf limit journal ⌝ }
 {
     let count = journal.count;
     let mut valid = count <= LIMIT;

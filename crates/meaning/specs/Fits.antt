@@ -16,9 +16,9 @@ SignedFits unit w = (1 ≤ w) × (w < 64) × (1 ≤ unit) × (unit * 2 ^ (w - 1)
 abbrev pub ChosenFits : ℕ → ℕ → Type 0
 ChosenFits list w = (w ≤ 3) × ((j k : ℕ) → j < k → k < 2 ^ w → entry list j ≡ entry list k → ⊥)
 
--- no raw number of w bits is more than what it is taken from
+-- no raw number of w bits is more than what it is taken from, a number of 64 bits
 abbrev pub ComplementFits : ℕ → ℕ → Type 0
-ComplementFits top w = (1 ≤ w) × (w ≤ 64) × (2 ^ w ≤ top + 1)
+ComplementFits top w = (1 ≤ w) × (w ≤ 64) × (2 ^ w ≤ top + 1) × (top < 2 ^ 64)
 
 abbrev pub Fitting : Meaning → ℕ → Type 0
 Fitting None w = Unit {0}

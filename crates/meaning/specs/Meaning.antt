@@ -6,6 +6,7 @@ use lib.IntN.{ℤ, pos, negsuc}
 use Rattle.answer.specs.Answer.{accepted, badValue}
 use Rattle.bits.specs.Part.{part}
 use Rattle.operand.specs.Kind.{ofI64, ofU64}
+use Rattle.operand.specs.Pattern.{integerOf}
 use Rattle.operand.specs.declared.Operand.{Operand}
 use Rattle.operand.specs.declared.Operand.the-variants.{ImmI64, ImmU64}
 use Rattle.operand.specs.declared.Operand.the-variants.{None as NoOperand}
@@ -41,6 +42,19 @@ valueOf (Unsigned plus) w raw = ImmU64 (plus + raw)
 valueOf (Signed unit) w raw = ImmI64 (signedOf unit w raw)
 valueOf (Chosen signed list) w raw = entryValue signed (entry list raw)
 valueOf (Complement top) w raw = ImmU64 (top - raw)
+
+-- a 64-bit pattern as a value, with a sign or without
+abbrev pub patterned : Bool → ℕ → Operand
+patterned true p = ImmI64 (integerOf p)
+patterned false p = ImmU64 p
+
+-- the value with that pattern, of the kind that a meaning's values have
+abbrev pub operandFor : Meaning → ℕ → Operand
+operandFor None p = NoOperand
+operandFor (Unsigned plus) p = patterned false p
+operandFor (Signed unit) p = patterned true p
+operandFor (Chosen signed list) p = patterned signed p
+operandFor (Complement top) p = patterned false p
 
 -- a value's raw number, and the refusal of a value that has none
 abbrev pub Is : ℕ → Raw

@@ -2,7 +2,7 @@
 ghost use mathlib.Core.Path.{_≡_};
 ghost use Prim.Native.Nat.{_≤_, _<_, _^_};
 ghost use Rattle.operand.specs.Pattern.{patternOf};
-ghost use Rattle.meaning.specs.Meaning.{signedOf, valueOf, entry, entryValue, within, entryOf, placeIn, rawUp, rawDown, rawOf};
+ghost use Rattle.meaning.specs.Meaning.{signedOf, valueOf, entry, entryValue, patterned, operandFor, within, entryOf, placeIn, rawUp, rawDown, rawOf};
 ghost use Rattle.meaning.specs.Fits.{UnsignedFits, SignedFits, ChosenFits, ComplementFits, Fitting};
 use answer::ACCEPTED;
 use answer::BAD_VALUE;
@@ -71,6 +71,31 @@ pub fn displacement(unit: u64, width: u32, raw: u64) -> u64
 {
     let low = raw % (1 << (width - 1));
     std::num::wrapping_sub_u64(unit * low, unit * (raw - low))
+}
+
+// The value with a 64-bit pattern, of the kind that the meaning's values have.
+pub fn operand_for(meaning: Meaning, pattern: u64) -> Operand
+    ensures { λ r. ⌜ r ≡ operandFor meaning pattern ⌝ }
+{
+    match meaning {
+        Meaning::None => Operand::None,
+        Meaning::Unsigned(_) => Operand::ImmU64(pattern),
+        Meaning::Signed(_) => pattern_value(true, pattern),
+        Meaning::Chosen(signed, _) => pattern_value(signed, pattern),
+        Meaning::Complement(_) => Operand::ImmU64(pattern),
+    }
+}
+
+// A 64-bit pattern as a value.
+fn pattern_value(signed: bool, pattern: u64) -> Operand
+    ensures { λ r. ⌜ r ≡ patterned signed pattern ⌝ }
+{
+    if signed {
+        let integer = operand::integer(pattern);
+        Operand::ImmI64(integer)
+    } else {
+        Operand::ImmU64(pattern)
+    }
 }
 
 // The raw number of a value, or the refusal of a value that has none.

@@ -54,3 +54,8 @@ integer-pattern (negsuc n) f =
     let g : 2 ^ 63 ≤ 2 ^ 64 - suc n = omega arith in
     let e : 2 ^ 64 - suc (2 ^ 64 - suc n) ≡ n = omega arith in
     ap (λ (b : Bool). cond b (pos (2 ^ 64 - suc n)) (negsuc (2 ^ 64 - suc (2 ^ 64 - suc n)))) (le-ltb (2 ^ 64 - suc n) (2 ^ 63) g) ∙ ap negsuc e
+
+-- a pattern is one of 64 bits
+pub pattern-lt : (z : ℤ) → SFits w64 z → patternOf z < 2 ^ 64
+pattern-lt (pos n) f = let h : n < 2 ^ 63 = f .sfits in omega arith
+pattern-lt (negsuc n) f = omega arith

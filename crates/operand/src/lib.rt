@@ -3,6 +3,7 @@ mod twos;
 
 pub use twos::integer;
 pub use twos::pattern;
+pub use twos::pattern_in;
 ghost use mathlib.Core.Path.{_≡_};
 ghost use Rattle.operand.specs.Reading.{listed, one, unread};
 ghost use mathlib.Core.List.{[], _∷_};

@@ -141,16 +141,16 @@ fn count(command: u64) -> usize
     match command {
         SUM | RECORDS | UNDO | LOAD | REPORT | CLEAR => 0,
         GET => 2,
+        PLACE => 3,
         OPERANDS | IMMEDIATE | EDIT => 4,
         JOIN | TARGET => 5,
-        PLACE => 6,
         _ => 1,
     }
 }
 
 // Whether text follows the numbers.
 fn takes_text(command: u64) -> bool {
-    command == PUT || command == EDIT || command == LOAD || command == CLEAR
+    command == PUT || command == PLACE || command == EDIT || command == LOAD || command == CLEAR
 }
 
 fn word(out: &mut [u8], at: usize, command: u64) -> usize {
@@ -198,7 +198,7 @@ fn changed(command: u64, of: Six, rest: &[u8], code: &mut [u8], kept: &mut [u64]
     match command {
         PUT => put::answer(of.0, rest, code),
         JOURNAL => journals::answer(of.0, kept),
-        PLACE => place::answer(of, kept),
+        PLACE => place::answer(of, rest, kept),
         UNDO => undo::answer(code, kept),
         EDIT => edit::answer(of, rest, code, kept),
         LOAD => load::answer(rest, kept),

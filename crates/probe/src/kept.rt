@@ -1,12 +1,13 @@
-// What is kept between the lines: the journal's count, the five numbers of each of its places, and after them the report.
+// What is kept between the lines: the journal's count, the nine numbers of each of its places, and after them the report.
 use bundle::Halves;
+use form::Form;
 use journal::Edited;
 use journal::Journal;
-use journal::Record;
+use record::Record;
 use tally::NUMBERS;
 
 // Where the report's numbers begin, after the journal's.
-const REPORT: usize = 321;
+const REPORT: usize = 577;
 
 pub fn get(kept: &[u64], i: usize) -> u64 {
     if i < kept.len() { kept[i] } else { 0 }
@@ -18,11 +19,11 @@ pub fn set(kept: &mut [u64], i: usize, n: u64) {
     }
 }
 
-// Sets the five numbers from `at` on.
-pub fn set_place(kept: &mut [u64], at: usize, of: [u64; 5]) {
+// Sets the nine numbers from `at` on.
+pub fn set_place(kept: &mut [u64], at: usize, of: [u64; 9]) {
     let from = at % 1024;
     let mut i = 0;
-    while i < 5 {
+    while i < 9 {
         set(kept, from + i, of[i]);
         i += 1;
     }
@@ -60,25 +61,32 @@ pub fn journal(kept: &[u64]) -> Journal {
     let mut j = journal::empty();
     let mut i = 0;
     while i < journal::LIMIT {
-        let edited = journal::with_record(j, i, place(kept, i as usize * 5), count);
+        let edited = journal::with_record(j, i, place(kept, i as usize * 9), count);
         j = edited.journal;
         i += 1;
     }
     j
 }
 
-fn place(kept: &[u64], before: usize) -> Record {
+pub fn place(kept: &[u64], before: usize) -> Record {
     let at = before % 1024;
+    let form = Form {
+        family: get(kept, at + 3),
+        number: get(kept, at + 4),
+    };
     let old = Halves {
-        low: get(kept, at + 2),
-        high: get(kept, at + 3),
+        low: get(kept, at + 6),
+        high: get(kept, at + 7),
     };
     let new = Halves {
-        low: get(kept, at + 4),
-        high: get(kept, at + 5),
+        low: get(kept, at + 8),
+        high: get(kept, at + 9),
     };
     Record {
         bundle: get(kept, at + 1),
+        slot: get(kept, at + 2),
+        form,
+        value: get(kept, at + 5),
         old,
         new,
     }
@@ -97,13 +105,24 @@ fn set_journal(kept: &mut [u64], j: Journal) {
     let mut i = 0;
     while i < journal::LIMIT as usize {
         let one = records[i];
-        set_place(kept, i * 5 + 1, numbers(one));
+        set_place(kept, i * 9 + 1, numbers(one));
         i += 1;
     }
 }
 
-fn numbers(one: Record) -> [u64; 5] {
+pub fn numbers(one: Record) -> [u64; 9] {
+    let form = one.form;
     let old = one.old;
     let new = one.new;
-    [one.bundle, old.low, old.high, new.low, new.high]
+    [
+        one.bundle,
+        one.slot,
+        form.family,
+        form.number,
+        one.value,
+        old.low,
+        old.high,
+        new.low,
+        new.high,
+    ]
 }

@@ -22,7 +22,7 @@ fn code_room() -> [u8; 65600]
 fn main() {
     let mut text = room();
     let mut code = code_room();
-    let mut kept = [0u64; 321 + tally::NUMBERS];
+    let mut kept = [0u64; 577 + tally::NUMBERS];
     let mut out = room();
     session::run(&mut text, &mut code, &mut kept, &mut out);
 }

@@ -34,7 +34,7 @@ meant None w = true
 meant (Unsigned plus) w = leb 1 w && (leb w 64 && leb (plus + 2 ^ w) (2 ^ 64))
 meant (Signed unit) w = leb 1 w && (ltb w 64 && (leb 1 unit && leb (unit * 2 ^ (w - 1)) (2 ^ 63)))
 meant (Chosen signed list) w = leb w 3 && differ list (2 ^ w)
-meant (Complement top) w = leb 1 w && (leb w 64 && leb (2 ^ w) (top + 1))
+meant (Complement top) w = leb 1 w && (leb w 64 && (leb (2 ^ w) (top + 1) && ltb top (2 ^ 64)))
 
 all-three : (x y z : Bool) → T (x && (y && z)) → T x × T y × T z
 all-three x y z t =
@@ -42,20 +42,24 @@ all-three x y z t =
     let b = and-yes y z (a .1) in
     (a .0, b .0, b .1)
 
+all-four : (x y z u : Bool) → T (x && (y && (z && u))) → T x × T y × T z × T u
+all-four x y z u t =
+    let a = and-yes x (y && (z && u)) t in
+    let b = all-three y z u (a .1) in
+    (a .0, b .0, b .1, b .2)
+
 fits : (m : Meaning) (w : ℕ) → T (meant m w) → Fitting m w
 fits None w t = tt
 fits (Unsigned plus) w t =
     let a = all-three (leb 1 w) (leb w 64) (leb (plus + 2 ^ w) (2 ^ 64)) t in
     (leb→le _ _ (a .0), leb→le _ _ (a .1), leb→le _ _ (a .2))
 fits (Signed unit) w t =
-    let a = and-yes (leb 1 w) (ltb w 64 && (leb 1 unit && leb (unit * 2 ^ (w - 1)) (2 ^ 63))) t in
-    let b = and-yes (ltb w 64) (leb 1 unit && leb (unit * 2 ^ (w - 1)) (2 ^ 63)) (a .1) in
-    let c = and-yes (leb 1 unit) (leb (unit * 2 ^ (w - 1)) (2 ^ 63)) (b .1) in
-    (leb→le _ _ (a .0), ltb→lt _ _ (b .0), leb→le _ _ (c .0), leb→le _ _ (c .1))
+    let a = all-four (leb 1 w) (ltb w 64) (leb 1 unit) (leb (unit * 2 ^ (w - 1)) (2 ^ 63)) t in
+    (leb→le _ _ (a .0), ltb→lt _ _ (a .1), leb→le _ _ (a .2), leb→le _ _ (a .3))
 fits (Chosen signed list) w t = let a = and-yes (leb w 3) (differ list (2 ^ w)) t in (leb→le _ _ (a .0), differing list (2 ^ w) (a .1))
 fits (Complement top) w t =
-    let a = all-three (leb 1 w) (leb w 64) (leb (2 ^ w) (top + 1)) t in
-    (leb→le _ _ (a .0), leb→le _ _ (a .1), leb→le _ _ (a .2))
+    let a = all-four (leb 1 w) (leb w 64) (leb (2 ^ w) (top + 1)) (ltb top (2 ^ 64)) t in
+    (leb→le _ _ (a .0), leb→le _ _ (a .1), leb→le _ _ (a .2), ltb→lt _ _ (a .3))
 
 -- no two of its parts meet, in any slot that it can stand in: an X form's in slot 2 alone
 abbrev pub separateIn : ℕ → Row → Bool

@@ -1,50 +1,43 @@
 -- Demand 3 holds across sheets: a run's journal has a sheet, so the sheet that was just written from it loads as it. Assumes nothing.
 use mathlib.Core.Path.{_≡_, refl, sym, ap, ap₂, _∙_, subst}
-use mathlib.Core.Bool.{Bool, true, _&&_}
 use mathlib.Core.List.{List, [], _∷_, _++_}
 use mathlib.Core.Option.{Option, none, some, Option·some-injective, Option·none-ne-some}
-use Prim.Native.Nat.{ℕ, _≤_, _<_, _^_}
+use Prim.Native.Nat.{ℕ, _≤_}
 use native.Mathlib.Decide.{ℕ-discrete}
 use native.Mathlib.Omega.{arith}
-use lib.Dec.{T, leb→le}
+use lib.Dec.{T}
+use lib.Ieee.Bits.{is-true}
 use lib.ListN.{length, take, drop}
 use lib.Seq.{take-append-seam}
-use mir.Facts.{and-yes, yes-and}
 use Rattle.answer.specs.Answer.{accepted, first, outcome}
 use Rattle.answer.proofs.Laws.{accepts, refuses}
 use Rattle.bits.proofs.Laws.{part-lt}
 use Rattle.bundle.specs.Bundle.{longestCode}
 use Rattle.bundle.proofs.Bytes.{Bytes}
-use Rattle.form.specs.declared.Edit.{Edit}
-use Rattle.journal.specs.Journal.{highest, mayStand, all, standing, journalOf}
-use Rattle.journal.specs.Edit.{Outcome, recordOf, editOf, undoOf}
-use Rattle.journal.specs.Demand3.{Call, edit, undo, step, run, madeAll, standingEdits, recordsOf}
+use Rattle.journal.specs.Journal.{limit}
+use Rattle.journal.specs.Edit.{Outcome, editOf, undoOf}
+use Rattle.journal.specs.Demand3.{Call, edit, undo, step, run}
 use Rattle.journal.specs.declared.records.Edited.{Edited}
 use Rattle.journal.specs.declared.records.Journal.{Journal}
-use Rattle.journal.specs.declared.records.Record.{Record}
-use Rattle.journal.proofs.Run.{holds, run-valid}
-use Rattle.journal.proofs.Standing.{all-append, journal-stands, valid-stand}
+use Rattle.journal.proofs.Run.{OfEdits, holds, run-valid, run-all}
+use Rattle.record.specs.Record.{editRecord}
+use Rattle.record.proofs.Laws.{edit-slot, edit-form, edit-pattern}
 use Rattle.text.specs.Whole.{wroteOf, wholeRefusals}
 use Rattle.text.specs.declared.whole.Written.{Written}
-use Rattle.sheet.specs.RoundTrip.{isHeld, HasSheet}
-use Rattle.sheet.specs.Sheet.{numbersOf, sheetOf, writeRefusals}
+use Rattle.sheet.specs.RoundTrip.{isHeld, numbersOf, HasSheet}
+use Rattle.sheet.specs.Sheet.{tells, sheetOf, writeRefusals}
+use Rattle.sheet.specs.declared.line.Kind.the-variants.{Full}
 use Rattle.sheet.specs.Load.{loadOf}
-use Rattle.sheet.specs.Across.{SheetCall, call, write, load, State, sheetIn, loaded, next, runAcross, plain, HoldsAcross, Demand3Across}
+use Rattle.sheet.specs.Across.{SheetCall, call, write, load, sheetIn, loaded, runAcross, plain, Demand3Across}
 use Rattle.sheet.proofs.Held.{are-words}
 use Rattle.sheet.proofs.Inverse.{load-written}
 
--- the code holds the records of edits whose bundles may stand
-records-held : (code : List ℕ) (es : List Edit) → T (all mayStand (recordsOf code es)) → T (all isHeld (recordsOf code es))
-records-held code [] t = tt
-records-held code (e ∷ es) t =
-    let rs = recordsOf code es in
-    let m = and-yes (all mayStand rs) (mayStand last && true) (subst T (all-append mayStand rs (last ∷ [])) t) in
-    let low = leb→le (e .bundle) highest (and-yes (mayStand last) true (m .1) .0) in
-    let held = are-words (numbersOf last) (omega (arith, low), (part-lt _ 0 64, (part-lt _ 64 64, (part-lt _ 0 64, (part-lt _ 64 64, tt))))) in
-    subst T (sym (all-append isHeld rs (last ∷ []))) (yes-and (all isHeld rs) (isHeld last && true) (records-held code es (m .0)) (yes-and (isHeld last) true held tt))
-  where
-    last : Record
-    last = recordOf (madeAll code es) e
+-- the records of edits that bundles take are of the code
+edits-held : OfEdits isHeld
+edits-held n e h low taken =
+    is-true (isHeld (editRecord n e))
+    (are-words (numbersOf (editRecord n e))
+    (omega (arith, low), (omega (arith, edit-slot n e taken), (omega (arith, edit-form n e taken .2), (edit-pattern n e taken, (part-lt _ 0 64, (part-lt _ 64 64, (part-lt _ 0 64, (part-lt _ 64 64, tt)))))))))
 
 -- the sheet in an output is the one that was written
 sheet-in : (j : Journal) (out text : List ℕ) → sheetIn (wroteOf (writeRefusals j) (sheetOf j) out) ≡ some text → text ≡ sheetOf j
@@ -66,33 +59,30 @@ sheet-in j out text = go (ℕ-discrete a accepted)
     go (no d) q = absurd (Option·none-ne-some text (sym (ap sheetIn (refuses a done refused d) ∙ refuses a _ none d) ∙ q))
 
 record Reached (code : List ℕ) (calls : List SheetCall) : Type 0 where
-  codes : runAcross code calls .after .code ≡ run code (plain calls) .code
-  journals : runAcross code calls .after .journal ≡ run code (plain calls) .journal
-  sheets : (text : List ℕ) → runAcross code calls .sheet ≡ some text → text ≡ sheetOf (run code (plain calls) .journal)
+  codes : runAcross code calls .after .code ≡ run limit code (plain calls) .code
+  journals : runAcross code calls .after .journal ≡ run limit code (plain calls) .journal
+  sheets : (text : List ℕ) → runAcross code calls .sheet ≡ some text → text ≡ sheetOf (run limit code (plain calls) .journal)
 
 -- a call comes to the same from the same code and journal
-same-step : (s t : Outcome) → s .code ≡ t .code → s .journal ≡ t .journal → (c : Call) → step s c ≡ step t c
-same-step s t p q (edit e) = ap₂ (λ (code : List ℕ) (journal : Journal). editOf code journal e) p q
-same-step s t p q undo = ap₂ undoOf p q
+same-step : (s t : Outcome) → s .code ≡ t .code → s .journal ≡ t .journal → (c : Call) → step limit s c ≡ step limit t c
+same-step s t p q (edit e) = ap₂ (λ (code : List ℕ) (journal : Journal). editOf limit code journal e) p q
+same-step s t p q undo = ap₂ (undoOf limit) p q
 
 module _ (code : List ℕ) (b : Bytes code) (short : length code ≤ longestCode) where
-  run-sheet : (calls : List Call) → HasSheet (run code calls .journal)
+  run-sheet : (calls : List Call) → HasSheet Full (run limit code calls .journal)
   run-sheet calls =
-      let valid = run-valid code b short calls in
-      let stand = ap standing (holds code b short calls .journal-is) ∙ journal-stands (recordsOf code (standingEdits code calls)) in
       record {
-        valid = valid;
-        held =
-            subst (λ (rs : List Record). T (all isHeld rs)) (sym stand)
-            (records-held code (standingEdits code calls) (subst (λ (rs : List Record). T (all mayStand rs)) stand (valid-stand _ valid)));
+        valid = run-valid limit code b short calls;
+        held = subst T (sym (run-all limit code b short isHeld edits-held calls)) tt;
+        told = subst T (sym (run-all limit code b short (tells Full) (λ n e h low taken. refl) calls)) tt;
       }
 
   -- loading the sheet of the run's journal gives that journal
   loads-own : (calls : List SheetCall) → Reached code calls → (text : List ℕ) → runAcross code calls .sheet ≡ some text
-      → (given : Journal) → loadOf given text ≡ record { answer = accepted; journal = run code (plain calls) .journal }
+      → (given : Journal) → loadOf given text ≡ record { answer = accepted; journal = run limit code (plain calls) .journal }
   loads-own calls r text e given =
       ap (loadOf given) (r .sheets text e)
-      ∙ load-written given (run code (plain calls) .journal) (run-sheet (plain calls))
+      ∙ load-written Full given (run limit code (plain calls) .journal) (run-sheet (plain calls))
 
   after-load : (calls : List SheetCall) → Reached code calls → Reached code (load ∷ calls)
   after-load calls r =
@@ -105,11 +95,11 @@ module _ (code : List ℕ) (b : Bytes code) (short : length code ≤ longestCode
       o : Outcome
       o = runAcross code calls .after
 
-      codes-of : (sheet : Option (List ℕ)) → loaded o sheet .code ≡ run code (plain calls) .code
+      codes-of : (sheet : Option (List ℕ)) → loaded o sheet .code ≡ run limit code (plain calls) .code
       codes-of none = r .codes
       codes-of (some text) = r .codes
 
-      journals-of : (sheet : Option (List ℕ)) → runAcross code calls .sheet ≡ sheet → loaded o sheet .journal ≡ run code (plain calls) .journal
+      journals-of : (sheet : Option (List ℕ)) → runAcross code calls .sheet ≡ sheet → loaded o sheet .journal ≡ run limit code (plain calls) .journal
       journals-of none e = r .journals
       journals-of (some text) e = ap (λ (l : Edited). l .journal) (loads-own calls r text e (o .journal))
 
@@ -117,7 +107,7 @@ module _ (code : List ℕ) (b : Bytes code) (short : length code ≤ longestCode
   reached [] = record { codes = refl; journals = refl; sheets = λ text e. absurd (Option·none-ne-some text e) }
   reached (call c ∷ calls) =
       let r = reached calls in
-      let same = same-step (runAcross code calls .after) (run code (plain calls)) (r .codes) (r .journals) c in
+      let same = same-step (runAcross code calls .after) (run limit code (plain calls)) (r .codes) (r .journals) c in
       record {
         codes = ap (λ (o : Outcome). o .code) same;
         journals = ap (λ (o : Outcome). o .journal) same;
@@ -138,9 +128,9 @@ demand-3-across code b short calls =
     record {
       code-is = r .codes;
       journal-is = r .journals;
-      answers = λ c. ap (λ (o : Outcome). o .answer) (same-step (runAcross code calls .after) (run code (plain calls)) (r .codes) (r .journals) c);
+      answers = λ c. ap (λ (o : Outcome). o .answer) (same-step (runAcross code calls .after) (run limit code (plain calls)) (r .codes) (r .journals) c);
       loads = λ text e.
           ap (λ (sheet : Option (List ℕ)). loaded (runAcross code calls .after) sheet .answer) e
           ∙ ap (λ (l : Edited). l .answer) (loads-own code b short calls r text e (runAcross code calls .after .journal));
-      holds = holds code b short (plain calls);
+      holds = holds limit code b short (plain calls);
     }

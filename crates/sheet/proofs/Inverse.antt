@@ -9,38 +9,43 @@ use native.Mathlib.Omega.{arith}
 use native.Mathlib.Decide.{decLt, ℕ-discrete}
 use lib.Dec.{T}
 use lib.Ieee.Bits.{is-true}
-use lib.ListN.{length, take, drop, take-append-drop}
+use lib.ListN.{length, drop}
 use lib.Seq.{drop-length}
 use mir.Facts.{and-yes, yes-and}
 use borrow.Author.Tests.{eq-eqb, ne-eqb, le-leb, lt-leb}
 use Rattle.answer.specs.Answer.{accepted, badSheet}
-use Rattle.journal.specs.Journal.{limit, mayStand, all, standing, journalOf, validOf}
+use Rattle.journal.specs.Journal.{limit, all, standing, journalOf}
 use Rattle.journal.specs.declared.records.Journal.{Journal}
-use Rattle.journal.specs.declared.records.Record.{Record}
 use Rattle.journal.proofs.Standing.{journal-stands, journal-valid, valid-is-journal, valid-few, valid-stand}
+use Rattle.record.specs.Record.{mayStand}
+use Rattle.record.specs.declared.Record.{Record}
 use Rattle.table.specs.Ascii.{ascii}
 use Rattle.text.specs.Ascii.{newline, startsWith}
 use Rattle.text.specs.Decimal.{decimal}
 use Rattle.text.specs.declared.number.Number.{Number}
 use Rattle.text.specs.declared.number.Number.the-variants.{Read, Refused}
-use Rattle.text.proofs.RoundTrip.{field-read, field-back}
+use Rattle.text.proofs.RoundTrip.{starts-is, field-read, field-back}
 use Rattle.text.proofs.Stands.{Stands, stands-then, stands-parts}
 use Rattle.sheet.specs.declared.line.Line.{Line}
 use Rattle.sheet.specs.declared.line.Line.the-variants as line
 use Rattle.sheet.specs.RoundTrip.{isHeld, HasSheet, LoadsWritten, LoadsOnlyWritten, RefusesOther}
-use Rattle.sheet.specs.Load.{lineAt, recordsAt, headOf, recordsIn, answerOf, loadOf}
-use Rattle.sheet.specs.Sheet.{lineOf, linesOf, headerOf, sheetOf}
+use Rattle.sheet.specs.Load.{lineAt, recordsAt, headOf, recordsAs, orElse, recordsIn, answerOf, loadOf}
+use Rattle.sheet.specs.Sheet.{lineAs, tells, linesAs, headerOf, sheetAs}
+use Rattle.sheet.specs.declared.line.Kind.{Kind}
+use Rattle.sheet.specs.declared.line.Kind.the-variants.{Full, Old}
 use Rattle.sheet.proofs.Lines.{line-back, line-read}
+use Rattle.sheet.proofs.OneKind.{one-kind}
 
 -- the lines of some records are read as those records
-records-back : (text : List ℕ) (rs : List Record) (at : ℕ) → T (all mayStand rs) → T (all isHeld rs) → Stands text at (linesOf rs) (length text) → recordsAt text at (length rs) ≡ some rs
+records-back : (kind : Kind) (text : List ℕ) (rs : List Record) (at : ℕ) → T (all mayStand rs) → T (all isHeld rs) → T (all (tells kind) rs) → Stands text at (linesAs kind rs) (length text) → recordsAt kind text at (length rs) ≡ some rs
 unfolding recordsAt
-records-back text [] at m h s = rw (eq-eqb at (length text) (omega (arith, s .place)))
-records-back text (r ∷ rs) at m h s =
+records-back kind text [] at m h t s = rw (eq-eqb at (length text) (omega (arith, s .place)))
+records-back kind text (r ∷ rs) at m h t s =
     let a = and-yes (mayStand r) (all mayStand rs) m in
     let b = and-yes (isHeld r) (all isHeld rs) h in
-    let t = stands-parts (lineOf r) s in
-    rw (line-back text at _ r (a .0) (b .0) (t .0), records-back text rs (at + length (lineOf r)) (a .1) (b .1) (t .1))
+    let c = and-yes (tells kind r) (all (tells kind) rs) t in
+    let p = stands-parts (lineAs kind r) s in
+    rw (line-back text at r _ kind (a .0) (b .0) (c .0) (p .0), records-back kind text rs (at + length (lineAs kind r)) (a .1) (b .1) (c .1) (p .1))
 
 whole-stands : (text : List ℕ) → Stands text 0 text (length text)
 whole-stands text = record { found = sym (ap (λ (l : List ℕ). text ++ l) (drop-length text) ∙ append-nil text); place = omega arith }
@@ -64,59 +69,54 @@ begun text count rest few e =
     let starts : startsWith (ascii "patches\t") text ≡ true = ap (startsWith (ascii "patches\t")) e ∙ decide-iff (List-discrete ℕ-discrete (ascii "patches\t") (ascii "patches\t")) .1 refl in
     record { at = 8 + length (counted count); head = rw starts (field-back text 8 10 count _ refl (omega arith) (q .0)); lines = q .1 }
 
-pub load-written : LoadsWritten
-unfolding loadOf recordsIn sheetOf
-load-written given j s =
+sheet-back : (kind : Kind) (j : Journal) → HasSheet kind j → recordsAs kind (sheetAs kind j) ≡ some (standing j)
+unfolding recordsAs sheetAs
+sheet-back kind j s =
     let rs = standing j in
-    let few = valid-few j (s .valid) in
-    let b = begun (sheetOf j) (length rs) (linesOf rs) few refl in
-    rw (b .head, le-leb (length rs) limit few, records-back (sheetOf j) rs (b .at) (valid-stand j (s .valid)) (s .held) (b .lines))
-    (ap (λ (i : Journal). record { answer = accepted; journal = i }) (valid-is-journal j (s .valid)))
+    let few = valid-few limit j (s .valid) in
+    let b = begun (sheetAs kind j) (length rs) (linesAs kind rs) few refl in
+    rw (b .head, le-leb (length rs) limit few, records-back kind (sheetAs kind j) rs (b .at) (valid-stand limit j (s .valid)) (s .held) (s .told) (b .lines))
 
 -- what was read from a place on
-record RecordsRead (text : List ℕ) (at left : ℕ) (rs : List Record) : Type 0 where
+record RecordsRead (kind : Kind) (text : List ℕ) (at left : ℕ) (rs : List Record) : Type 0 where
   long : length rs ≡ left
   stand : T (all mayStand rs)
   held : T (all isHeld rs)
-  lines : Stands text at (linesOf rs) (length text)
+  told : T (all (tells kind) rs)
+  lines : Stands text at (linesAs kind rs) (length text)
 
 -- the line at a place, and what comes after it
-line-then : (text : List ℕ) (at left : ℕ) (rs : List Record)
-    → ((next : ℕ) (qs : List Record) → recordsAt text next left ≡ some qs → RecordsRead text next left qs)
-    → (m : Line) → lineAt text at ≡ m → recordsAt text at (suc left) ≡ some rs → RecordsRead text at (suc left) rs
+line-then : (kind : Kind) (text : List ℕ) (at left : ℕ) (rs : List Record)
+    → ((next : ℕ) (qs : List Record) → recordsAt kind text next left ≡ some qs → RecordsRead kind text next left qs)
+    → (m : Line) → lineAt kind text at ≡ m → recordsAt kind text at (suc left) ≡ some rs → RecordsRead kind text at (suc left) rs
 unfolding recordsAt
-line-then text at left rs more line.Refused e f = absurd (Option·none-ne-some rs (rw e at f))
-line-then text at left rs more (line.Read r next) e f = go (recordsAt text next left) refl (rw e at f)
+line-then kind text at left rs more line.Refused e f = absurd (Option·none-ne-some rs (rw e at f))
+line-then kind text at left rs more (line.Read r next) e f = go (recordsAt kind text next left) refl (rw e at f)
   where
-    go : (o : Option (List Record)) → recordsAt text next left ≡ o → Option·map (λ (qs : List Record). r ∷ qs) o ≡ some rs → RecordsRead text at (suc left) rs
+    go : (o : Option (List Record)) → recordsAt kind text next left ≡ o → Option·map (λ (qs : List Record). r ∷ qs) o ≡ some rs → RecordsRead kind text at (suc left) rs
     go none q g = absurd (Option·none-ne-some rs g)
     go (some qs) q g =
         let on = more next qs q in
-        let read = line-read text at r next e in
-        subst (RecordsRead text at (suc left)) (Option·some-injective (r ∷ qs) rs g)
+        let read = line-read text at r next kind e in
+        subst (RecordsRead kind text at (suc left)) (Option·some-injective (r ∷ qs) rs g)
         (record {
           long = ap suc (on .long);
-          stand = yes-and (mayStand r) (all mayStand qs) (read .may) (on .stand);
-          held = yes-and (isHeld r) (all isHeld qs) (read .held) (on .held);
-          lines = stands-then (read .stands) (on .lines);
+          stand = yes-and (mayStand r) (all mayStand qs) (read .0) (on .stand);
+          held = yes-and (isHeld r) (all isHeld qs) (read .1 .held) (on .held);
+          told = yes-and (tells kind r) (all (tells kind) qs) (read .1 .told) (on .told);
+          lines = stands-then (read .1 .stands) (on .lines);
         })
 
-records-read : (text : List ℕ) (left at : ℕ) (rs : List Record) → recordsAt text at left ≡ some rs → RecordsRead text at left rs
+records-read : (kind : Kind) (text : List ℕ) (left at : ℕ) (rs : List Record) → recordsAt kind text at left ≡ some rs → RecordsRead kind text at left rs
 unfolding recordsAt
-records-read text zero at rs f =
+records-read kind text zero at rs f =
     elim (ℕ-discrete at (length text)) [
       | yes e ↦
-          subst (RecordsRead text at zero) (Option·some-injective [] rs (rw (eq-eqb at (length text) e) at f))
-          (record { long = refl; stand = tt; held = tt; lines = record { found = ap (λ (k : ℕ). drop k text) e; place = omega (arith, e) } })
+          subst (RecordsRead kind text at zero) (Option·some-injective [] rs (rw (eq-eqb at (length text) e) at f))
+          (record { long = refl; stand = tt; held = tt; told = tt; lines = record { found = ap (λ (k : ℕ). drop k text) e; place = omega (arith, e) } })
       | no d ↦ absurd (Option·none-ne-some rs (rw (ne-eqb at (length text) d) at f))
     ]
-records-read text (suc left) at rs f = line-then text at left rs (records-read text left) (lineAt text at) refl f
-
--- a text begins with some bytes where it says so
-starts-is : (start text : List ℕ) → startsWith start text ≡ true → text ≡ start ++ drop (length start) text
-starts-is start text e =
-    let t : take (length start) text ≡ start = decide-iff (List-discrete ℕ-discrete (take (length start) text) start) .0 e in
-    sym (take-append-drop (length start) text) ∙ ap (λ (l : List ℕ). l ++ drop (length start) text) t
+records-read kind text (suc left) at rs f = line-then kind text at left rs (records-read kind text left) (lineAt kind text at) refl f
 
 -- the first line that was read
 record Headed (text : List ℕ) (count at : ℕ) : Type 0 where
@@ -132,39 +132,90 @@ headed text count at e = go (startsWith (ascii "patches\t") text) refl
     go true s = record { starts = starts-is (ascii "patches\t") text s; counts = field-read text 8 10 count at (rw s at e) .piece }
 
 -- a text that was read is the sheet of the journal of what was read
-is-sheet : (text : List ℕ) (count at : ℕ) → count ≤ limit → Headed text count at → (rs : List Record) → RecordsRead text at count rs → HasSheet (journalOf rs) × (text ≡ sheetOf (journalOf rs))
-unfolding sheetOf
-is-sheet text count at few h rs r =
-    let stand = journal-stands rs in
-    let lines : drop at text ≡ linesOf rs = r .lines .found ∙ ap (λ (l : List ℕ). linesOf rs ++ l) (drop-length text) ∙ append-nil (linesOf rs) in (
+abbrev IsSheet : Kind → List ℕ → Journal → Type 0
+IsSheet kind text j = HasSheet kind j × (text ≡ sheetAs kind j)
+
+is-sheet : (kind : Kind) (text : List ℕ) (count at : ℕ) → count ≤ limit → Headed text count at → (rs : List Record) → RecordsRead kind text at count rs → IsSheet kind text (journalOf limit rs)
+unfolding sheetAs
+is-sheet kind text count at few h rs r =
+    let stand = journal-stands limit rs in
+    let lines : drop at text ≡ linesAs kind rs = r .lines .found ∙ ap (λ (l : List ℕ). linesAs kind rs ++ l) (drop-length text) ∙ append-nil (linesAs kind rs) in (
       record {
-        valid = journal-valid rs ∙ rw (le-leb (length rs) limit (omega (arith, r .long)), is-true (all mayStand rs) (r .stand));
+        valid = journal-valid limit rs ∙ rw (le-leb (length rs) limit (omega (arith, r .long)), is-true (all mayStand rs) (r .stand));
         held = subst (λ (qs : List Record). T (all isHeld qs)) (sym stand) (r .held);
+        told = subst (λ (qs : List Record). T (all (tells kind) qs)) (sym stand) (r .told);
       },
       h .starts
           ∙ ap (λ (l : List ℕ). ascii "patches\t" ++ l) (h .counts .found ∙ ap (λ (l : List ℕ). counted count ++ l) lines)
-          ∙ ap (λ (n : ℕ). headerOf n ++ linesOf rs) (sym (r .long))
-          ∙ ap (λ (qs : List Record). headerOf (length qs) ++ linesOf qs) (sym stand),
+          ∙ ap (λ (n : ℕ). headerOf n ++ linesAs kind rs) (sym (r .long))
+          ∙ ap (λ (qs : List Record). headerOf (length qs) ++ linesAs kind qs) (sym stand),
     )
 
-records-sheet : (text : List ℕ) (rs : List Record) (m : Number) → headOf text ≡ m → recordsIn text ≡ some rs → HasSheet (journalOf rs) × (text ≡ sheetOf (journalOf rs))
-unfolding recordsIn
-records-sheet text rs Refused e f = absurd (Option·none-ne-some rs (rw e at f))
-records-sheet text rs (Read count at) e f =
-    elim (decLt limit count) [
-      | yes h ↦ absurd (Option·none-ne-some rs (rw (e, lt-leb count limit h) at f))
-      | no h ↦
-          let few : count ≤ limit = omega arith in
-          is-sheet text count at few (headed text count at e) rs (records-read text count at rs (rw (e, le-leb count limit few) at f))
-    ]
+-- what reading in lines of a kind came to
+record Gave (kind : Kind) (text : List ℕ) (rs : List Record) : Type 0 where
+  count : ℕ
+  at : ℕ
+  few : count ≤ limit
+  head : headOf text ≡ Read count at
+  lines : recordsAt kind text at count ≡ some rs
+
+gave : (kind : Kind) (text : List ℕ) (rs : List Record) → recordsAs kind text ≡ some rs → Gave kind text rs
+unfolding recordsAs
+gave kind text rs = go (headOf text) refl
+  where
+    go : (m : Number) → headOf text ≡ m → recordsAs kind text ≡ some rs → Gave kind text rs
+    go Refused e f = absurd (Option·none-ne-some rs (rw e at f))
+    go (Read count at) e f =
+        elim (decLt limit count) [
+          | yes h ↦ absurd (Option·none-ne-some rs (rw (e, lt-leb count limit h) at f))
+          | no h ↦
+              let few : count ≤ limit = omega arith in
+              record { count = count; at = at; few = few; head = e; lines = rw (e, le-leb count limit few) at f }
+        ]
+
+records-sheet : (kind : Kind) (text : List ℕ) (rs : List Record) → recordsAs kind text ≡ some rs → IsSheet kind text (journalOf limit rs)
+records-sheet kind text rs f =
+    let g = gave kind text rs f in
+    is-sheet kind text (g .count) (g .at) (g .few) (headed text (g .count) (g .at) (g .head)) rs (records-read kind text (g .count) (g .at) rs (g .lines))
+
+-- what a sheet gives, by its kind
+both : (text : List ℕ) (rs qs : List Record) → recordsAs Full text ≡ some rs → recordsAs Old text ≡ some qs → rs ≡ qs
+both text rs qs f g =
+    let a = gave Full text rs f in
+    let b = gave Old text qs g in
+    let e : Read (b .count) (b .at) ≡ Read (a .count) (a .at) = sym (b .head) ∙ a .head in
+    let n : b .count ≡ a .count = cc in
+    let p : b .at ≡ a .at = cc in
+    one-kind text (a .at) (a .count) rs qs (a .lines) (subst (λ (k : ℕ). recordsAt Old text k (a .count) ≡ some qs) p (subst (λ (k : ℕ). recordsAt Old text (b .at) k ≡ some qs) n (b .lines)))
+
+given-as : (kind : Kind) (text : List ℕ) (rs : List Record) → recordsAs kind text ≡ some rs → recordsIn text ≡ some rs
+given-as Full text rs e = rw e
+given-as Old text rs e = go (recordsAs Full text) refl
+  where
+    go : (o : Option (List Record)) → recordsAs Full text ≡ o → orElse o (recordsAs Old text) ≡ some rs
+    go none q = e
+    go (some qs) q = ap some (both text qs rs q e)
+
+of-kind : (text : List ℕ) (rs : List Record) → recordsIn text ≡ some rs → (kind : Kind) × IsSheet kind text (journalOf limit rs)
+of-kind text rs = go (recordsAs Full text) refl
+  where
+    go : (o : Option (List Record)) → recordsAs Full text ≡ o → orElse o (recordsAs Old text) ≡ some rs → (kind : Kind) × IsSheet kind text (journalOf limit rs)
+    go none q e = (Old, records-sheet Old text rs e)
+    go (some qs) q e = (Full, records-sheet Full text rs (q ∙ e))
+
+pub load-written : LoadsWritten
+unfolding loadOf
+load-written kind given j s =
+    ap (answerOf given) (given-as kind (sheetAs kind j) (standing j) (sheet-back kind j s))
+    ∙ ap (λ (i : Journal). record { answer = accepted; journal = i }) (valid-is-journal limit j (s .valid))
 
 pub load-only-written : LoadsOnlyWritten
 unfolding loadOf
 load-only-written given text e = go (recordsIn text) refl e
   where
-    go : (o : Option (List Record)) → recordsIn text ≡ o → answerOf given o .answer ≡ accepted → HasSheet (answerOf given o .journal) × (text ≡ sheetOf (answerOf given o .journal))
+    go : (o : Option (List Record)) → recordsIn text ≡ o → answerOf given o .answer ≡ accepted → (kind : Kind) × HasSheet kind (answerOf given o .journal) × (text ≡ sheetAs kind (answerOf given o .journal))
     go none q e = absurd (omega (arith, e))
-    go (some rs) q e = records-sheet text rs (headOf text) refl q
+    go (some rs) q e = let s = of-kind text rs q in (s .0, s .1 .0, s .1 .1)
 
 pub refuses-other : RefusesOther
 unfolding loadOf
@@ -172,4 +223,4 @@ refuses-other given text none-is = go (recordsIn text) refl
   where
     go : (o : Option (List Record)) → recordsIn text ≡ o → answerOf given o ≡ record { answer = badSheet; journal = given }
     go none q = refl
-    go (some rs) q = let s = records-sheet text rs (headOf text) refl q in absurd (none-is (journalOf rs) (s .0) (s .1))
+    go (some rs) q = let s = of-kind text rs q in absurd (none-is (s .0) (journalOf limit rs) (s .1 .0) (s .1 .1))

@@ -1,54 +1,88 @@
--- How long a sheet can be: a bundle number has at most 4 digits and a half at most 20, so a line has at most 89 bytes, and a valid
--- journal has at most `limit` of them. Assumes nothing.
-use mathlib.Core.Path.{_≡_, ap, _∙_}
+-- How long a sheet can be: a bundle number has at most 4 digits, a slot 1, a form's name 3 characters, a value and a half at most 20
+-- digits, so a line has at most 116 bytes, and a valid journal has at most `limit` of them. Assumes nothing.
+use mathlib.Core.Path.{_≡_, refl, sym, ap, _∙_, subst}
+use mathlib.Core.Bool.{Bool, true}
 use mathlib.Core.List.{List, [], _∷_}
+use mathlib.Core.Logic.{_⊎_, inl, inr}
 use Prim.Native.Nat.{ℕ, zero, suc, _+_, _-_, _*_, _/_, _^_, _≤_, _<_}
 use native.Mathlib.Nat.{le-antisymm}
 use native.Mathlib.Omega.{arith}
 use native.Mathlib.Decide.{decLt}
-use lib.Dec.{T, leb→le}
-use lib.ListN.{length, drop, replicate, length-append, length-replicate}
-use mir.Facts.{and-yes}
-use Rattle.journal.specs.Journal.{limit, highest, mayStand, all, standing, journalOf}
-use Rattle.journal.specs.declared.records.Record.{Record}
-use Rattle.journal.proofs.Standing.{journal-stands, valid-few, valid-stand}
+use lib.Dec.{T, leb, leb→le}
+use lib.Ieee.Bits.{is-true}
+use lib.ListN.{length, replicate, length-append, length-replicate}
+use borrow.Author.Tests.{le-leb}
+use mir.Facts.{and-yes, yes-and}
+use Rattle.answer.specs.Answer.{accepted, first}
+use Rattle.bits.specs.Part.{put}
+use Rattle.bits.specs.Parts.{gather, scatter}
+use Rattle.bundle.specs.Bundle.{whole}
+use Rattle.bundle.specs.Bytes.{number}
+use Rattle.bundle.specs.Template.{unitsOf}
+use Rattle.form.specs.Form.{noForm, m}
+use Rattle.form.specs.declared.Form.{Form}
+use Rattle.immediate.specs.Immediate.{changeRefusals, changedOf}
+use Rattle.journal.specs.Journal.{limit, all, standing}
+use Rattle.journal.proofs.Standing.{journal-stands, journal-valid, valid-few, valid-stand}
+use Rattle.name.specs.Name.{nameOf}
+use Rattle.name.proofs.Names.{letter-name, other-name}
+use Rattle.record.specs.Record.{highest, isWhole, told, passes, mayStand}
+use Rattle.record.specs.declared.Record.{Record}
+use Rattle.record.proofs.Laws.{whole-is, passes-by, passes-form, edit-slot}
+use Rattle.row.specs.Row.{lines, rowOf}
 use Rattle.text.specs.Decimal.{decimal}
-use Rattle.text.specs.Fields.{fields}
 use Rattle.text.proofs.Numerals.{decimal-one, decimal-more, decimal-length}
-use Rattle.text.proofs.RoundTrip.{Words}
-use Rattle.sheet.specs.RoundTrip.{isHeld, AtMost, longest, LongestHas}
-use Rattle.sheet.specs.Sheet.{numbersOf, ends, lineOf, linesOf}
+use Rattle.sheet.specs.declared.line.Kind.the-variants.{Full}
+use Rattle.sheet.specs.RoundTrip.{isHeld, numbersOf, AtMost, longestRecord, longest, LongestHas}
+use Rattle.sheet.specs.Sheet.{lineAs, tells, linesAs}
 use Rattle.sheet.proofs.Held.{words}
 use Rattle.sheet.proofs.Sheets.{line-length, sheet-length}
 
-fields-most : (ns ends : List ℕ) → Words ns → length (fields ns ends) ≤ 21 * length ns
-fields-most [] ends w = omega arith
-fields-most (n ∷ ns) [] w = omega arith
-fields-most (n ∷ ns) (e ∷ ends) w =
-    omega (arith, length-append (decimal n) (e ∷ fields ns ends), decimal-length 19 n (omega (arith, w .0)), fields-most ns ends (w .1))
+-- a record that may stand has a slot of one digit, and its form's name is short
+may-slot : (r : Record) → T (mayStand r) → r .slot < 10
+may-slot r m = by (passes-by r (is-true (passes r) (and-yes (leb (r .bundle) highest) (passes r) m .1)))
+  where
+    by : (isWhole r ≡ true) ⊎ (first (changeRefusals (whole (r .old)) (told r)) ≡ accepted) → r .slot < 10
+    by (inl w) = omega (arith, ap (λ (q : Record). q .slot) (whole-is r (subst T (sym w) tt)))
+    by (inr t) = omega (arith, edit-slot (whole (r .old)) (told r) t)
 
-line-most : (r : Record) → T (mayStand r) → T (isHeld r) → length (lineOf r) ≤ 89
-unfolding lineOf
+may-name : (r : Record) → T (mayStand r) → length (nameOf (r .form)) ≤ 3
+may-name r m = by (passes-form r (is-true (passes r) (and-yes (leb (r .bundle) highest) (passes r) m .1)))
+  where
+    by : (r .form ≡ noForm) ⊎ ((65 ≤ r .form .family) × (r .form .family ≤ 90) × (r .form .number ≤ 48)) → length (nameOf (r .form)) ≤ 3
+    by (inl e) = omega (arith, ap (λ (f : Form). length (nameOf f)) e, ap length (other-name noForm refl))
+    by (inr b) =
+        let l = letter-name (r .form) (rw (le-leb 65 (r .form .family) (b .0), le-leb (r .form .family) 90 (b .1))) in
+        omega (arith, ap length l, decimal-length 1 (r .form .number) (omega (arith, b .2)))
+
+line-most : (r : Record) → T (mayStand r) → T (isHeld r) → length (lineAs Full r) ≤ 116
 line-most r m h =
-    let halves = fields (drop 1 (numbersOf r)) (drop 1 ends) in
+    let near = leb→le (r .bundle) highest (and-yes (leb (r .bundle) highest) (passes r) m .0) in
+    let w = words (numbersOf r) h .1 .1 .1 in
     omega (
       arith,
-      length-append (decimal (r .bundle)) (9 ∷ halves),
-      decimal-length 3 (r .bundle) (omega (arith, leb→le (r .bundle) highest m)),
-      fields-most (drop 1 (numbersOf r)) (drop 1 ends) (words (numbersOf r) h .1),
+      line-length r,
+      decimal-length 3 (r .bundle) (omega (arith, near)),
+      decimal-length 0 (r .slot) (may-slot r m),
+      may-name r m,
+      decimal-length 19 (r .value) (omega (arith, w .0)),
+      decimal-length 19 (r .old .low) (omega (arith, w .1 .0)),
+      decimal-length 19 (r .old .high) (omega (arith, w .1 .1 .0)),
+      decimal-length 19 (r .new .low) (omega (arith, w .1 .1 .1 .0)),
+      decimal-length 19 (r .new .high) (omega (arith, w .1 .1 .1 .1 .0)),
     )
 
-lines-most : (rs : List Record) → T (all mayStand rs) → T (all isHeld rs) → length (linesOf rs) ≤ 89 * length rs
+lines-most : (rs : List Record) → T (all mayStand rs) → T (all isHeld rs) → length (linesAs Full rs) ≤ 116 * length rs
 lines-most [] m h = omega arith
 lines-most (r ∷ rs) m h =
     let a = and-yes (mayStand r) (all mayStand rs) m in
     let b = and-yes (isHeld r) (all isHeld rs) h in
-    omega (arith, length-append (lineOf r) (linesOf rs), line-most r (a .0) (b .0), lines-most rs (a .1) (b .1))
+    omega (arith, length-append (lineAs Full r) (linesAs Full rs), line-most r (a .0) (b .0), lines-most rs (a .1) (b .1))
 
 pub sheet-most : AtMost
 sheet-most j s =
-    let few = valid-few j (s .valid) in
-    omega (arith, few, sheet-length j, decimal-length 1 (length (standing j)) (omega (arith, few)), lines-most (standing j) (valid-stand j (s .valid)) (s .held))
+    let few = valid-few limit j (s .valid) in
+    omega (arith, few, sheet-length Full j, decimal-length 1 (length (standing j)) (omega (arith, few)), lines-most (standing j) (valid-stand limit j (s .valid)) (s .held))
 
 -- a number of 10 ^ k or more has more than k digits
 digits-least : (k n : ℕ) → 10 ^ k ≤ n → suc k ≤ length (decimal n)
@@ -66,17 +100,53 @@ digits-least (suc k) n h =
     pow-some zero = omega arith
     pow-some (suc k) = omega (arith, pow-some k)
 
-lines-copies : (n : ℕ) (r : Record) → length (linesOf (replicate n r)) ≡ n * length (lineOf r)
+lines-copies : (n : ℕ) (r : Record) → length (linesAs Full (replicate n r)) ≡ n * length (lineAs Full r)
 lines-copies zero r = omega arith
-lines-copies (suc n) r = length-append (lineOf r) (linesOf (replicate n r)) ∙ omega (arith, lines-copies n r)
+lines-copies (suc n) r = length-append (lineAs Full r) (linesAs Full (replicate n r)) ∙ omega (arith, lines-copies n r)
+
+all-copies : (test : Record → Bool) (n : ℕ) (r : Record) → T (test r) → T (all test (replicate n r))
+all-copies test zero r t = tt
+all-copies test (suc n) r t = yes-and (test r) (all test (replicate n r)) t (all-copies test n r t)
+
+-- a number of k + 1 digits
+sized : (k n : ℕ) → 10 ^ k ≤ n → n < 10 ^ suc k → length (decimal n) ≡ suc k
+sized k n low high = le-antisymm (decimal-length k n high) (digits-least k n low)
+
+-- the longest record passes: its edit is made
+longest-passes : passes longestRecord ≡ true
+unfolding passes changedOf rowOf lines unitsOf number put gather scatter
+longest-passes = refl
+
+longest-stands : T (mayStand longestRecord)
+longest-stands = yes-and (leb highest highest) (passes longestRecord) tt (subst T (sym longest-passes) tt)
 
 -- and so many it can be
 pub longest-has : LongestHas
 longest-has =
-    let half : length (decimal (2 ^ 64 - 1)) ≡ 20 = le-antisymm (decimal-length 19 (2 ^ 64 - 1) (omega arith)) (digits-least 19 (2 ^ 64 - 1) (omega arith)) in
-    let near : length (decimal highest) ≡ 4 = le-antisymm (decimal-length 3 highest (omega arith)) (digits-least 3 highest (omega arith)) in
-    let count : length (decimal limit) ≡ 2 = le-antisymm (decimal-length 1 limit (omega arith)) (digits-least 1 limit (omega arith)) in
-    let r : Record = record { bundle = highest; old = record { low = 2 ^ 64 - 1; high = 2 ^ 64 - 1 }; new = record { low = 2 ^ 64 - 1; high = 2 ^ 64 - 1 } } in
-    sheet-length longest
-    ∙ ap (λ (rs : List Record). length (decimal (length rs)) + 9 + length (linesOf rs)) (journal-stands (replicate limit r))
-    ∙ omega (arith, lines-copies limit r, line-length r, half, near, count)
+    let stand = journal-stands limit (replicate limit longestRecord) in
+    let all-so : (test : Record → Bool) → T (test longestRecord) → T (all test (standing longest)) =
+    λ test t. subst (λ (rs : List Record). T (all test rs)) (sym stand) (all-copies test limit longestRecord t) in
+    let may = is-true (all mayStand (replicate limit longestRecord)) (all-copies mayStand limit longestRecord longest-stands) in
+    let few : leb (length (replicate limit longestRecord)) limit ≡ true = le-leb (length (replicate limit longestRecord)) limit (omega (arith, length-replicate limit longestRecord)) in (
+      record {
+        valid = journal-valid limit (replicate limit longestRecord) ∙ rw (few, may);
+        held = all-so isHeld tt;
+        told = all-so (tells Full) tt;
+      },
+      sheet-length Full longest
+          ∙ ap (λ (rs : List Record). length (decimal (length rs)) + 9 + length (linesAs Full rs)) stand
+          ∙ omega (
+            arith,
+            ap (λ (n : ℕ). length (decimal n)) (length-replicate limit longestRecord),
+            sized 1 limit (omega arith) (omega arith),
+            lines-copies limit longestRecord,
+            line-length longestRecord,
+            sized 3 highest (omega arith) (omega arith),
+            ap length (decimal-one 0 (omega arith)),
+            ap length (letter-name (m 22) refl),
+            sized 1 22 (omega arith) (omega arith),
+            sized 19 (2 ^ 64 - 16) (omega arith) (omega arith),
+            sized 19 (2 ^ 64 - 32) (omega arith) (omega arith),
+            sized 19 (2 ^ 64 - 1) (omega arith) (omega arith),
+          ),
+    )

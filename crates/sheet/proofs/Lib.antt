@@ -1,8 +1,11 @@
 pub mod Across
+pub mod Found
 pub mod Held
 pub mod Inverse
 pub mod Lengths
 pub mod Lines
+pub mod Old
+pub mod OneKind
 pub mod Owned
 pub mod Reading
 pub mod Sheets

@@ -1,27 +1,39 @@
--- A record's line is read where it stands, and what is read stands there: what text's fields do, for the numbers of a record.
--- Assumes nothing.
-use mathlib.Core.Path.{_≡_, refl, sym, ap, _∙_, subst}
+-- A record's line is read where it stands, and what is read stands there: what text's fields and names do, for a record, a kind of line at
+-- a time. Assumes nothing.
+use mathlib.Core.Path.{_≡_, refl, sym, ap, ap₂, _∙_, subst}
 use mathlib.Core.Bool.{Bool, true, false, cond}
-use mathlib.Core.List.{List, [], _∷_}
+use mathlib.Core.List.{List, [], _∷_, _++_, append-assoc}
+use mathlib.Core.Logic.{_⊎_, inl, inr}
 use mathlib.Core.Option.{Option, none, some}
 use Prim.Native.Nat.{ℕ, zero, suc, _+_, _≤_}
 use native.Mathlib.Omega.{arith}
-use lib.Dec.{T}
+use lib.Dec.{T, leb}
 use lib.Ieee.Bits.{is-true}
-use lib.ListN.{length, getD, take, drop, replicate}
-use lib.Seq.{drop-cons, sets, length-sets, take-all}
-use Rattle.journal.specs.Journal.{mayStand}
-use Rattle.journal.specs.declared.records.Record.{Record}
-use Rattle.text.specs.Fields.{fields, fieldsAt, readTo, fieldsOf}
-use Rattle.text.specs.declared.fields.Fields.{Fields}
+use lib.ListN.{length, getD, take, drop}
+use lib.Seq.{append-snoc, drop-cons, take-all}
+use borrow.Author.Tests.{le-leb}
+use mir.Facts.{and-yes}
+use Rattle.form.specs.Form.{noForm}
+use Rattle.form.specs.declared.Form.{Form}
+use Rattle.name.specs.Name.{nameOf, hasName, afterName, namedAt}
+use Rattle.name.specs.declared.Name.{Name}
+use Rattle.name.specs.declared.Name.the-variants as name
+use Rattle.name.proofs.Names.{named-read, named-back}
+use Rattle.record.specs.Record.{highest, isWhole, passes, mayStand}
+use Rattle.record.specs.declared.Record.{Record}
+use Rattle.record.proofs.Laws.{whole-is, passes-form}
+use Rattle.text.specs.Ascii.{tab}
+use Rattle.text.specs.Decimal.{decimal}
+use Rattle.text.specs.Fields.{fields, fieldsAt}
 use Rattle.text.proofs.RoundTrip.{Words, fields-read, fields-back}
-use Rattle.text.proofs.Stands.{Stands}
-use Rattle.text.proofs.Writing.{written-front}
-use Rattle.sheet.specs.declared.line.Line.the-variants.{Read, Refused}
+use Rattle.text.proofs.Stands.{Stands, stands-then, stands-parts}
+use Rattle.sheet.specs.declared.line.Kind.{Kind}
+use Rattle.sheet.specs.declared.line.Kind.the-variants.{Full, Old}
 use Rattle.sheet.specs.declared.line.Line.{Line}
-use Rattle.sheet.specs.Load.{recordFrom, lineFrom, lineAt}
-use Rattle.sheet.specs.RoundTrip.{isHeld}
-use Rattle.sheet.specs.Sheet.{numbersOf, ends, lineOf}
+use Rattle.sheet.specs.declared.line.Line.the-variants.{Read, Refused}
+use Rattle.sheet.specs.Load.{frontEnds, ends, afterFields, fullRecord, oldRecord, readAs, tested, lineAt}
+use Rattle.sheet.specs.RoundTrip.{isHeld, numbersOf}
+use Rattle.sheet.specs.Sheet.{lineAs, tells}
 use Rattle.sheet.proofs.Held.{words, are-words}
 
 -- the k numbers from place i on, one by one
@@ -33,61 +45,162 @@ from-is : (k i : ℕ) (ns : List ℕ) → i + k ≤ length ns → from k i ns �
 from-is zero i ns h = refl
 from-is (suc k) i ns h = rw (drop-cons ns i 0 (omega arith)) (ap (λ (l : List ℕ). getD ns i 0 ∷ l) (from-is k (suc i) ns (omega arith)))
 
--- a record has the numbers that it was made from
-numbers-from : (ns : List ℕ) → length ns ≡ length ends → numbersOf (recordFrom ns) ≡ ns
-numbers-from ns e = from-is (length ends) 0 ns (omega (arith, e)) ∙ take-all (length ends) ns (omega (arith, e))
+-- as many as there are
+all-of : (k : ℕ) (ns : List ℕ) → length ns ≡ k → from k 0 ns ≡ ns
+all-of k ns e = from-is k 0 ns (omega (arith, e)) ∙ take-all k ns (omega (arith, e))
 
--- and so where they stand in an array of eight
-numbers-stored : (ns : List ℕ) → length ns ≡ length ends → numbersOf (recordFrom (sets (replicate 8 0) 0 ns)) ≡ ns
-numbers-stored ns e =
-    let of = sets (replicate 8 0) 0 ns in
-    from-is (length ends) 0 of (omega (arith, length-sets (replicate 8 0) 0 ns))
-    ∙ ap (λ (k : ℕ). take k of) (sym e)
-    ∙ written-front (replicate 8 0) ns (omega (arith, e))
+-- a line's first two numbers, and the five at its end
+abbrev pub frontOf : Record → List ℕ
+frontOf r = r .bundle ∷ r .slot ∷ []
 
--- a line, by what reading its fields answers
-abbrev pub lineBy : Fields → Line
-lineBy f = cond (f .read) (lineFrom (some (f .of, f .next))) Refused
+abbrev pub tailOf : ℕ → Record → List ℕ
+tailOf n r = n ∷ r .old .low ∷ r .old .high ∷ r .new .low ∷ r .new .high ∷ []
 
-pub line-is : (text : List ℕ) (at : ℕ) → lineBy (fieldsOf text at ends) ≡ lineAt text at
-unfolding lineAt fieldsOf
-line-is text at = go (fieldsAt text at ends) refl
+-- a full line is its first two numbers, its form and its five last numbers; an old one is those with its bundle
+pub full-line : (r : Record) → fields (frontOf r) frontEnds ++ ((nameOf (r .form) ++ (tab ∷ [])) ++ fields (tailOf (r .value) r) ends) ≡ lineAs Full r
+unfolding lineAs
+full-line r =
+    append-assoc (decimal (r .bundle)) (9 ∷ (decimal (r .slot) ++ (9 ∷ []))) _
+    ∙ ap (λ (l : List ℕ). decimal (r .bundle) ++ (9 ∷ l))
+    (append-snoc (decimal (r .slot)) 9 _ ∙ ap (λ (l : List ℕ). decimal (r .slot) ++ (9 ∷ l)) (append-snoc (nameOf (r .form)) 9 _))
+
+pub old-line : (r : Record) → fields (tailOf (r .bundle) r) ends ≡ lineAs Old r
+unfolding lineAs
+old-line r = refl
+
+-- a record that may stand has a form that its name tells
+pub may-named : (r : Record) → T (mayStand r) → hasName (r .form) ≡ true
+may-named r m = by (passes-form r (is-true (passes r) (and-yes (leb (r .bundle) highest) (passes r) m .1)))
   where
-    go : (o : Option (List ℕ × ℕ)) → fieldsAt text at ends ≡ o → lineBy (readTo (replicate 8 0) 0 o) ≡ lineFrom o
-    go none e = refl
-    go (some r) e = ap (λ (ns : List ℕ). lineFrom (some (ns, r .1))) (numbers-stored (r .0) (fields-read text ends at (r .0) (r .1) e .count))
+    by : (r .form ≡ noForm) ⊎ ((65 ≤ r .form .family) × (r .form .family ≤ 90) × (r .form .number ≤ 48)) → hasName (r .form) ≡ true
+    by (inl e) = ap hasName e
+    by (inr b) = rw (le-leb 65 (r .form .family) (b .0), le-leb (r .form .family) 90 (b .1))
 
--- read where it stands
-pub line-back : (text : List ℕ) (at next : ℕ) (r : Record) → T (mayStand r) → T (isHeld r) → Stands text at (lineOf r) next → lineAt text at ≡ Read r next
-unfolding lineAt lineOf
-line-back text at next r m h s =
-    rw (fields-back text ends (numbersOf r) at next (refl, (refl, (refl, (refl, (refl, tt))))) (record { count = refl; words = words (numbersOf r) h; piece = s }), is-true (mayStand r) m)
-
--- what is read stands there
-pub record LineRead (text : List ℕ) (at : ℕ) (r : Record) (next : ℕ) : Type 0 where
-  pub stands : Stands text at (lineOf r) next
-  pub may : T (mayStand r)
+-- what is read stands there, and such a line tells all of it
+pub record LineRead (kind : Kind) (text : List ℕ) (at : ℕ) (r : Record) (next : ℕ) : Type 0 where
+  pub stands : Stands text at (lineAs kind r) next
   pub held : T (isHeld r)
+  pub told : T (tells kind r)
 
-no-line : {r : Record} {next : ℕ} → Refused ≡ Read r next → ⊥
+-- a full line is read in three parts
+pub record FullRead (text : List ℕ) (at : ℕ) (r : Record) (next : ℕ) : Type 0 where
+  pub front : List ℕ
+  pub second : ℕ
+  pub form : Form
+  pub third : ℕ
+  pub numbers : List ℕ
+  pub last : ℕ
+  pub first : fieldsAt text at frontEnds ≡ some (front, second)
+  pub named : namedAt text second tab ≡ name.Read form third
+  pub rest : fieldsAt text third ends ≡ some (numbers, last)
+  pub is : Read (fullRecord front form numbers) last ≡ Read r next
+
+pub no-line : {r : Record} {next : ℕ} → Refused ≡ Read r next → ⊥
 no-line e = let z : _≡_ {A = ℕ} 0 1 = cc in omega arith
 
 module _ (text : List ℕ) (at : ℕ) (r : Record) (next : ℕ) where
-  line-stands : (ns : List ℕ) (last : ℕ) → fieldsAt text at ends ≡ some (ns, last) → (t : Bool) → mayStand (recordFrom ns) ≡ t → cond t (Read (recordFrom ns) last) Refused ≡ Read r next → LineRead text at r next
-  unfolding lineOf
-  line-stands ns last e false m f = absurd (no-line f)
-  line-stands ns last e true m f =
-      let v : recordFrom ns ≡ r = cc in
-      let p : last ≡ next = cc in
-      let s = fields-read text ends at ns last e in
-      let numbers = numbers-from ns (s .count) in
+  old-read : (o : Option (List ℕ × ℕ)) → fieldsAt text at ends ≡ o → readAs Old text at ≡ Read r next → LineRead Old text at r next
+  unfolding readAs
+  old-read none e f = absurd (no-line (rw e at f))
+  old-read (some q) e f =
+      let g : Read (oldRecord (q .0)) (q .1) ≡ Read r next = rw e at f in
+      let v : oldRecord (q .0) ≡ r = cc in
+      let p : q .1 ≡ next = cc in
+      let s = fields-read text ends at (q .0) (q .1) e in
+      let same = sym (all-of 5 (q .0) (s .count)) in
+      let w = subst Words same (s .words) in
       rw (← v, ← p)
-      (record { stands = subst (λ (ms : List ℕ). Stands text at (fields ms ends) last) (sym numbers) (s .piece); may = subst T (sym m) tt; held = are-words (numbersOf (recordFrom ns)) (subst Words (sym numbers) (s .words)) })
+      (record {
+        stands = subst (λ (l : List ℕ). Stands text at l (q .1)) (ap (λ (ms : List ℕ). fields ms ends) same ∙ old-line (oldRecord (q .0))) (s .piece);
+        held = are-words (numbersOf (oldRecord (q .0))) (w .0, (omega arith, (omega arith, (omega arith, w .1))));
+        told = tt;
+      })
 
-  pub line-read : lineAt text at ≡ Read r next → LineRead text at r next
-  unfolding lineAt
-  line-read = go (fieldsAt text at ends) refl
+  full-stands : FullRead text at r next → LineRead Full text at r next
+  full-stands f =
+      let one = fullRecord (f .front) (f .form) (f .numbers) in
+      let v : one ≡ r = cc (f .is) in
+      let p : f .last ≡ next = cc (f .is) in
+      let s = fields-read text frontEnds at (f .front) (f .second) (f .first) in
+      let t = named-read text (f .second) tab (f .form) (f .third) (f .named) in
+      let u = fields-read text ends (f .third) (f .numbers) (f .last) (f .rest) in
+      let fronts = sym (all-of 2 (f .front) (s .count)) in
+      let tails = sym (all-of 5 (f .numbers) (u .count)) in
+      let w = subst Words fronts (s .words) in
+      rw (← v, ← p)
+      (record {
+        stands =
+            subst (λ (l : List ℕ). Stands text at l (f .last))
+            (ap₂ (λ (ms ks : List ℕ). fields ms frontEnds ++ ((nameOf (f .form) ++ (tab ∷ [])) ++ fields ks ends)) fronts tails ∙ full-line one)
+            (stands-then (s .piece) (stands-then (stands-then (t .name .piece) (t .byte)) (u .piece)));
+        held = are-words (numbersOf one) (w .0, (w .1 .0, (t .name .below, subst Words tails (u .words))));
+        told = tt;
+      })
+
+  pub full-read : readAs Full text at ≡ Read r next → FullRead text at r next
+  unfolding readAs
+  full-read = by-front (fieldsAt text at frontEnds) refl
     where
-      go : (o : Option (List ℕ × ℕ)) → fieldsAt text at ends ≡ o → lineFrom o ≡ Read r next → LineRead text at r next
-      go none e f = absurd (no-line f)
-      go (some q) e f = line-stands (q .0) (q .1) e (mayStand (recordFrom (q .0))) refl f
+      by-tail : (front : List ℕ) (a : ℕ) → fieldsAt text at frontEnds ≡ some (front, a) → (form : Form) (b : ℕ) → namedAt text a tab ≡ name.Read form b
+          → (o : Option (List ℕ × ℕ)) → fieldsAt text b ends ≡ o → afterFields o (λ ns next. Read (fullRecord front form ns) next) Refused ≡ Read r next → FullRead text at r next
+      by-tail front a e form b n none t f = absurd (no-line f)
+      by-tail front a e form b n (some u) t f =
+          record { front = front; second = a; form = form; third = b; numbers = u .0; last = u .1; first = e; named = n; rest = t; is = f }
+
+      by-name : (front : List ℕ) (a : ℕ) → fieldsAt text at frontEnds ≡ some (front, a) → (m : Name) → namedAt text a tab ≡ m
+          → afterName m (λ form next. afterFields (fieldsAt text next ends) (λ ns next. Read (fullRecord front form ns) next) Refused) Refused ≡ Read r next → FullRead text at r next
+      by-name front a e name.Refused n f = absurd (no-line f)
+      by-name front a e (name.Read form b) n f = by-tail front a e form b n (fieldsAt text b ends) refl f
+
+      by-front : (o : Option (List ℕ × ℕ)) → fieldsAt text at frontEnds ≡ o → readAs Full text at ≡ Read r next → FullRead text at r next
+      by-front none e f = absurd (no-line (rw e at f))
+      by-front (some q) e f = by-name (q .0) (q .1) e (namedAt text (q .1) tab) refl (rw e at f)
+
+  read-stands : (kind : Kind) → readAs kind text at ≡ Read r next → LineRead kind text at r next
+  read-stands Full f = full-stands (full-read f)
+  read-stands Old f = old-read (fieldsAt text at ends) refl f
+
+  -- what stands there is read
+  full-back : T (mayStand r) → T (isHeld r) → Stands text at (lineAs Full r) next → readAs Full text at ≡ Read r next
+  unfolding readAs
+  full-back m h s =
+      let w = words (numbersOf r) h in
+      let p = stands-parts (fields (frontOf r) frontEnds) (subst (λ (l : List ℕ). Stands text at l next) (sym (full-line r)) s) in
+      let q = stands-parts (nameOf (r .form) ++ (tab ∷ [])) (p .1) in
+      let t = stands-parts (nameOf (r .form)) (q .0) in
+      rw (
+        fields-back text frontEnds (frontOf r) at _ (refl, (refl, tt)) (record { count = refl; words = (w .0, (w .1 .0, tt)); piece = p .0 }),
+        named-back text _ tab (r .form) _ refl (record { middle = _; name = record { named = may-named r m; below = w .1 .1 .0; piece = t .0 }; byte = t .1 }),
+        fields-back text ends (tailOf (r .value) r) _ next (refl, (refl, (refl, (refl, (refl, tt))))) (record { count = refl; words = w .1 .1 .1; piece = q .1 }),
+      )
+
+  old-back : T (isWhole r) → T (isHeld r) → Stands text at (lineAs Old r) next → readAs Old text at ≡ Read r next
+  unfolding readAs
+  old-back t h s =
+      let w = words (numbersOf r) h in
+      rw (fields-back text ends (tailOf (r .bundle) r) at next (refl, (refl, (refl, (refl, (refl, tt))))) (record { count = refl; words = (w .0, w .1 .1 .1 .1); piece = subst (λ (l : List ℕ). Stands text at l next) (sym (old-line r)) s }))
+      (ap (λ (q : Record). Read q next) (sym (whole-is r t)))
+
+  read-back : (kind : Kind) → T (mayStand r) → T (isHeld r) → T (tells kind r) → Stands text at (lineAs kind r) next → readAs kind text at ≡ Read r next
+  read-back Full m h t s = full-back m h s
+  read-back Old m h t s = old-back t h s
+
+  -- and so of lines whose records may stand
+  pub line-taken : (kind : Kind) → lineAt kind text at ≡ Read r next → T (mayStand r) × (readAs kind text at ≡ Read r next)
+  unfolding lineAt
+  line-taken kind = go (readAs kind text at) refl
+    where
+      by-test : (q : Record) (last : ℕ) → readAs kind text at ≡ Read q last → (t : Bool) → mayStand q ≡ t → cond t (Read q last) Refused ≡ Read r next → T (mayStand r) × (readAs kind text at ≡ Read r next)
+      by-test q last e false m f = absurd (no-line f)
+      by-test q last e true m f = let v : q ≡ r = cc in (subst T (sym m ∙ ap mayStand v) tt, e ∙ f)
+
+      go : (m : Line) → readAs kind text at ≡ m → tested m ≡ Read r next → T (mayStand r) × (readAs kind text at ≡ Read r next)
+      go Refused e f = absurd (no-line f)
+      go (Read q last) e f = by-test q last e (mayStand q) refl f
+
+  pub line-read : (kind : Kind) → lineAt kind text at ≡ Read r next → T (mayStand r) × LineRead kind text at r next
+  line-read kind e = let t = line-taken kind e in (t .0, read-stands kind (t .1))
+
+  pub line-back : (kind : Kind) → T (mayStand r) → T (isHeld r) → T (tells kind r) → Stands text at (lineAs kind r) next → lineAt kind text at ≡ Read r next
+  unfolding lineAt
+  line-back kind m h t s = rw (read-back kind m h t s, is-true (mayStand r) m)

@@ -5,11 +5,10 @@ use mir.Facts.{yes-and}
 use mir.Val.{Val}
 use denote.Array.{each}
 use denote.Shadow.{shadow}
-use Rattle.journal.proofs.records.Record.{the-field}
 use Rattle.journal.specs.Journal.{all}
-use Rattle.journal.specs.declared.records.Record.{Record}
-use Rattle.sheet.specs.RoundTrip.{isHeld}
-use Rattle.sheet.specs.Sheet.{numbersOf}
+use Rattle.record.proofs.Record.{the-field}
+use Rattle.record.specs.declared.Record.{Record}
+use Rattle.sheet.specs.RoundTrip.{isHeld, numbersOf}
 use Rattle.sheet.proofs.Held.{are-words}
 
 pub owned : (rs : List Record) (us : List Val) → shadow (each (the-field .row .Denot) (the-field .row .own) (map (the-field .into) rs) us) → T (all isHeld rs)
@@ -17,8 +16,10 @@ owned [] us p = tt
 owned (r ∷ rs) [] p = absurd p
 owned (r ∷ rs) (u ∷ us) p =
     let numbers = p .0 .1 .1 in
-    let old = numbers .1 .0 .1 .1 in
-    let new = numbers .1 .1 .0 .1 .1 in
+    let form = numbers .1 .1 .0 .1 .1 in
+    let value = numbers .1 .1 .1 in
+    let old = value .1 .0 .1 .1 in
+    let new = value .1 .1 .0 .1 .1 in
     yes-and (isHeld r) (all isHeld rs)
-    (are-words (numbersOf r) (numbers .0 .1, (old .0 .1, (old .1 .0 .1, (new .0 .1, (new .1 .0 .1, tt))))))
+    (are-words (numbersOf r) (numbers .0 .1, (numbers .1 .0 .1, (form .1 .0 .1, (value .0 .1, (old .0 .1, (old .1 .0 .1, (new .0 .1, (new .1 .0 .1, tt)))))))))
     (owned rs us (p .1))

@@ -6,31 +6,36 @@ use native.Mathlib.Numerals.{add-one}
 use native.Mathlib.Omega.{arith}
 use lib.ListN.{length, getD, take, length-append}
 use lib.Seq.{take-suc}
-use Rattle.journal.specs.Journal.{noRecord, standing}
+use Rattle.journal.specs.Journal.{standing}
 use Rattle.journal.specs.declared.records.Journal.{Journal}
-use Rattle.journal.specs.declared.records.Record.{Record}
+use Rattle.name.specs.Name.{nameOf}
+use Rattle.record.specs.Record.{noRecord}
+use Rattle.record.specs.declared.Record.{Record}
 use Rattle.text.specs.Decimal.{decimal}
-use Rattle.sheet.specs.Sheet.{lineOf, linesOf, headerOf, sheetOf}
+use Rattle.sheet.specs.Sheet.{lineAs, linesAs, headerOf, sheetAs}
+use Rattle.sheet.specs.declared.line.Kind.{Kind}
+use Rattle.sheet.specs.declared.line.Kind.the-variants.{Full}
 
-pub line-length : (r : Record) → length (lineOf r) ≡ length (decimal (r .bundle)) + suc (length (decimal (r .old .low)) + suc (length (decimal (r .old .high)) + suc (length (decimal (r .new .low)) + suc (length (decimal (r .new .high)) + 1))))
-unfolding lineOf
+pub line-length : (r : Record) → length (lineAs Full r) ≡ length (decimal (r .bundle)) + suc (length (decimal (r .slot)) + suc (length (nameOf (r .form)) + suc (length (decimal (r .value)) + suc (length (decimal (r .old .low)) + suc (length (decimal (r .old .high)) + suc (length (decimal (r .new .low)) + suc (length (decimal (r .new .high)) + 1)))))))
+unfolding lineAs
 line-length r = simp length-append
 
 pub header-length : (count : ℕ) → length (headerOf count) ≡ length (decimal count) + 9
 header-length count = omega (arith, length-append (decimal count) (10 ∷ []))
 
-pub lines-append : (rs qs : List Record) → linesOf (rs ++ qs) ≡ linesOf rs ++ linesOf qs
-lines-append [] qs = refl
-lines-append (r ∷ rs) qs = ap (λ (l : List ℕ). lineOf r ++ l) (lines-append rs qs) ∙ sym (append-assoc (lineOf r) (linesOf rs) (linesOf qs))
+module _ (kind : Kind) where
+  lines-append : (rs qs : List Record) → linesAs kind (rs ++ qs) ≡ linesAs kind rs ++ linesAs kind qs
+  lines-append [] qs = refl
+  lines-append (r ∷ rs) qs = ap (λ (l : List ℕ). lineAs kind r ++ l) (lines-append rs qs) ∙ sym (append-assoc (lineAs kind r) (linesAs kind rs) (linesAs kind qs))
 
--- one record more
-pub lines-more : (rs : List Record) (i : ℕ) → i < length rs → linesOf (take (i + 1) rs) ≡ linesOf (take i rs) ++ lineOf (getD rs i noRecord)
-lines-more rs i h =
-    ap (λ (n : ℕ). linesOf (take n rs)) (add-one i)
-    ∙ ap linesOf (take-suc rs i noRecord h)
-    ∙ lines-append (take i rs) (getD rs i noRecord ∷ [])
-    ∙ ap (λ (l : List ℕ). linesOf (take i rs) ++ l) (append-nil (lineOf (getD rs i noRecord)))
+  -- one record more
+  pub lines-more : (rs : List Record) (i : ℕ) → i < length rs → linesAs kind (take (i + 1) rs) ≡ linesAs kind (take i rs) ++ lineAs kind (getD rs i noRecord)
+  lines-more rs i h =
+      ap (λ (n : ℕ). linesAs kind (take n rs)) (add-one i)
+      ∙ ap (linesAs kind) (take-suc rs i noRecord h)
+      ∙ lines-append (take i rs) (getD rs i noRecord ∷ [])
+      ∙ ap (λ (l : List ℕ). linesAs kind (take i rs) ++ l) (append-nil (lineAs kind (getD rs i noRecord)))
 
-pub sheet-length : (j : Journal) → length (sheetOf j) ≡ length (decimal (length (standing j))) + 9 + length (linesOf (standing j))
-unfolding sheetOf
-sheet-length j = length-append (headerOf (length (standing j))) (linesOf (standing j)) ∙ omega (arith, header-length (length (standing j)))
+  pub sheet-length : (j : Journal) → length (sheetAs kind j) ≡ length (decimal (length (standing j))) + 9 + length (linesAs kind (standing j))
+  unfolding sheetAs
+  sheet-length j = length-append (headerOf (length (standing j))) (linesAs kind (standing j)) ∙ omega (arith, header-length (length (standing j)))

@@ -7,6 +7,7 @@ use mathlib.Core.Option.{Option, none, some}
 use lib.ListN.{length, getD, take}
 use Rattle.answer.specs.Answer.{accepted, outcome}
 use Rattle.bundle.specs.Bundle.{longestCode}
+use Rattle.journal.specs.Journal.{limit}
 use Rattle.journal.specs.Edit.{Outcome}
 use Rattle.journal.specs.Demand3.{Call, step, run, Holds}
 use Rattle.text.specs.Whole.{wroteOf}
@@ -35,7 +36,7 @@ loaded o none = o
 loaded o (some text) = let l = loadOf (o .journal) text in record { answer = l .answer; journal = l .journal; code = o .code }
 
 abbrev pub next : State → SheetCall → State
-next s (call c) = record { after = step (s .after) c; sheet = none }
+next s (call c) = record { after = step limit (s .after) c; sheet = none }
 next s (write out) =
     let w = wroteOf (writeRefusals (s .after .journal)) (sheetOf (s .after .journal)) out in
     record { after = record { answer = w .0 .answer; journal = s .after .journal; code = s .after .code }; sheet = sheetIn w }
@@ -43,7 +44,7 @@ next s load = record { after = loaded (s .after) (s .sheet); sheet = none }
 
 -- a run; the last call stands first
 abbrev pub runAcross : List ℕ → List SheetCall → State
-runAcross code [] = record { after = run code []; sheet = none }
+runAcross code [] = record { after = run limit code []; sheet = none }
 runAcross code (c ∷ cs) = next (runAcross code cs) c
 
 -- its edits and undos
@@ -55,11 +56,11 @@ plain (load ∷ cs) = plain cs
 
 -- what demand 3 says after a run with sheets
 pub record HoldsAcross (code : List ℕ) (calls : List SheetCall) : Type 0 where
-  pub code-is : runAcross code calls .after .code ≡ run code (plain calls) .code
-  pub journal-is : runAcross code calls .after .journal ≡ run code (plain calls) .journal
-  pub answers : (c : Call) → runAcross code (call c ∷ calls) .after .answer ≡ run code (c ∷ plain calls) .answer
+  pub code-is : runAcross code calls .after .code ≡ run limit code (plain calls) .code
+  pub journal-is : runAcross code calls .after .journal ≡ run limit code (plain calls) .journal
+  pub answers : (c : Call) → runAcross code (call c ∷ calls) .after .answer ≡ run limit code (c ∷ plain calls) .answer
   pub loads : (text : List ℕ) → runAcross code calls .sheet ≡ some text → runAcross code (load ∷ calls) .after .answer ≡ accepted
-  pub holds : Holds code (plain calls)
+  pub holds : Holds limit code (plain calls)
 
 -- of every code of at most `longestCode` bytes and every run with sheets
 abbrev pub Demand3Across : Type 0

@@ -1,4 +1,5 @@
 pub mod Across
 pub mod Load
+pub mod Old
 pub mod RoundTrip
 pub mod Sheet

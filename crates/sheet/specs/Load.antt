@@ -1,4 +1,4 @@
--- The journal that a sheet is of: `patches`, a tab, the count, a line for each record, and nothing after it. Assumes nothing.
+-- The journal that a sheet is of: `patches`, a tab, the count, a line for each record, all of one kind, and nothing after it. Assumes nothing.
 use Prim.Native.Nat.{ℕ, zero, suc}
 use mathlib.Core.Bool.{cond}
 use mathlib.Core.List.{List, [], _∷_}
@@ -6,32 +6,65 @@ use mathlib.Core.Option.{Option, none, some, Option·map}
 use lib.Dec.{eqb, leb}
 use lib.ListN.{length, getD}
 use Rattle.answer.specs.Answer.{accepted, badSheet}
-use Rattle.journal.specs.Journal.{limit, mayStand, journalOf}
+use Rattle.bundle.specs.declared.half.Halves.{Halves}
+use Rattle.form.specs.declared.Form.{Form}
+use Rattle.journal.specs.Journal.{limit, journalOf}
 use Rattle.journal.specs.declared.records.Edited.{Edited}
 use Rattle.journal.specs.declared.records.Journal.{Journal}
-use Rattle.journal.specs.declared.records.Record.{Record}
+use Rattle.name.specs.Name.{afterName, namedAt}
+use Rattle.record.specs.Record.{wholeRecord, mayStand}
+use Rattle.record.specs.declared.Record.{Record}
 use Rattle.table.specs.Ascii.{ascii}
-use Rattle.text.specs.Ascii.{newline, startsWith}
+use Rattle.text.specs.Ascii.{tab, newline, startsWith}
 use Rattle.text.specs.Fields.{afterNumber, fieldAt, fieldsAt}
 use Rattle.text.specs.declared.number.Number.{Number}
-use Rattle.sheet.specs.Sheet.{ends}
+use Rattle.sheet.specs.declared.line.Kind.{Kind}
+use Rattle.sheet.specs.declared.line.Kind.the-variants.{Full, Old}
 use Rattle.sheet.specs.declared.line.Line.{Line}
 use Rattle.text.specs.declared.number.Number.the-variants as number
 use Rattle.sheet.specs.declared.line.Line.the-variants as line
 
--- the record of a line's numbers
-abbrev pub recordFrom : List ℕ → Record
-recordFrom ns =
-    record { bundle = getD ns 0 0; old = record { low = getD ns 1 0; high = getD ns 2 0 }; new = record { low = getD ns 3 0; high = getD ns 4 0 } }
+-- the bytes that end the fields before a form, and those that end the five numbers of every line's end
+abbrev pub frontEnds : List ℕ
+frontEnds = ascii "\t\t"
 
--- that record and the place after its line, where it may stand
-abbrev pub lineFrom : Option (List ℕ × ℕ) → Line
-lineFrom none = line.Refused
-lineFrom (some r) = let one = recordFrom (r .0) in cond (mayStand one) (line.Read one (r .1)) line.Refused
+abbrev pub ends : List ℕ
+ends = ascii "\t\t\t\t\n"
 
--- the record whose line stands at a place
-unfoldable pub lineAt : List ℕ → ℕ → Line
-lineAt text at = lineFrom (fieldsAt text at ends)
+-- what comes after fields, or where there are none
+abbrev pub afterFields {ℓ} : {A : Type ℓ} → Option (List ℕ × ℕ) → (List ℕ → ℕ → A) → A → A
+afterFields none more other = other
+afterFields (some r) more other = more (r .0) (r .1)
+
+-- the record of a line: of its bundle, slot and form and then five numbers, or of five numbers alone
+abbrev pub oldIn : List ℕ → Halves
+oldIn ns = record { low = getD ns 1 0; high = getD ns 2 0 }
+
+abbrev pub newIn : List ℕ → Halves
+newIn ns = record { low = getD ns 3 0; high = getD ns 4 0 }
+
+abbrev pub fullRecord : List ℕ → Form → List ℕ → Record
+fullRecord front form ns =
+    record { bundle = getD front 0 0; slot = getD front 1 0; form = form; value = getD ns 0 0; old = oldIn ns; new = newIn ns }
+
+abbrev pub oldRecord : List ℕ → Record
+oldRecord ns = wholeRecord (getD ns 0 0) (oldIn ns) (newIn ns)
+
+-- the record whose line stands at a place, and the place after it
+unfoldable pub readAs : Kind → List ℕ → ℕ → Line
+readAs Full text at =
+    afterFields (fieldsAt text at frontEnds)
+    (λ front next. afterName (namedAt text next tab) (λ form next. afterFields (fieldsAt text next ends) (λ ns next. line.Read (fullRecord front form ns) next) line.Refused) line.Refused)
+    line.Refused
+readAs Old text at = afterFields (fieldsAt text at ends) (λ ns next. line.Read (oldRecord ns) next) line.Refused
+
+-- a line whose record may stand
+abbrev pub tested : Line → Line
+tested (line.Read r next) = cond (mayStand r) (line.Read r next) line.Refused
+tested line.Refused = line.Refused
+
+unfoldable pub lineAt : Kind → List ℕ → ℕ → Line
+lineAt kind text at = tested (readAs kind text at)
 
 -- what comes after a line, or where there is none
 abbrev pub afterLine {ℓ} : {A : Type ℓ} → Line → (Record → ℕ → A) → A → A
@@ -39,21 +72,30 @@ afterLine (line.Read r next) more other = more r next
 afterLine line.Refused more other = other
 
 -- the records of so many lines from a place on; the text ends after them
-unfoldable pub recordsAt : List ℕ → ℕ → ℕ → Option (List Record)
-recordsAt text at zero = cond (eqb at (length text)) (some []) none
-recordsAt text at (suc left) = afterLine (lineAt text at) (λ r next. Option·map (λ (rs : List Record). r ∷ rs) (recordsAt text next left)) none
+unfoldable pub recordsAt : Kind → List ℕ → ℕ → ℕ → Option (List Record)
+recordsAt kind text at zero = cond (eqb at (length text)) (some []) none
+recordsAt kind text at (suc left) =
+    afterLine (lineAt kind text at) (λ r next. Option·map (λ (rs : List Record). r ∷ rs) (recordsAt kind text next left)) none
 
 -- the count that the first line gives, and the place after that line
 unfoldable pub headOf : List ℕ → Number
 headOf text = cond (startsWith (ascii "patches\t") text) (fieldAt text 8 newline) number.Refused
 
--- the records that a sheet gives
-unfoldable pub recordsIn : List ℕ → Option (List Record)
-recordsIn text = afterNumber (headOf text) (λ count at. cond (leb count limit) (recordsAt text at count) none) none
+-- the records that a sheet of a kind gives
+unfoldable pub recordsAs : Kind → List ℕ → Option (List Record)
+recordsAs kind text = afterNumber (headOf text) (λ count at. cond (leb count limit) (recordsAt kind text at count) none) none
+
+-- those of a sheet in full lines, or else of one in old lines
+abbrev pub orElse : Option (List Record) → Option (List Record) → Option (List Record)
+orElse (some rs) other = some rs
+orElse none other = other
+
+abbrev pub recordsIn : List ℕ → Option (List Record)
+recordsIn text = orElse (recordsAs Full text) (recordsAs Old text)
 
 -- what loading answers: their journal, or that the text is no sheet and the journal as it was given
 abbrev pub answerOf : Journal → Option (List Record) → Edited
-answerOf journal (some rs) = record { answer = accepted; journal = journalOf rs }
+answerOf journal (some rs) = record { answer = accepted; journal = journalOf limit rs }
 answerOf journal none = record { answer = badSheet; journal = journal }
 
 unfoldable pub loadOf : Journal → List ℕ → Edited

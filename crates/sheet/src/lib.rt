@@ -6,24 +6,25 @@ ghost use mathlib.Core.Bool.{true};
 ghost use lib.Dec.{leb};
 ghost use lib.ListN.{length};
 ghost use Rattle.answer.specs.Answer.{badSheet};
-ghost use Rattle.journal.specs.Journal.{validOf};
+ghost use Rattle.journal.specs.Journal.{limit, validOf};
 ghost use Rattle.text.specs.Put.{Put};
 ghost use Rattle.text.specs.Whole.{wroteOf};
 ghost use Rattle.sheet.specs.Sheet.{sheetOf, writeRefusals};
-ghost use Rattle.sheet.specs.Load.{headOf, loadOf};
+ghost use Rattle.sheet.specs.Load.{headOf, recordsAs, answerOf, loadOf};
 use answer::ACCEPTED;
 use answer::BAD_JOURNAL;
 use answer::BAD_SHEET;
 use answer::NO_ROOM;
 use journal::Edited;
 use journal::Journal;
+use line::Kind;
 use line::Line;
 use text::NEWLINE;
 use text::Number;
 use text::Written;
 
 // No sheet is longer.
-pub const CAPACITY: usize = 5707;
+pub const CAPACITY: usize = 7435;
 
 // Writes the sheet of a journal at the output's start.
 pub fn write(journal: Journal, out: &mut [u8]) -> Written
@@ -51,7 +52,7 @@ pub fn write(journal: Journal, out: &mut [u8]) -> Written
 
 // Whether the sheet has at most `room` bytes. It is measured only where room may be short.
 fn fits(journal: Journal, room: usize) -> bool
-    requires { ⌜ validOf journal ≡ true ⌝ }
+    requires { ⌜ validOf limit journal ≡ true ⌝ }
     ensures { λ r. ⌜ r ≡ leb (length (sheetOf journal)) room ⌝ }
 {
     if CAPACITY <= room {
@@ -63,7 +64,7 @@ fn fits(journal: Journal, room: usize) -> bool
 
 // Writes the sheet as far as there is room, and answers its length.
 fn put_sheet(out: &mut [u8], journal: Journal) -> usize
-    requires { ⌜ validOf journal ≡ true ⌝ }
+    requires { ⌜ validOf limit journal ≡ true ⌝ }
     ensures { λ r. ⌜ Put (now (out .entry)) 0 (sheetOf journal) (now (out .exit)) r ⌝ }
 {
     let count = journal.count;
@@ -79,9 +80,20 @@ fn put_sheet(out: &mut [u8], journal: Journal) -> usize
     at
 }
 
-// The journal whose sheet the text is, in place of the one given.
+// The journal whose sheet the text is, in place of the one given: in full lines, or else in old ones.
 pub fn load(journal: Journal, text: &[u8]) -> Edited
     ensures { λ r. ⌜ r ≡ loadOf journal (now (text .entry)) ⌝ }
+{
+    let full = load_as(journal, text, Kind::Full);
+    if full.answer == ACCEPTED {
+        return full;
+    }
+    load_as(journal, text, Kind::Old)
+}
+
+// The same where the lines are of one kind.
+fn load_as(journal: Journal, text: &[u8], kind: Kind) -> Edited
+    ensures { λ r. ⌜ r ≡ answerOf journal (recordsAs kind (now (text .entry))) ⌝ }
 {
     let head = read_head(text);
     let Number::Read(count, first) = head else {
@@ -90,11 +102,11 @@ pub fn load(journal: Journal, text: &[u8]) -> Edited
     if journal::LIMIT < count {
         return refused(journal);
     }
-    let mut records = [journal::NONE; journal::LIMIT as usize];
+    let mut records = [record::NONE; journal::LIMIT as usize];
     let mut at = first;
     let mut place = 0;
     while place < count {
-        let line = line::read_line(text, at);
+        let line = line::read_line(text, at, kind);
         let Line::Read(one, next) = line else {
             return refused(journal);
         };

@@ -3,6 +3,7 @@ pub mod Numbers
 pub mod Numerals
 pub mod RoundTrip
 pub mod Stands
+pub mod Stored
 pub mod Unique
 pub mod Wholes
 pub mod Writing

@@ -8,7 +8,9 @@ use Prim.Native.Nat.{ℕ, suc, _+_, _^_, _≤_, _<_}
 use native.Mathlib.Nat.{add-zero}
 use native.Mathlib.Numerals.{add-one}
 use native.Mathlib.Omega.{arith}
-use native.Mathlib.Decide.{ℕ-discrete}
+use native.Mathlib.Decide.{ℕ-discrete, decLt}
+use borrow.Author.Tests.{eqb-true, eq-eqb}
+use lib.Dec.{eqb}
 use lib.ListN.{length, getD, take, drop, set, drop-of-length-le, length-take, take-append-drop}
 use lib.Seq.{drop-cons, drop-drop, append-snoc, take-append-seam}
 use Rattle.text.specs.Ascii.{within, same, startsWith}
@@ -36,12 +38,27 @@ pub starts-is : (start text : List ℕ) → startsWith start text ≡ true → t
 starts-is start text e =
     sym (take-append-drop (length start) text) ∙ ap (λ (l : List ℕ). l ++ drop (length start) text) (decide-iff (List-discrete ℕ-discrete (take (length start) text) start) .0 e)
 
-module _ (text : List ℕ) (at end : ℕ) where
-  starts-one : at < length text → getD text at 0 ≡ end → true ≡ startsWith (end ∷ []) (drop at text)
-  starts-one h e = rw (drop-cons text at 0 h) (same-as true (getD text at 0 ∷ []) (end ∷ []) (λ t. ap (λ (c : ℕ). c ∷ []) e) (λ t. refl))
+-- a byte stands at a place
+module _ (text : List ℕ) (at byte : ℕ) where
+  pub stands-past : length text ≤ at → false ≡ startsWith (byte ∷ []) (drop at text)
+  stands-past h = rw (drop-of-length-le text h) (starts-short (byte ∷ []) [] (omega arith))
 
-  starts-other : at < length text → (getD text at 0 ≡ end → ⊥) → false ≡ startsWith (end ∷ []) (drop at text)
-  starts-other h d = rw (drop-cons text at 0 h) (same-as false (getD text at 0 ∷ []) (end ∷ []) (λ t. absurd (false≢true t)) (λ q. absurd (d (cc))))
+  pub stands-there : at < length text → eqb (getD text at 0) byte ≡ startsWith (byte ∷ []) (drop at text)
+  stands-there h =
+      let c = getD text at 0 in
+      rw (drop-cons text at 0 h) (same-as (eqb c byte) (c ∷ []) (byte ∷ []) (λ t. ap (λ (b : ℕ). b ∷ []) (eqb-true c byte t)) (λ q. let e : c ≡ byte = cc in eq-eqb c byte e))
+
+  pub stands-within : startsWith (byte ∷ []) (drop at text) ≡ true → at < length text
+  stands-within e =
+      elim (decLt at (length text)) [
+        | yes h ↦ h
+        | no h ↦ absurd (false≢true (stands-past (omega arith) ∙ e))
+      ]
+
+  pub byte-stands : startsWith (byte ∷ []) (drop at text) ≡ true → Stands text at (byte ∷ []) (at + 1)
+  byte-stands e =
+      let t : take 1 (drop at text) ≡ byte ∷ [] = decide-iff (List-discrete ℕ-discrete (take 1 (drop at text)) (byte ∷ [])) .0 e in
+      record { found = sym (take-append-drop 1 (drop at text)) ∙ rw (t, drop-drop 1 at text); place = refl }
 
 -- a field, by the number that it begins with
 module _ (text : List ℕ) (at end : ℕ) where
@@ -49,18 +66,9 @@ module _ (text : List ℕ) (at end : ℕ) where
   unfolding fieldAt
   field-none e = rw e
 
-  module _ (n next : ℕ) (e : numberOf text at ≡ Read n next) where
-    pub field-past : length text ≤ next → Refused ≡ fieldAt text at end
-    unfolding fieldAt
-    field-past h = rw (e, drop-of-length-le text h, sym (starts-short (end ∷ []) [] (omega arith)))
-
-    pub field-other : next < length text → (getD text next 0 ≡ end → ⊥) → Refused ≡ fieldAt text at end
-    unfolding fieldAt
-    field-other h d = rw (e, sym (starts-other text next end h d))
-
-    pub field-ended : next < length text → getD text next 0 ≡ end → Read n (next + 1) ≡ fieldAt text at end
-    unfolding fieldAt
-    field-ended h d = rw (e, sym (starts-one text next end h d))
+  pub field-next : (n next : ℕ) → numberOf text at ≡ Read n next → cond (startsWith (end ∷ []) (drop next text)) (Read n (next + 1)) Refused ≡ fieldAt text at end
+  unfolding fieldAt
+  field-next n next e = rw e
 
 -- fields, by the first of them
 read-more : (of : List ℕ) (i n : ℕ) (rest : Option (List ℕ × ℕ)) → readTo of i (before n rest) ≡ readTo (set of i n) (suc i) rest
@@ -97,11 +105,6 @@ pub record FieldsStand (text : List ℕ) (at : ℕ) (ends ns : List ℕ) (next :
   pub piece : Stands text at (fields ns ends) next
 
 module _ (text : List ℕ) where
-  front : (at end : ℕ) → startsWith (end ∷ []) (drop at text) ≡ true → Stands text at (end ∷ []) (at + 1)
-  front at end e =
-      let t : take 1 (drop at text) ≡ end ∷ [] = decide-iff (List-discrete ℕ-discrete (take 1 (drop at text)) (end ∷ [])) .0 e in
-      record { found = sym (take-append-drop 1 (drop at text)) ∙ rw (t, drop-drop 1 at text); place = refl }
-
   -- what is read stands there
   module _ (at end n next : ℕ) where
     field-end : (k middle : ℕ) → IsRead text at k middle → (t : Bool) → startsWith (end ∷ []) (drop middle text) ≡ t → cond t (Read k (middle + 1)) Refused ≡ Read n next → FieldsStand text at (end ∷ []) (n ∷ []) next
@@ -109,7 +112,7 @@ module _ (text : List ℕ) where
     field-end k middle r true s q =
         let v : k ≡ n = cc in
         let p : middle + 1 ≡ next = cc in
-        rw (← v, ← p) (record { count = refl; words = (r .below, tt); piece = stands-then (r .piece) (front middle end s) })
+        rw (← v, ← p) (record { count = refl; words = (r .below, tt); piece = stands-then (r .piece) (byte-stands text middle end s) })
 
     field-cases : (m : Number) → numberOf text at ≡ m → fieldAt text at end ≡ Read n next → FieldsStand text at (end ∷ []) (n ∷ []) next
     unfolding fieldAt
@@ -141,15 +144,18 @@ module _ (text : List ℕ) where
       rw (← ap (λ (p : List ℕ × ℕ). p .0) q, ← ap (λ (p : List ℕ × ℕ). p .1) q) (record { count = refl; words = tt; piece = record { found = refl; place = sym (add-zero at) } })
   fields-read (end ∷ ends) at ns next e = first-cases at end ends ns next (fieldAt text at end) refl (λ middle ms last. fields-read ends middle ms last) e
 
-  -- what stands there is read
+  -- what stands there is read, where the byte that ends it is no digit
+  pub ended : (at end next : ℕ) → within 48 57 end ≡ false → Stands text at (end ∷ []) next → (digitsOf (drop at text) ≡ []) × (startsWith (end ∷ []) (drop at text) ≡ true)
+  unfolding digitsOf
+  ended at end next d s = (rw (s .found, d), rw (s .found) (decide-iff (List-discrete ℕ-discrete (end ∷ []) (end ∷ [])) .1 refl))
+
   pub field-back : (at end n next : ℕ) → within 48 57 end ≡ false → n < 2 ^ 64 → Stands text at (decimal n ++ (end ∷ [])) next → fieldAt text at end ≡ Read n next
-  unfolding fieldAt digitsOf
+  unfolding fieldAt
   field-back at end n next d b s =
       let p = stands-parts (decimal n) s in
       let middle = at + length (decimal n) in
-      let z : digitsOf (drop middle text) ≡ [] = rw (p .1 .found, d) in
-      let e : startsWith (end ∷ []) (drop middle text) ≡ true = rw (p .1 .found) (decide-iff (List-discrete ℕ-discrete (end ∷ []) (end ∷ [])) .1 refl) in
-      rw (number-back text at n middle z (record { below = b; piece = p .0 }), e, p .1 .place)
+      let e = ended middle end next d (p .1) in
+      rw (number-back text at n middle (e .0) (record { below = b; piece = p .0 }), e .1, p .1 .place)
 
   pub fields-back : (ends ns : List ℕ) (at next : ℕ) → NoDigits ends → FieldsStand text at ends ns next → fieldsAt text at ends ≡ some (ns, next)
   unfolding fieldsAt
@@ -160,3 +166,28 @@ module _ (text : List ℕ) where
       let p = stands-parts (decimal n ++ (end ∷ [])) (rw (← append-snoc (decimal n) end (fields ns ends)) at (s .piece)) in
       let r = fields-back ends ns _ next (d .1) (record { count = omega (arith, s .count); words = s .words .1; piece = p .1 }) in
       rw (field-back at end n _ (d .0) (s .words .0) (p .0), r)
+
+-- fields that end so, and more after them
+pub record FieldsSplit (text : List ℕ) (at : ℕ) (ends more : List ℕ) (next : ℕ) : Type 0 where
+  pub front : List ℕ
+  pub middle : ℕ
+  pub back : List ℕ
+  pub first : fieldsAt text at ends ≡ some (front, middle)
+  pub rest : fieldsAt text middle more ≡ some (back, next)
+
+module _ (text more : List ℕ) (next : ℕ) where
+  pub fields-split : (ends : List ℕ) (at : ℕ) (ns : List ℕ) → fieldsAt text at (ends ++ more) ≡ some (ns, next) → FieldsSplit text at ends more next
+  unfolding fieldsAt
+  fields-split [] at ns e = record { front = []; middle = at; back = ns; first = refl; rest = e }
+  fields-split (end ∷ ends) at ns e = by-field (fields-split ends) (fieldAt text at end) refl
+    where
+      by-rest : ((after : ℕ) (ms : List ℕ) → fieldsAt text after (ends ++ more) ≡ some (ms, next) → FieldsSplit text after ends more next) → (n after : ℕ) → fieldAt text at end ≡ Read n after → (o : Option (List ℕ × ℕ)) → fieldsAt text after (ends ++ more) ≡ o → before n o ≡ some (ns, next) → FieldsSplit text at (end ∷ ends) more next
+      by-rest split n after f none q e = absurd (Option·none-ne-some (ns, next) e)
+      by-rest split n after f (some r) q e =
+          let last : r .1 ≡ next = ap (λ (p : List ℕ × ℕ). p .1) (Option·some-injective (n ∷ r .0, r .1) (ns, next) e) in
+          let s = split after (r .0) (q ∙ ap (λ (k : ℕ). some (r .0, k)) last) in
+          record { front = n ∷ s .front; middle = s .middle; back = s .back; first = rw (f, s .first); rest = s .rest }
+
+      by-field : ((after : ℕ) (ms : List ℕ) → fieldsAt text after (ends ++ more) ≡ some (ms, next) → FieldsSplit text after ends more next) → (m : Number) → fieldAt text at end ≡ m → FieldsSplit text at (end ∷ ends) more next
+      by-field split Refused f = absurd (Option·none-ne-some (ns, next) (rw f at e))
+      by-field split (Read n after) f = by-rest split n after f (fieldsAt text after (ends ++ more)) refl (rw f at e)

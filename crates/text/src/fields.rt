@@ -1,5 +1,7 @@
 // Fields of a text: decimals, each ended by a byte of its own.
 ghost use mathlib.Core.Path.{_≡_};
+ghost use mathlib.Core.List.{[], _∷_};
+ghost use lib.ListN.{drop};
 ghost use Rattle.text.specs.Ascii.{startsWith};
 ghost use Rattle.text.specs.Fields.{fieldAt, fieldsOf};
 use crate::number::Number;
@@ -54,14 +56,21 @@ pub fn read_field(text: &[u8], at: usize, end: u8) -> Number
     let Number::Read(n, next) = number else {
         return Number::Refused;
     };
-    if text.len() <= next {
-        return Number::Refused;
-    }
-    if text[next] == end {
+    if is_at(text, next, end) {
         Number::Read(n, next + 1)
     } else {
         Number::Refused
     }
+}
+
+// Whether the byte stands at a place.
+pub fn is_at(text: &[u8], at: usize, byte: u8) -> bool
+    ensures { λ r. ⌜ r ≡ startsWith (byte ∷ []) (drop at (now (text .entry))) ⌝ }
+{
+    if text.len() <= at {
+        return false;
+    }
+    text[at] == byte
 }
 
 // Whether the text begins with `start`.

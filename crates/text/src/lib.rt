@@ -14,6 +14,7 @@ pub use fields::Fields;
 pub use fields::NEWLINE;
 pub use fields::TAB;
 pub use fields::begins;
+pub use fields::is_at;
 pub use fields::read_field;
 pub use fields::read_fields;
 pub use number::Number;

@@ -1,7 +1,8 @@
 -- `glindorsc_immediate` meets its contract: it hands on what `immediate` hands back, the value as its pattern. Assumes nothing.
 use mathlib.Core.Path.{_∙_, ap}
 use Rattle.immediate.specs.declared.outcome.Immediate.{Immediate}
-use Rattle.glindorsc.specs.Calls.{patternIn, immediateCall}
+use Rattle.operand.specs.Pattern.{patternIn}
+use Rattle.glindorsc.specs.Calls.{immediateCall}
 use borrow.Author.Needs.{needs}
 use Rattle.glindorsc.proofs.glindorsc_immediate.Statement.{statement}
 use Rattle.glindorsc.proofs.glindorsc_immediate.Tie as tie

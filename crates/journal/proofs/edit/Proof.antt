@@ -4,7 +4,7 @@ use borrow.Author.Needs.{needs}
 use denote.Ref.{now}
 use Rattle.bundle.specs.Bundle.{findAnswer}
 use Rattle.answer.specs.Answer.{accepted}
-use Rattle.journal.specs.Journal.{viewOf}
+use Rattle.journal.specs.Journal.{limit, viewOf}
 use Rattle.journal.specs.Plan.{editPlanOf, carriedOut}
 use Rattle.journal.specs.declared.plan.Plan.{Plan}
 use Rattle.journal.specs.declared.records.View.{View}
@@ -13,17 +13,17 @@ use Rattle.journal.proofs.edit.Statement.{statement}
 use Rattle.journal.proofs.edit.Tie as tie
 
 -- the plan that was made
-planned : (c : tie.After-edit-plan) → let a = c .before .before .before .before .args in c .edit-plan .result ≡ editPlanOf (now (a .code)) (viewOf (a .journal)) (a .edit)
+planned : (c : tie.After-edit-plan) → let a = c .before .before .before .before .args in c .edit-plan .result ≡ editPlanOf limit (now (a .code)) (viewOf limit (a .journal)) (a .edit)
 planned c =
     let a = c .before .before .before .before .args in
-    c .edit-plan .ensures ∙ ap (λ (v : View). editPlanOf (now (a .code)) v (a .edit)) (c .before .view-of .ensures)
+    c .edit-plan .ensures ∙ ap (λ (v : View). editPlanOf limit (now (a .code)) v (a .edit)) (c .before .view-of .ensures)
 
 carry-out-requires : tie.Need-carry-out-requires
 carry-out-requires c κs =
     let p = c .before in
     let a = p .before .before .before .before .args in
     subst (λ (plan : Plan). plan .answer ≡ accepted → findAnswer (now (a .code)) (plan .bundle) ≡ accepted) (sym (planned p))
-    (edit-found (now (a .code)) (a .edit) (viewOf (a .journal)))
+    (edit-found limit (now (a .code)) (a .edit) (viewOf limit (a .journal)))
 
 returns : tie.Need-returns
 returns c =
@@ -33,7 +33,7 @@ returns c =
     let a = known .before .args in
     d .carry-out .ensures
     ∙ ap (carriedOut (now (a .code)) (a .journal)) (planned p)
-    ∙ edit-carried (now (a .code)) (a .edit) (λ i. known .slice-known .given i .fits) (a .journal)
+    ∙ edit-carried limit (now (a .code)) (a .edit) (λ i. known .slice-known .given i .fits) (a .journal)
 
 pub edit-spec : {M : Type 1} → statement M
 edit-spec = tie.close (tie.spec (λ c κs. search needs) (λ c κs. search needs) carry-out-requires (λ c. search needs) returns)

@@ -4,7 +4,7 @@ use borrow.Author.Needs.{needs}
 use denote.Ref.{now}
 use Rattle.bundle.specs.Bundle.{findAnswer}
 use Rattle.answer.specs.Answer.{accepted}
-use Rattle.journal.specs.Journal.{viewOf}
+use Rattle.journal.specs.Journal.{limit, viewOf}
 use Rattle.journal.specs.Plan.{undoPlanOf, carriedOut}
 use Rattle.journal.specs.declared.plan.Plan.{Plan}
 use Rattle.journal.proofs.Laws.{undo-found, undo-carried}
@@ -12,21 +12,21 @@ use Rattle.journal.proofs.undo.Statement.{statement}
 use Rattle.journal.proofs.undo.Tie as tie
 
 -- the plan that was made
-planned : (c : tie.After-undo-plan) → let a = c .before .before .before .before .args in c .undo-plan .result ≡ undoPlanOf (now (a .code)) (viewOf (a .journal))
+planned : (c : tie.After-undo-plan) → let a = c .before .before .before .before .args in c .undo-plan .result ≡ undoPlanOf (now (a .code)) (viewOf limit (a .journal))
 planned c = let a = c .before .before .before .before .args in c .undo-plan .ensures ∙ ap (undoPlanOf (now (a .code))) (c .before .view-of .ensures)
 
 carry-out-requires : tie.Need-carry-out-requires
 carry-out-requires c κs =
     let p = c .before in
     let a = p .before .before .before .before .args in
-    subst (λ (plan : Plan). plan .answer ≡ accepted → findAnswer (now (a .code)) (plan .bundle) ≡ accepted) (sym (planned p)) (undo-found (now (a .code)) (viewOf (a .journal)))
+    subst (λ (plan : Plan). plan .answer ≡ accepted → findAnswer (now (a .code)) (plan .bundle) ≡ accepted) (sym (planned p)) (undo-found limit (now (a .code)) (viewOf limit (a .journal)))
 
 returns : tie.Need-returns
 returns c =
     let d = c .before .before in
     let p = d .before .before in
     let a = p .before .before .before .before .args in
-    d .carry-out .ensures ∙ ap (carriedOut (now (a .code)) (a .journal)) (planned p) ∙ undo-carried (now (a .code)) (a .journal)
+    d .carry-out .ensures ∙ ap (carriedOut (now (a .code)) (a .journal)) (planned p) ∙ undo-carried limit (now (a .code)) (a .journal)
 
 pub undo-spec : {M : Type 1} → statement M
 undo-spec = tie.close (tie.spec (λ c κs. search needs) (λ c κs. search needs) carry-out-requires (λ c. search needs) returns)

@@ -13,28 +13,27 @@ pub fn answer(kept: &[u64], out: &mut [u8], at: usize) -> usize {
 }
 
 fn place(kept: &[u64], i: u64, out: &mut [u8], at: usize) -> usize {
-    let start = (i % journal::LIMIT * 5 + 1) as usize;
-    if zero(kept, start) {
+    let one = kept::place(kept, (i % journal::LIMIT * 9) as usize);
+    if record::is_free(one) {
         return at;
     }
-    let mut to = out::number(out, at, i);
-    let mut k = start;
-    while k < start + 5 {
-        let mark = text::put_byte(out, to, b':');
-        to = text::put_decimal(out, mark, kept::get(kept, k));
-        k += 1;
-    }
-    to
+    let of = kept::numbers(one);
+    let to = out::number(out, at, i);
+    let done = numbers(&of[0..2], out, to);
+    let mark = text::put_byte(out, done, b':');
+    let form = one.form;
+    let named = name::put_name(out, mark, form);
+    numbers(&of[4..9], out, named)
 }
 
-fn zero(kept: &[u64], start: usize) -> bool {
-    let mut k = start % 1024;
-    let end = k + 5;
-    while k < end {
-        if kept::get(kept, k) != 0 {
-            return false;
-        }
-        k += 1;
+// Numbers, each after a colon.
+fn numbers(of: &[u64], out: &mut [u8], at: usize) -> usize {
+    let mut to = at;
+    let mut i = 0;
+    while i < of.len() {
+        let mark = text::put_byte(out, to, b':');
+        to = text::put_decimal(out, mark, of[i]);
+        i += 1;
     }
-    true
+    to
 }

@@ -1,26 +1,35 @@
 -- `sheet::fits` meets its contract: no sheet is longer than the capacity, and what writing to an output with no room answers is the
 -- length. Assumes nothing.
 use mathlib.Core.Path.{sym, ap}
+use mathlib.Core.List.{List, [], _∷_}
 use Prim.Native.Nat.{ℕ, _≤_}
 use native.Mathlib.Nat.{le-trans}
 use native.Mathlib.Omega.{arith}
 use borrow.Author.Needs.{needs}
 use borrow.Author.Tests.{le-leb}
-use lib.Dec.{leb}
+use lib.Dec.{T, leb}
 use lib.ListN.{length}
+use Rattle.journal.specs.Journal.{all}
 use Rattle.journal.proofs.Standing.{standing-all}
+use Rattle.record.specs.declared.Record.{Record}
 use Rattle.sheet.specs.RoundTrip.{isHeld}
-use Rattle.sheet.specs.Sheet.{sheetOf, capacity}
+use Rattle.sheet.specs.Sheet.{tells, sheetOf, capacity}
+use Rattle.sheet.specs.declared.line.Kind.the-variants.{Full}
 use Rattle.sheet.proofs.Lengths.{sheet-most}
 use Rattle.sheet.proofs.Owned.{owned}
 use Rattle.sheet.proofs.fits.Statement.{statement}
 use Rattle.sheet.proofs.fits.Tie as tie
 
+-- a full line tells all of any record
+all-told : (rs : List Record) → T (all (tells Full) rs)
+all-told [] = tt
+all-told (r ∷ rs) = all-told rs
+
 short : (c : tie.Start) → length (sheetOf (c .args .journal)) ≤ capacity
 short c =
     let j = c .args .journal in
     let array = c .good .0 .1 .1 .1 .0 in
-    sheet-most j (record { valid = c .pre; held = standing-all isHeld j (owned (j .records) (array .0) (array .1 .1)) })
+    sheet-most j (record { valid = c .pre; held = standing-all isHeld j (owned (j .records) (array .0) (array .1 .1)); told = standing-all (tells Full) j (all-told (j .records)) })
 
 returns : tie.Need-returns
 returns c = sym (le-leb _ (c .before .args .room) (le-trans (short (c .before)) (c .if1 .taken)))

@@ -7,17 +7,18 @@ use native.Mathlib.Omega.{arith}
 use borrow.Author.Needs.{needs}
 use lib.ListN.{length, take}
 use Rattle.journal.specs.Journal.{limit, standing}
-use Rattle.journal.specs.declared.records.Record.{Record}
+use Rattle.record.specs.declared.Record.{Record}
 use Rattle.journal.proofs.Standing.{standing-places, valid-counts, valid-few, valid-places}
 use Rattle.text.specs.Put.{Put}
 use Rattle.text.proofs.Writing.{put-none, put-then, put-length}
-use Rattle.sheet.specs.Sheet.{linesOf, sheetOf}
+use Rattle.sheet.specs.Sheet.{linesAs, sheetAs}
+use Rattle.sheet.specs.declared.line.Kind.the-variants.{Full}
 use Rattle.sheet.proofs.Sheets.{lines-more}
 use Rattle.sheet.proofs.put_sheet.Statement.{statement}
 use Rattle.sheet.proofs.put_sheet.Tie as tie
 
 abbrev Inv-loop : tie.InvT-loop
-Inv-loop out₀ count start at₀ records left₀ out at left = (left ≤ count) × Put out₀ at₀ (linesOf (take (count - left) records)) out at
+Inv-loop out₀ count start at₀ records left₀ out at left = (left ≤ count) × Put out₀ at₀ (linesAs Full (take (count - left) records)) out at
 
 abbrev μ-loop : tie.MeasureT-loop
 μ-loop out₀ count start at₀ records left₀ out at left = left
@@ -28,13 +29,13 @@ entry l = l .before .before .before .before .before .before .before .before .bef
 -- as many records stand as the journal counts, and there are as many places as may stand
 module _ (l : tie.At-loop Inv-loop μ-loop) where
   counts : entry l .args .journal .count ≡ length (standing (entry l .args .journal))
-  counts = valid-counts (entry l .args .journal) (entry l .pre)
+  counts = valid-counts limit (entry l .args .journal) (entry l .pre)
 
   few : entry l .args .journal .count ≤ limit
-  few = omega (arith, counts, valid-few (entry l .args .journal) (entry l .pre))
+  few = omega (arith, counts, valid-few limit (entry l .args .journal) (entry l .pre))
 
   places : length (l .before .places .result) ≡ limit
-  places = ap length (l .before .places .ensures) ∙ valid-places (entry l .args .journal) (entry l .pre)
+  places = ap length (l .before .places .ensures) ∙ valid-places limit (entry l .args .journal) (entry l .pre)
 
 short : (c : tie.Start Inv-loop μ-loop) → length (c .args .out .now) < 2 ^ 64
 short c = omega arith
@@ -55,7 +56,7 @@ loop-again c =
     let l = t .before in
     let n = entry l .args .journal .count in
     let next : n - (l .loop .left - 1) ≡ n - l .loop .left + 1 = omega (arith, l .loop .inv .0, t .loop-test .taken) in
-    let more = lines-more (l .before .places .result) (n - l .loop .left) (omega (arith, places l, few l, l .loop .inv .0, t .loop-test .taken)) in
+    let more = lines-more Full (l .before .places .result) (n - l .loop .left) (omega (arith, places l, few l, l .loop .inv .0, t .loop-test .taken)) in
     (search needs, rw (next, more) (put-then (omega (arith, short (entry l), room l)) (l .loop .inv .1) (c .before .before .put-line .ensures)))
 
 same-length : tie.Need-same-length Inv-loop μ-loop
@@ -72,7 +73,7 @@ written c =
     ap₂ (λ (n : ℕ) (rs : List Record). take n rs) all (l .before .places .ensures) ∙ sym (standing-places j)
 
 returns : tie.Need-returns Inv-loop μ-loop
-unfolding sheetOf
+unfolding sheetAs
 returns c =
     let l = c .before in
     let count = counts l in

@@ -5,7 +5,7 @@ use native.Mathlib.Omega.{arith}
 use borrow.Author.Needs.{needs}
 use borrow.Author.Tests.{leb-true, leb-false, eqb-false, not-true, not-false}
 use Rattle.answer.specs.Answer.{first, accepted, badJournal}
-use Rattle.journal.specs.Journal.{validOf}
+use Rattle.journal.specs.Journal.{limit, validOf}
 use Rattle.journal.specs.declared.records.View.{View}
 use Rattle.journal.proofs.Standing.{view-shows}
 use Rattle.text.proofs.Wholes.{whole-refused, whole-no-room, whole-put}
@@ -14,10 +14,10 @@ use Rattle.sheet.proofs.write.Statement.{statement}
 use Rattle.sheet.proofs.write.Tie as tie
 
 -- whether the journal is shown as valid
-shown : (c : tie.After-view-of) → c .view-of .result .valid ≡ validOf (c .before .before .args .journal)
-shown c = ap (λ (v : View). v .valid) (c .view-of .ensures) ∙ view-shows (c .before .before .args .journal)
+shown : (c : tie.After-view-of) → c .view-of .result .valid ≡ validOf limit (c .before .before .args .journal)
+shown c = ap (λ (v : View). v .valid) (c .view-of .ensures) ∙ view-shows limit (c .before .before .args .journal)
 
-is-valid : (c : tie.Else1) → validOf (c .before .before .before .before .args .journal) ≡ true
+is-valid : (c : tie.Else1) → validOf limit (c .before .before .before .before .args .journal) ≡ true
 is-valid c = sym (shown (c .before .before)) ∙ not-false _ (c .if1 .left)
 
 none-refuses : (c : tie.Else1) → first (writeRefusals (c .before .before .before .before .args .journal)) ≡ accepted

@@ -32,7 +32,7 @@ module _ (c : tie.After-load) where
   changing = changeRefusals (numberAt (now (c .before .before .args .code)) (c .before .before .args .edit .bundle)) (c .before .before .args .edit)
 
   room : List Refusal
-  room = roomRefusals (c .before .before .args .view)
+  room = roomRefusals limit (c .before .before .args .view)
 
   is-loaded : Loading (now (c .before .before .args .code)) (c .before .before .args .edit .bundle) (c .load .result)
   is-loaded = let known = c .before in loading (now (known .before .args .code)) (known .before .args .edit .bundle) (λ i. known .shared-slice-known .given i .fits) (c .load .ensures)
@@ -75,7 +75,7 @@ returns-2 c =
 -- what the journal answers, once the change is accepted
 answers : (c : tie.After-room-refusal) →
     let a = c .before .before .before .before .before .before .before .args in
-    first (editRefusals (now (a .code)) (a .view) (a .edit)) ≡ c .room-refusal .result
+    first (editRefusals limit (now (a .code)) (a .view) (a .edit)) ≡ c .room-refusal .result
 unfolding finding changing room
 answers c =
     let p = c .before .before in
@@ -87,20 +87,21 @@ returns-3 : tie.Need-returns-3
 unfolding editPlanOf
 returns-3 c = c .refused3 .ensures ∙ refused-is refusedPlan _ _ _ (answers (c .before .before)) (c .before .if3 .taken)
 
-add-count : tie.Need-add-t15
+add-count : tie.Need-add-t18
 add-count c =
-    let e = c .before in
+    let e = c .before .before .before in
     let a = e .before .before .before .before .before .before .before .before .args in
-    omega (arith, leb-false limit (a .view .count) (none-applies (roomRefusals (a .view)) tt (sym (e .before .room-refusal .ensures) ∙ e .if3 .left) .1 .0))
+    omega (arith, leb-false limit (a .view .count) (none-applies (roomRefusals limit (a .view)) tt (sym (e .before .room-refusal .ensures) ∙ e .if3 .left) .1 .0))
 
 returns-4 : tie.Need-returns-4
 unfolding editPlanOf changing findAnswer finding
 returns-4 c =
-    let e = c .before in
+    let e = c .before .before .before in
     let r = e .before in
     let p = r .before .before in
     let e1 = p .before .before in
     let a = e1 .before .before .before .args in
+    let pattern = c .pattern-in .ensures in
     let change = changed p ∙ changed-taken _ _ (sym (changes p) ∙ r .before .if2 .left) in
     let loaded = e1 .before .load .ensures ∙ loaded-found _ _ (found e1) in
     (λ i. record {
@@ -108,7 +109,7 @@ returns-4 c =
       bundle = a .edit .bundle;
       halves = change i .bundle;
       place = a .view .count;
-      kept = record { bundle = a .edit .bundle; old = loaded i .halves; new = change i .bundle };
+      kept = record { bundle = a .edit .bundle; slot = a .edit .slot; form = a .edit .form; value = pattern i; old = loaded i .halves; new = change i .bundle };
       count = a .view .count + 1;
     })
     ∙ sym (accepts _ _ _ (answers r ∙ e .if3 .left))
@@ -126,5 +127,6 @@ edit-plan-spec =
     (λ c κs. search needs)
     (λ c κs. search needs)
     returns-3
+    (λ c κs. search needs)
     add-count
     returns-4)

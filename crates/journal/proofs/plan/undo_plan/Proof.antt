@@ -6,7 +6,7 @@ use borrow.Author.Tests.{eqb-false}
 use denote.Ref.{now}
 use Rattle.answer.specs.Answer.{accepted, first}
 use Rattle.answer.proofs.Laws.{none-applies, accepts}
-use Rattle.journal.specs.Journal.{noRecord}
+use Rattle.record.specs.Record.{noRecord}
 use Rattle.journal.specs.Edit.{undoRefusals}
 use Rattle.journal.specs.Plan.{refusedPlan, undoPlanOf}
 use Rattle.journal.proofs.Laws.{refused-is}

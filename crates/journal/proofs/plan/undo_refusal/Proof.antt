@@ -11,7 +11,8 @@ use Rattle.bundle.specs.declared.Loaded.{Loaded}
 use Rattle.bundle.proofs.Laws.{loaded-found}
 use Rattle.bundle.proofs.Loading.{Loading, loading}
 use Rattle.bundle.proofs.Lies.{lies, past-the-end}
-use Rattle.journal.specs.Edit.{sameHalves, undoRefusals}
+use Rattle.record.specs.Record.{sameHalves}
+use Rattle.journal.specs.Edit.{undoRefusals}
 use Rattle.journal.proofs.plan.undo_refusal.Statement.{statement}
 use Rattle.journal.proofs.plan.undo_refusal.Tie as tie
 
@@ -67,13 +68,13 @@ module _ (c : tie.Else4) where
   present : let a = entry (c .before .before) .args in c .before .before .load .result ≡ record { answer = accepted; halves = halvesOf (numberAt (now (a .code)) (a .view .last .bundle)) }
   present = c .before .before .load .ensures ∙ loaded-found _ _ is-found
 
-same-is : (c : tie.After-same) →
+same-is : (c : tie.After-same-halves) →
     let a = entry (c .before .before .before .before .before) .args in
-    c .same .result ≡ sameHalves (halvesOf (numberAt (now (a .code)) (a .view .last .bundle))) (a .view .last .new)
+    c .same-halves .result ≡ sameHalves (halvesOf (numberAt (now (a .code)) (a .view .last .bundle))) (a .view .last .new)
 same-is c =
     let f = c .before .before .before in
     let a = entry (f .before .before) .args in
-    c .same .ensures ∙ ap (λ (l : Loaded). sameHalves (l .halves) (a .view .last .new)) (present f)
+    c .same-halves .ensures ∙ ap (λ (l : Loaded). sameHalves (l .halves) (a .view .last .new)) (present f)
 
 returns-5 : tie.Need-returns-5
 returns-5 c =

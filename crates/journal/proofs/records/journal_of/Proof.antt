@@ -7,8 +7,9 @@ use native.Mathlib.Omega.{arith}
 use borrow.Author.Needs.{needs}
 use lib.ListN.{length, take, set, replicate, length-set, replicate-append-replicate}
 use lib.Seq.{take-all, take-suc-set, length-take-le}
-use Rattle.journal.specs.Journal.{limit, noRecord, journalOf}
-use Rattle.journal.specs.declared.records.Record.{Record}
+use Rattle.journal.specs.Journal.{limit, journalOf}
+use Rattle.record.specs.Record.{noRecord}
+use Rattle.record.specs.declared.Record.{Record}
 use Rattle.journal.proofs.records.journal_of.Statement.{statement}
 use Rattle.journal.proofs.records.journal_of.Tie as tie
 
@@ -25,7 +26,7 @@ one-freed count rs qs place h l e =
     ∙ append-assoc (take count rs) (replicate (place - count) noRecord) (noRecord ∷ [])
     ∙ ap (λ (ps : List Record). take count rs ++ ps) (replicate-append-replicate (place - count) 1 noRecord ∙ ap (λ (n : ℕ). replicate n noRecord) more)
 
-all-freed : (count : ℕ) (rs qs : List Record) → count ≤ length rs → length qs ≡ limit → take limit qs ≡ freed count rs limit → record { count = count; records = qs } ≡ journalOf (take count rs)
+all-freed : (count : ℕ) (rs qs : List Record) → count ≤ length rs → length qs ≡ limit → take limit qs ≡ freed count rs limit → record { count = count; records = qs } ≡ journalOf limit (take count rs)
 unfolding journalOf
 all-freed count rs qs h l e =
     let long = sym (length-take-le count rs h) in

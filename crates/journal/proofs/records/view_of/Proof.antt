@@ -14,8 +14,9 @@ use lib.Dec.{leb, ltb}
 use lib.ListN.{length, getD, take, drop, length-map, drop-of-length-le}
 use lib.Seq.{drop-cons}
 use Rattle.journal.specs.declared.records.Journal.{Journal}
-use Rattle.journal.specs.declared.records.Record.{Record}
-use Rattle.journal.specs.Journal.{limit, noRecord, isFree, mayStand, all, placeValid, standing, validOf, recordAt}
+use Rattle.record.specs.Record.{noRecord, isFree, mayStand}
+use Rattle.record.specs.declared.Record.{Record}
+use Rattle.journal.specs.Journal.{limit, all, placeValid, standing, validOf, recordAt}
 use Rattle.journal.proofs.Standing.{valid-counts, valid-few, valid-view, empty-view, invalid-view}
 use Rattle.journal.proofs.records.view_of.Statement.{statement}
 use Rattle.journal.proofs.records.view_of.Tie as tie
@@ -43,7 +44,7 @@ split-one count i r rs =
 module _ (j : Journal) where
   -- `valid` says whether the count and the places before place i are valid
   abbrev Passed : Bool → ℕ → Type 0
-  Passed valid i = validOf j ≡ valid && Split (j .count - i) (drop i (j .records))
+  Passed valid i = validOf limit j ≡ valid && Split (j .count - i) (drop i (j .records))
 
   none-passed : length (j .records) ≡ limit → Passed (leb (j .count) limit) 0
   unfolding validOf standing
@@ -57,7 +58,7 @@ module _ (j : Journal) where
       ∙ rw (drop-cons (j .records) i noRecord h, split-one (j .count) i (recordAt j i) (drop (suc i) (j .records)), add-one)
       (sym (and-assoc valid _ _))
 
-  all-passed : (valid : Bool) (i : ℕ) → Passed valid i → length (j .records) ≤ i → validOf j ≡ valid
+  all-passed : (valid : Bool) (i : ℕ) → Passed valid i → length (j .records) ≤ i → validOf limit j ≡ valid
   all-passed valid i passed h = passed ∙ rw (drop-of-length-le (j .records) {i = i} h, split-none) (and-true valid)
 
 abbrev Inv-loop : tie.InvT-loop
@@ -82,7 +83,7 @@ loop-again c =
     (search needs, passed ∙ ap (λ (b : Bool). (l .loop .valid && b) && Split (j .count - (l .loop .place + 1)) (drop (l .loop .place + 1) (j .records))) (sym (c .place-valid .ensures)))
 
 -- what the loop found
-found : (c : tie.After-loop Inv-loop μ-loop) → validOf (c .before .before .args .t1) ≡ c .before .loop .valid
+found : (c : tie.After-loop Inv-loop μ-loop) → validOf limit (c .before .before .args .t1) ≡ c .before .loop .valid
 found c =
     let l = c .before in
     all-passed (l .before .args .t1) (l .loop .valid) (l .loop .place) (l .loop .inv .1) (omega (arith, places (l .before), c .loop-test .left))
@@ -92,18 +93,18 @@ returns c =
     let l = c .before in
     let j = l .before .before .args .t1 in
     ⊎-elim
-    (λ w. let no = not-true _ (w .taken) in ap (λ (v : Bool). record { valid = v; count = 0; last = noRecord }) no ∙ sym (invalid-view j (found l ∙ no)))
-    (λ w. let yes = not-false _ (w .0 .left) in ap (λ (v : Bool). record { valid = v; count = 0; last = noRecord }) yes ∙ sym (empty-view j (found l ∙ yes) (eqb-true (j .count) 0 (w .1 .taken))))
+    (λ w. let no = not-true _ (w .taken) in ap (λ (v : Bool). record { valid = v; count = 0; last = noRecord }) no ∙ sym (invalid-view limit j (found l ∙ no)))
+    (λ w. let yes = not-false _ (w .0 .left) in ap (λ (v : Bool). record { valid = v; count = 0; last = noRecord }) yes ∙ sym (empty-view limit j (found l ∙ yes) (eqb-true (j .count) 0 (w .1 .taken))))
     (c .if1 .came)
 
-is-valid : (c : tie.Else2 Inv-loop μ-loop) → validOf (c .before .before .before .before .args .t1) ≡ true
+is-valid : (c : tie.Else2 Inv-loop μ-loop) → validOf limit (c .before .before .before .before .args .t1) ≡ true
 is-valid c = found (c .before .before) ∙ not-false _ (c .before .if1 .left)
 
 -- the last place
 last-place : (c : tie.Else2 Inv-loop μ-loop) → let n = c .before .before .before .before .args .t1 .count in (0 < n) × (n ≤ limit)
 last-place c =
     let j = c .before .before .before .before .args .t1 in
-    (some (j .count) (eqb-false (j .count) 0 (c .if2 .left)), omega (arith, valid-counts j (is-valid c), valid-few j (is-valid c)))
+    (some (j .count) (eqb-false (j .count) 0 (c .if2 .left)), omega (arith, valid-counts limit j (is-valid c), valid-few limit j (is-valid c)))
   where
     some : (n : ℕ) → (n ≡ 0 → ⊥) → 0 < n
     some zero d = absurd (d refl)
@@ -114,7 +115,7 @@ returns-2 c =
     let e = c .before in
     let j = e .before .before .before .before .args .t1 in
     ap (λ (v : Bool). record { valid = v; count = j .count; last = recordAt j (j .count - 1) }) (not-false _ (e .before .if1 .left))
-    ∙ sym (valid-view j (is-valid e))
+    ∙ sym (valid-view limit j (is-valid e))
 
 pub view-of-spec : {M : Type 1} → statement M
 view-of-spec =

@@ -7,7 +7,7 @@ use lib.ListN.{length, length-map}
 use lib.Seq.{set-out}
 use Rattle.answer.specs.Answer.{accepted}
 use Rattle.journal.specs.Journal.{limit}
-use Rattle.journal.specs.declared.records.Record.{Record}
+use Rattle.record.specs.declared.Record.{Record}
 use Rattle.journal.proofs.records.with_record.Statement.{statement}
 use Rattle.journal.proofs.records.with_record.Tie as tie
 

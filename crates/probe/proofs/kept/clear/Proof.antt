@@ -7,10 +7,10 @@ use Rattle.probe.proofs.kept.clear.Statement.{statement}
 use Rattle.probe.proofs.kept.clear.Tie as tie
 
 abbrev Inv-loop : tie.InvT-loop
-Inv-loop kept₀ i₀ kept i = (i ≤ 321) × (length kept ≡ length kept₀)
+Inv-loop kept₀ i₀ kept i = (i ≤ 577) × (length kept ≡ length kept₀)
 
 abbrev μ-loop : tie.MeasureT-loop
-μ-loop kept₀ i₀ kept i = 321 - i
+μ-loop kept₀ i₀ kept i = 577 - i
 
 pub clear-spec : {M : Type 1} → statement M
 clear-spec =

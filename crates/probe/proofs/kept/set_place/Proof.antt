@@ -7,10 +7,10 @@ use Rattle.probe.proofs.kept.set_place.Statement.{statement}
 use Rattle.probe.proofs.kept.set_place.Tie as tie
 
 abbrev Inv-loop : tie.InvT-loop
-Inv-loop kept₀ at of from i₀ kept i = (i ≤ 5) × (from < 1024) × (length kept ≡ length kept₀)
+Inv-loop kept₀ at of from i₀ kept i = (i ≤ 9) × (from < 1024) × (length kept ≡ length kept₀)
 
 abbrev μ-loop : tie.MeasureT-loop
-μ-loop kept₀ at of from i₀ kept i = 5 - i
+μ-loop kept₀ at of from i₀ kept i = 9 - i
 
 pub set-place-spec : {M : Type 1} → statement M
 set-place-spec =

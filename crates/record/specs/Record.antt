@@ -1,0 +1,61 @@
+-- A record of an edit, and which records may stand in a journal. Assumes nothing.
+use Prim.Native.Nat.{ℕ}
+use mathlib.Core.Bool.{Bool, _&&_, _||_}
+use lib.Dec.{eqb, leb}
+use Rattle.answer.specs.Answer.{accepted}
+use Rattle.bundle.specs.Bundle.{halvesOf, whole}
+use Rattle.bundle.specs.declared.half.Halves.{Halves}
+use Rattle.form.specs.Form.{noForm, same}
+use Rattle.form.specs.declared.Edit.{Edit}
+use Rattle.operand.specs.Pattern.{patternIn}
+use Rattle.meaning.specs.Meaning.{operandFor}
+use Rattle.row.specs.Row.{rowOf}
+use Rattle.immediate.specs.Immediate.{changedNumber, changedOf}
+use Rattle.immediate.specs.declared.outcome.Changed.{Changed}
+use Rattle.record.specs.declared.Record.{Record}
+
+-- the highest number of a bundle
+abbrev pub highest : ℕ
+highest = 4095
+
+-- the record of an edit of bundle n
+abbrev pub editRecord : ℕ → Edit → Record
+editRecord n e =
+    record { bundle = e .bundle; slot = e .slot; form = e .form; value = patternIn (e .value); old = halvesOf n; new = halvesOf (changedNumber n e) }
+
+-- a record of a whole bundle: slot 0, no form, value 0
+abbrev pub wholeRecord : ℕ → Halves → Halves → Record
+wholeRecord bundle old new = record { bundle = bundle; slot = 0; form = noForm; value = 0; old = old; new = new }
+
+abbrev pub isWhole : Record → Bool
+isWhole r = eqb (r .slot) 0 && same (r .form) noForm && eqb (r .value) 0
+
+-- the same two halves
+abbrev pub sameHalves : Halves → Halves → Bool
+sameHalves a b = eqb (a .low) (b .low) && eqb (a .high) (b .high)
+
+-- a free place: all nine numbers are zero
+abbrev pub noHalves : Halves
+noHalves = record { low = 0; high = 0 }
+
+abbrev pub noRecord : Record
+noRecord = wholeRecord 0 noHalves noHalves
+
+abbrev pub isFree : Record → Bool
+isFree r = isWhole r && eqb (r .bundle) 0 && sameHalves (r .old) noHalves && sameHalves (r .new) noHalves
+
+-- the edit that a record tells of
+abbrev pub told : Record → Edit
+told r = record { bundle = r .bundle; slot = r .slot; form = r .form; value = operandFor (rowOf (r .form) .meaning) (r .value) }
+
+-- a change is taken and gives this bundle
+abbrev pub gives : Changed → Halves → Bool
+gives changed new = eqb (changed .answer) accepted && sameHalves (changed .bundle) new
+
+-- a record is one of a whole bundle, or its edit makes its new bundle of its old one
+unfoldable pub passes : Record → Bool
+passes r = isWhole r || gives (changedOf (whole (r .old)) (told r)) (r .new)
+
+-- a record that may stand
+abbrev pub mayStand : Record → Bool
+mayStand r = leb (r .bundle) highest && passes r

@@ -1,0 +1,49 @@
+-- No line is of both kinds: after two numbers a full one goes on with a form, and an old one with a number. So a text that is a sheet of
+-- both kinds has no lines. Assumes nothing.
+use mathlib.Core.Path.{_≡_, refl, sym, ap, _∙_}
+use mathlib.Core.List.{List}
+use mathlib.Core.Option.{Option, none, some, Option·some-injective, Option·none-ne-some}
+use Prim.Native.Nat.{ℕ, zero, suc}
+use Rattle.name.proofs.Names.{named-read, no-number}
+use Rattle.record.specs.declared.Record.{Record}
+use Rattle.table.specs.Ascii.{ascii}
+use Rattle.text.specs.Ascii.{tab}
+use Rattle.text.specs.Fields.{fieldAt, fieldsAt}
+use Rattle.text.specs.declared.number.Number.the-variants as number
+use Rattle.text.proofs.RoundTrip.{field-none, fields-split}
+use Rattle.sheet.specs.declared.line.Kind.the-variants.{Full, Old}
+use Rattle.sheet.specs.declared.line.Line.{Line}
+use Rattle.sheet.specs.declared.line.Line.the-variants.{Read, Refused}
+use Rattle.sheet.specs.Load.{frontEnds, ends, readAs, lineAt, recordsAt}
+use Rattle.sheet.proofs.Lines.{FullRead, full-read, no-line, line-taken}
+
+-- the ends of an old line after the first two
+abbrev moreEnds : List ℕ
+moreEnds = ascii "\t\t\n"
+
+module _ (text : List ℕ) (at : ℕ) where
+  no-numbers : (middle : ℕ) → number.Refused ≡ fieldAt text middle tab → fieldsAt text middle moreEnds ≡ none
+  unfolding fieldsAt
+  no-numbers middle e = rw (← e)
+
+  not-both : {r : Record} {next : ℕ} → FullRead text at r next → (o : Option (List ℕ × ℕ)) → fieldsAt text at ends ≡ o → {q : Record} {last : ℕ} → readAs Old text at ≡ Read q last → ⊥
+  unfolding readAs
+  not-both f none e g = no-line (rw e at g)
+  not-both f (some p) e g =
+      let s = fields-split text moreEnds (p .1) frontEnds at (p .0) e in
+      let same : s .middle ≡ f .second = ap (λ (q : List ℕ × ℕ). q .1) (Option·some-injective _ _ (sym (s .first) ∙ f .first)) in
+      let n = named-read text (f .second) tab (f .form) (f .third) (f .named) in
+      let no = no-numbers (f .second) (field-none text (f .second) tab (no-number text (f .second) (n .name))) in
+      Option·none-ne-some (s .back, p .1) (sym no ∙ ap (λ (k : ℕ). fieldsAt text k moreEnds) (sym same) ∙ s .rest)
+
+-- so a text gives the same records by both kinds of line, where it gives some
+pub one-kind : (text : List ℕ) (at left : ℕ) (rs qs : List Record) → recordsAt Full text at left ≡ some rs → recordsAt Old text at left ≡ some qs → rs ≡ qs
+unfolding recordsAt
+one-kind text at zero rs qs f g = Option·some-injective rs qs (sym f ∙ g)
+one-kind text at (suc left) rs qs f g = by-lines (lineAt Full text at) refl (lineAt Old text at) refl
+  where
+    by-lines : (m : Line) → lineAt Full text at ≡ m → (n : Line) → lineAt Old text at ≡ n → rs ≡ qs
+    by-lines Refused e n d = absurd (Option·none-ne-some rs (rw e at f))
+    by-lines (Read r next) e Refused d = absurd (Option·none-ne-some qs (rw d at g))
+    by-lines (Read r next) e (Read q last) d =
+        absurd (not-both text at (full-read text at r next (line-taken text at r next Full e .1)) (fieldsAt text at ends) refl (line-taken text at q last Old d .1))
