@@ -6,7 +6,7 @@
 mod model;
 
 use model::immediate::Value;
-use model::journal::{self, Journal, Record};
+use model::journal::{self, halves, Record, NONE, PLACES};
 use model::random::Random;
 use model::table::{self, Family};
 use model::{load, sheet, Model};
@@ -33,14 +33,13 @@ extern "C" {
     fn bench_listing(text: *const u8, length: usize, out: *mut u8, room: usize) -> u64;
     fn bench_report(image: *const u8, length: usize, times: u64) -> u64;
     fn bench_write(code: *mut u8, length: usize, slot: u64, family: u64, number: u64, signed: u64, values: *const u64, count: usize) -> u64;
-    fn bench_edit(code: *mut u8, length: usize, standing: u64, times: u64) -> u64;
-    fn bench_sheet(code: *mut u8, length: usize, standing: u64, times: u64, out: *mut u8, room: usize) -> u64;
-    fn bench_load(text: *const u8, length: usize, times: u64) -> u64;
+    fn bench_edit(code: *mut u8, length: usize, count: u64, records: *mut Record, places: usize, times: u64) -> u64;
+    fn bench_sheet(count: u64, records: *mut Record, places: usize, out: *mut u8, room: usize, times: u64) -> u64;
+    fn bench_load(count: u64, records: *mut Record, places: usize, text: *const u8, length: usize, times: u64) -> u64;
 }
 
 const RUNS: usize = 25;
 const BUNDLES: usize = 4096;
-const FULL: u64 = 64;
 
 /// The best time of each side, by turns, a call in nanoseconds; what both answer is compared.
 fn line<T: PartialEq>(what: &str, calls: usize, side: &str, mut ours: impl FnMut() -> T, mut theirs: impl FnMut() -> T) {
@@ -147,7 +146,7 @@ fn immediates(random: &mut Random, model: &Model) {
             bench_record(old, code.len(), new, first.len(), slot, family, number, values.as_ptr(), values.len())
         };
         let record = |n: usize| {
-            let (old, new) = (load(&code, n), load(&first, n));
+            let (old, new) = (halves(load(&code, n)), halves(load(&first, n)));
             Record { bundle: n as u64, slot, family: asked(), number, value: values[n], old, new }
         };
         let tests = || (0..BUNDLES).filter(|n| model.may_stand(&record(*n))).count() as u64;
@@ -155,74 +154,83 @@ fn immediates(random: &mut Random, model: &Model) {
     }
 }
 
-/// A journal with so many records: slot 2, B1, of the first bundles set to 16.
-fn filled(model: &Model, code: &mut [u8], records: u64) -> Journal {
-    (0..records).fold(Journal::empty(), |journal, n| model.edit(code, journal, n, 2, b'B' as u64, 1, Value::Signed(16)).1)
+/// So many records, in a slice of them: slot 2, B1, of the first bundles set to 16.
+fn filled(model: &Model, code: &mut [u8], count: u64) -> Vec<Record> {
+    let mut records = vec![NONE; PLACES];
+    for n in 0..count {
+        let edited = model.edit(code, n, &mut records, n, 2, b'B' as u64, 1, Value::Signed(16));
+        assert!(edited == (0, n + 1));
+    }
+    records
 }
 
 fn edits(random: &mut Random, model: &Model) {
-    const TIMES: u64 = 2000;
-    let code = code_of(random, 16);
-    for standing in [1, FULL] {
-        let (mut mine, mut other) = (code.clone(), code.clone());
-        let ours = || unsafe { bench_edit(mine.as_mut_ptr(), mine.len(), standing - 1, TIMES) };
+    for (standing, what, times) in [(1, "1", 2000), (64, "64", 2000), (1024, "1,024", 200)] {
+        let count = standing - 1;
+        let mut code = code_of(random, 16);
+        let mut records = filled(model, &mut code, count);
+        let (mut mine, mut lent) = (code.clone(), records.clone());
+        let ours = || unsafe { bench_edit(mine.as_mut_ptr(), mine.len(), count, lent.as_mut_ptr(), lent.len(), times) };
         let theirs = || {
-            let mut journal = filled(model, &mut other, standing - 1);
+            let mut last = (0, count);
             let mut sum = 0;
-            for _ in 0..TIMES {
-                let edited = model.edit(&mut other, journal, 63, 2, b'B' as u64, 1, Value::Signed(32));
-                let undone = model.undo(&mut other, edited.1);
-                sum += (edited.0 + undone.0) as u64;
-                journal = undone.1;
+            for _ in 0..times {
+                last = model.edit(&mut code, last.1, &mut records, 63, 2, b'B' as u64, 1, Value::Signed(32));
+                sum += last.0 as u64;
+                last = model.undo(&mut code, last.1, &mut records);
+                sum += last.0 as u64;
             }
             sum
         };
-        line(&format!("edit and its undo, {standing} standing"), TIMES as usize, "plain Rust", ours, theirs);
-        assert!(mine == other, "the codes differ");
+        line(&format!("edit and its undo, {what} standing"), times as usize, "plain Rust", ours, theirs);
+        assert!(mine == code && lent == records, "the codes or the records differ");
     }
 }
 
 /// With five fields a line, as sheets were before a record told of its edit.
-fn old_sheet(journal: &Journal) -> String {
-    let halves = |n: u128| format!("{}\t{}", n as u64, (n >> 64) as u64);
+fn old_sheet(records: &[Record]) -> String {
+    let halves = |[low, high]: [u64; 2]| format!("{low}\t{high}");
     let line = |one: &Record| format!("{}\t{}\t{}\n", one.bundle, halves(one.old), halves(one.new));
-    let standing = &journal.records[..journal.count as usize];
-    format!("patches\t{}\n", journal.count) + &standing.iter().map(line).collect::<String>()
+    format!("patches\t{}\n", records.len()) + &records.iter().map(line).collect::<String>()
 }
 
 fn sheets(random: &mut Random, model: &Model) {
-    const TIMES: u64 = 200;
-    let code = code_of(random, 16);
-    let (mut mine, mut other) = (code.clone(), code);
-    let (mut first, mut second) = (vec![0; sheet::LONGEST], vec![0; sheet::LONGEST]);
-    let ours = || unsafe { bench_sheet(mine.as_mut_ptr(), mine.len(), FULL, TIMES, first.as_mut_ptr(), first.len()) };
-    let mut length = 0;
-    let theirs = || {
-        let journal = filled(model, &mut other, FULL);
-        let mut sum = 0;
-        for _ in 0..TIMES {
-            length = model.write_sheet(journal, &mut second).1;
-            sum += length as u64;
-        }
-        sum
-    };
-    line("sheet of 64 records written", TIMES as usize, "plain Rust", ours, theirs);
-    assert!(first == second, "the sheets differ");
-    let old = old_sheet(&filled(model, &mut other, FULL));
-    for (what, text) in [("64 records", &first[..length]), ("64 old lines", old.as_bytes())] {
+    for (count, what, times) in [(64, "64", 200), (1024, "1,024", 20)] {
+        let records = filled(model, &mut code_of(random, 16), count);
+        let mut lent = records.clone();
+        let (mut first, mut second) = (vec![0; sheet::LONGEST], vec![0; sheet::LONGEST]);
+        let ours = || unsafe { bench_sheet(count, lent.as_mut_ptr(), lent.len(), first.as_mut_ptr(), first.len(), times) };
+        let mut length = 0;
         let theirs = || {
-            let mut journal = Journal::empty();
             let mut sum = 0;
-            for _ in 0..TIMES {
-                let loaded = model.load_sheet(journal, text);
-                sum += loaded.0 as u64;
-                journal = loaded.1;
+            for _ in 0..times {
+                length = model.write_sheet(count, &records, &mut second).1;
+                sum += length as u64;
             }
             sum
         };
-        let ours = || unsafe { bench_load(text.as_ptr(), text.len(), TIMES) };
-        line(&format!("sheet of {what} loaded"), TIMES as usize, "plain Rust", ours, theirs);
+        line(&format!("sheet of {what} records written"), times as usize, "plain Rust", ours, theirs);
+        assert!(first == second && lent == records, "the sheets or the records differ");
+        let old = old_sheet(&records[..count as usize]);
+        loads(model, &format!("{what} records"), times, &first[..length]);
+        loads(model, &format!("{what} old lines"), times, old.as_bytes());
     }
+}
+
+fn loads(model: &Model, what: &str, times: u64, text: &[u8]) {
+    let (mut lent, mut records) = (vec![NONE; PLACES], vec![NONE; PLACES]);
+    let ours = || unsafe { bench_load(0, lent.as_mut_ptr(), lent.len(), text.as_ptr(), text.len(), times) };
+    let theirs = || {
+        let mut last = (0, 0);
+        let mut sum = 0;
+        for _ in 0..times {
+            last = model.load_sheet(last.1, &mut records, text);
+            sum += last.0 as u64;
+        }
+        sum
+    };
+    line(&format!("sheet of {what} loaded"), times as usize, "plain Rust", ours, theirs);
+    assert!(lent == records, "the records differ");
 }
 
 fn listing(random: &mut Random, model: &Model) {

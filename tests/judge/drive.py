@@ -5,7 +5,7 @@ Each function takes a `Talk`, which keeps the lines with what the model answers 
 import itertools
 
 from model import (
-    FITTING, FORMS, HUGE, NUMBERS, PLACES, ROWS, UNITS, WORD, Bundle, FREE, Model, joined, old_fields, operand, report_of, sheet)
+    FITTING, FORMS, HUGE, NUMBERS, PLACES, ROWS, UNITS, WORD, Bundle, FREE, Model, header, joined, old_fields, operand, report_of, sheet)
 from standing import Standing
 
 LENGTHS = (0, 1, 15, 16, 17, 31, 32, 33, 48, 100, 65520, 65535, 65536, 65537, 65552, 65600)
@@ -52,8 +52,8 @@ class Talk:
 
 SAMPLES = (
     "code 40", "put 0 00ff10", "put 3 -", "get 0 4", "sum", "find 0", "cut 1", "join 20 16 1 2 3", "operands 77 49 0 0",
-    "immediate 0 2 66 1", "target 0 2 66 1 16", "journal 3", "place 2 1 2 B1 3 4 5 6 7", "records", "edit 0 2 66 1 I-16", "undo",
-    "sheet 100", "load 70617463686573093020", "report", "clear", "clear " + " ".join(map(str, range(NUMBERS))),
+    "immediate 0 2 66 1", "target 0 2 66 1 16", "journal 3", "journal 3 70", "place 2 1 2 B1 3 4 5 6 7", "records", "edit 0 2 66 1 I-16",
+    "undo", "sheet 100", "sheetline 1 100", "load 70617463686573093020", "report", "clear", "clear " + " ".join(map(str, range(NUMBERS))),
 )
 
 
@@ -338,22 +338,34 @@ Talk.random_code, Talk.random_place = random_code, random_place
 
 # ---- the journal
 
+# lengths of a slice that are wrong
+OTHER_LENGTHS = 0, 1, 63, 64, 65, 512, 1023, 1025, 1026, 2047, 2048
+
+
 def shown(talk, n=None):
-    """The whole code and journal, and a bundle."""
+    """The whole code and journal, and a bundle; of a large journal, the records now and then."""
     talk("sum")
-    talk("records")
+    if 32 >= len(talk.model.shown) * talk.random.random():
+        talk("records")
     if n is not None and 16 * n + 16 <= len(talk.model.code):
         talk(f"get {16 * n} 16")
+
+
+def with_records(talk, line):
+    talk(line)
+    talk("records")
 
 
 def put_record(talk, i, one):
     return talk(f"place {i} {' '.join(map(str, one))}")
 
 
-def put_journal(talk, records):
-    talk(f"journal {len(records)}")
+def put_journal(talk, records, fields=None):
+    """A journal with those records, and with other fields of `journal` where they are given."""
+    talk(f"journal {fields or len(records)}")
     for i, one in enumerate(records):
-        put_record(talk, i, one)
+        if one != FREE:
+            put_record(talk, i, one)
 
 
 def halves(number):
@@ -429,23 +441,45 @@ def row_edits(talk):
         shown(talk)
 
 
+def begun(talk, length, bundles):
+    """A random code with an empty journal and so many bundles that will be edited, and its standing edits."""
+    random = talk.random
+    talk.fill(length)
+    busy = [random.randrange(length // 16) for _ in range(bundles)]
+    for n in busy:
+        talk.bundle(n, random.choice(list(UNITS)))
+    talk("journal 0")
+    return busy, Standing(talk.model.code)
+
+
+def undo_all(talk, standing):
+    while standing.edits:
+        undo(talk, standing)
+    assert talk.model.code == standing.first, "undoing all edits doesn't give the first code"
+
+
 def runs(talk, count, calls):
     """Runs from an empty journal, with nothing else writing the code: demand 3 is worked out beside the model."""
     random = talk.random
     for _ in range(count):
-        talk.fill(random.choice((16, 17, 47, 48, 160, 160, 160, 320, 320, 1000, 65520, 65535, 65536) if random.random() < 0.1 else (48, 80, 160, 170)))
-        inside = len(talk.model.code) // 16
-        busy = [random.randrange(inside) for _ in range(random.choice((1, 2, 5)))]
-        for n in busy:
-            talk.bundle(n, random.choice(list(UNITS)))
-        talk("journal 0")
-        standing = Standing(talk.model.code)
+        lengths = (16, 17, 47, 48, 160, 160, 160, 320, 320, 1000, 65520, 65535, 65536) if random.random() < 0.1 else (48, 80, 160, 170)
+        busy, standing = begun(talk, random.choice(lengths), random.choice((1, 2, 5)))
         undoing = random.choice((0.1, 0.3, 0.5))
         for _ in range(calls):
             step(talk, standing, busy, undoing)
-        while standing.edits:
-            undo(talk, standing)
-        assert talk.model.code == standing.first, "undoing all edits doesn't give the first code"
+        undo_all(talk, standing)
+
+
+def long_runs(talk, count):
+    """Runs up to the limit, for a while about it with every record shown, and back."""
+    for _ in range(count):
+        busy, standing = begun(talk, 320, 12)
+        while talk.model.count < PLACES - 2:
+            step(talk, standing, busy, 0.02)
+        for _ in range(30):
+            step(talk, standing, busy, 0.3)
+            talk("records")
+        undo_all(talk, standing)
 
 
 def step(talk, standing, busy, undoing):
@@ -475,13 +509,13 @@ def undo(talk, standing):
 def same(talk, standing, taken, predicted, n):
     assert taken == predicted, f"demand 3 predicts another answer to {talk.lines[-1]}"
     assert talk.model.code == standing.code, f"demand 3 gives another code after {talk.lines[-1]}"
-    told = [one[:4] for one in talk.model.places[:talk.model.count]]
+    told = [one[:4] for one in talk.model.standing()]
     assert told == standing.told(), f"demand 3 gives other records after {talk.lines[-1]}"
     shown(talk, n)
 
 
 def full(talk):
-    """The 65th edit is refused by 7; after an undo it is taken."""
+    """The 1,025th edit is refused by 7; after an undo it is taken."""
     talk("code 16")
     talk("put 0 30000000004000000000800000000080")
     talk("journal 0")
@@ -492,10 +526,67 @@ def full(talk):
         talk("undo")
         talk("edit 0 2 66 1 I-16")
         talk("edit 0 2 66 1 I-32")
-        shown(talk, 0)
+        talk("records")
     for _ in range(PLACES + 2):
         talk("undo")
         shown(talk, 0)
+
+
+def some_journal(random, code, count):
+    """Records for the first places, whose bundles the code has: all of a small journal, and of a large one some; the others are zero."""
+    chosen = {0, count // 2, count - 1, *random.sample(range(count), min(count, 20))} if count > 64 else range(count)
+    return [any_record(random, i % 64, number_at(code, i % 64)) if i in chosen else FREE for i in range(count)]
+
+
+def number_at(code, n):
+    return int.from_bytes(code[16 * n:16 * n + 16], "little")
+
+
+def branches(talk):
+    """A code of 64 bundles whose slot 2 is a branch."""
+    talk("code 1024")
+    for n in range(64):
+        talk.bundle(n, 16)
+
+
+REFUSED = (
+    "edit 64 2 66 1 I16", "edit 5 2 66 1 I16", "edit 0 2 66 4 I16", "edit 0 1 66 1 I16", "edit 0 2 66 1 U16", "edit 0 2 66 1 I8", "undo",
+    "code 65537", "edit 0 2 66 1 I16", "undo", "code 0", "edit 0 2 66 1 I16", "undo",
+)
+
+
+def refused_calls(talk):
+    """Edits and undos that are refused for each reason beside few records and many, all of them shown."""
+    random = talk.random
+    for count in (0, 1, 2, 64, 65, 700, PLACES - 1, PLACES):
+        branches(talk)
+        talk.bundle(5, 6)
+        put_journal(talk, [any_record(random, 63 - i % 64, with_tag(random, 16)) for i in range(count)])
+        for line in REFUSED:
+            with_records(talk, line)
+        branches(talk)
+        for i in (max(count, 1) - 1, min(count, PLACES - 1)):
+            n, slot, *rest = talk.model.places[i]
+            for one in ((64, slot, *rest), (4096, slot, *rest), (n, 3, *rest), (n, slot, *rest)):
+                put_record(talk, i, one)
+                for line in ("edit 0 2 66 1 I16", "undo", "undo"):
+                    with_records(talk, line)
+
+
+def slices(talk, calls):
+    """Calls on slices of every wrong length, and of the right one, whose records can stand."""
+    for length in (2048, 2049, 4096, (1 << 32) + PLACES, HUGE - 1):
+        talk(f"journal 7 {length}")
+        put_record(talk, 2047, EXAMPLE)
+        talk("records")
+    for length, count in itertools.product((*OTHER_LENGTHS, PLACES), (0, 1, 2, 64, 1023, 1024, 1025, 2048, HUGE - 1)):
+        branches(talk)
+        put_journal(talk, some_journal(talk.random, talk.model.code, min(count, length)), f"{count} {length}")
+        for line in calls:
+            with_records(talk, line)
+        for i in (max(length, 1) - 1, length):
+            put_record(talk, i, EXAMPLE)
+        talk("records")
 
 
 def refusals(talk, count):
@@ -518,25 +609,26 @@ def refusals(talk, count):
 
 
 def any_journal(talk):
-    """A journal that fits the code or doesn't, valid or not."""
+    """A journal that fits the code or doesn't, valid or not; now and then the slice has another length. Of a large one most places are zero."""
     random, code = talk.random, talk.model.code
-    count = random.choice((0, 1, 2, 3, 20, 63, 64, 65, 66, 1 << 32, HUGE - 1))
-    talk(f"journal {count}")
-    inside = max(1, len(code) // 16)
-    for i in range(min(count, PLACES)):
+    few, many = (0, 1, 2, 3, 20, 63, 64, 65), (PLACES - 1, PLACES, PLACES + 1, 2 * PLACES, 1 << 32, HUGE - 1)
+    count = random.choice(few if random.random() < 0.7 else many)
+    length = random.choice(OTHER_LENGTHS) if random.random() < 0.1 else PLACES
+    talk(f"journal {count} {length}" if length != PLACES else f"journal {count}")
+    inside, stand = max(1, len(code) // 16), min(count, length)
+    for i in range(stand) if stand < 66 else {stand - 1, *random.sample(range(stand), 20)}:
         n = random.choice((random.randrange(inside), random.randrange(4096)))
         new = with_tag(random, random.randrange(32))
         if random.random() < 0.6 and 16 * n + 16 <= len(code):
-            new = int.from_bytes(code[16 * n:16 * n + 16], "little")
+            new = number_at(code, n)
         put_record(talk, i, any_record(random, n, new))
-    last = min(count, PLACES) - 1
-    if random.random() < 0.25 and last >= 0:
-        i = random.choice((last, random.randrange(last + 1)))
+    if random.random() < 0.25 and stand > 0:
+        i = random.choice((stand - 1, random.randrange(stand)))
         one = talk.model.places[i]
         far = random.choice((4096, 4097, 1 << 60, HUGE - 1)), *one[1:]
         put_record(talk, i, random.choice((far, random.choice(list(changed(one))))))
-    if random.random() < 0.25 and last < PLACES - 1:
-        put_record(talk, random.choice((last + 1, PLACES - 1)), random.choice(list(changed(FREE))))
+    if random.random() < 0.25 and stand < length:
+        put_record(talk, random.choice((stand, length - 1)), random.choice(list(changed(FREE))))
 
 
 def names(talk):
@@ -558,14 +650,12 @@ def names(talk):
 def wrong_in_one(talk, calls):
     """Calls on journals that are wrong in one number of one place, standing or free, or are by chance not."""
     random = talk.random
-    for count in (0, 1, 2, 5, 63, 64):
-        talk("code 1024")
-        for n in range(64):
-            talk.bundle(n, 16)
-        records = [any_record(random, n, int.from_bytes(talk.model.code[16 * n:16 * n + 16], "little")) for n in range(count)]
+    for count in (0, 1, 2, 5, 64, PLACES - 1, PLACES):
+        branches(talk)
+        records = some_journal(random, talk.model.code, count)
         for i in {0, count // 2, max(0, count - 1), min(count, PLACES - 1), PLACES - 1}:
             some = list(changed(records[i] if i < count else FREE))
-            for one in some if count < 63 else random.sample(some, 12):
+            for one in some if count < 64 else random.sample(some, 12):
                 put_journal(talk, records)
                 put_record(talk, i, one)
                 for line in calls:
@@ -621,7 +711,10 @@ def journals(talk):
     wrong_in_one(talk, ("edit 63 2 66 1 I-16", "undo", "edit 63 0 77 44 U7"))
     tested(talk)
     row_edits(talk)
-    runs(talk, 120, 300)
+    refused_calls(talk)
+    slices(talk, ("edit 0 2 66 1 I-16", "edit 0 2 66 1 I8", "edit 0 2 66 4 I16", "edit 64 2 66 1 I16", "undo"))
+    runs(talk, 100, 250)
+    long_runs(talk, 2)
     refusals(talk, 20000)
 
 
@@ -638,16 +731,16 @@ def small_sheets():
 
 
 def load(talk, data):
-    talk(f"load {data.hex() or '-'}")
+    return talk(f"load {data.hex() or '-'}")
 
 
 def damaged(talk):
     """Texts that are no sheets, or are by chance; after each kind of damage the journal is shown."""
     random = talk.random
     for text in small_sheets():
-        talk("journal 65")
+        talk(f"journal {PLACES + 1}")
         load(talk, text)
-        assert talk.model.count < 65, "a small sheet is none"
+        assert talk.model.count < PLACES, "a small sheet is none"
         for at in range(len(text)):
             for byte in range(256):
                 load(talk, text[:at] + bytes([byte]) + text[at + 1:])
@@ -662,7 +755,7 @@ def damaged(talk):
                      head + b"-\n", head + b"1\n", head + b"0\n" + record, head + b"1\n" + record, head + b"1\n" + record[:-1],
                      head + b"2\n" + record, head + b"1\n" + record * 2, b"Patches\t0\n", b"patches 0\n", b"patches\t0\t\n",
                      b"\n" + head + b"0\n", b"\xef\xbb\xbf" + head + b"0\n", head + b"\xd9\xa0\n"):
-            talk("journal 65")
+            talk(f"journal {PLACES + 1}")
             load(talk, text)
             talk("records")
         for field in range(record.count(b"\t") + 1):
@@ -672,11 +765,11 @@ def damaged(talk):
                 fields[field] = value.encode()
                 load(talk, head + b"1\n" + b"\t".join(fields) + b"\n")
                 talk("records")
-        for count in (0, 1, 2, 63, 64, 65, 66, 100, 1024):
+        for count in (0, 1, 2, 64, 65, 1023, 1024, 1025, 2048):
             for said in (count - 1, count, count + 1, HUGE + count):
                 load(talk, head + str(said).encode() + b"\n" + record * count)
                 talk("records")
-    for size in (1, 100, 5706, 5707, 5708, 7434, 7435, 7436, 65536, 199990):
+    for size in (1, 100, LONGEST - 1, LONGEST, LONGEST + 1, 199990):
         load(talk, head + b"0\n" + b"\n" * size)
         load(talk, random.randbytes(size))
     talk("records")
@@ -689,7 +782,7 @@ def mixed(talk):
     news = [with_tag(random, random.choice(list(UNITS))) for _ in range(PLACES)]
     records = [any_record(random, n, new) for n, new in enumerate(news)]
     ways = [kinds for count in range(5) for kinds in itertools.product((False, True), repeat=count)]
-    for count, most in itertools.product((5, 63, 64), (False, True)):
+    for count, most in itertools.product((5, 64, PLACES), (False, True)):
         ways += [[(i == odd) != most for i in range(count)] for odd in (0, 1, count // 2, count - 1, count)]
     for kinds in ways:
         load(talk, sheet([old_fields(one) if old else one for one, old in zip(records, kinds)]))
@@ -724,11 +817,11 @@ def told(talk):
         assert answer.startswith("sheet 11") == (talk.answers[-4] == "load 13"), "loading and validity aren't one test"
 
 
-LONGEST = 7435
+LONGEST = 118797
 
 
 def longest(talk):
-    """The longest sheet of each kind: 64 lines of 116 bytes, and of 89."""
+    """The longest sheet of each kind: 1,024 lines of 116 bytes, and of 89."""
     ones = (1 << 128) - 32 | 8
     one = field_record(talk.random, 4095, ones, "M20", 0)
     put_journal(talk, [one] * PLACES)
@@ -745,42 +838,108 @@ def longest(talk):
 def written(talk):
     """Sheets of journals of every kind into outputs of every length about their own, and loaded again."""
     random = talk.random
-    for _ in range(1500):
+    for _ in range(1000):
         talk.random_code()
         any_journal(talk)
-        text = sheet(talk.model.places[:min(PLACES, talk.model.count)])
+        text = sheet(talk.model.standing())
         for length in {0, len(text) - 1, len(text), len(text) + 1, random.randrange(8000)}:
             talk(f"sheet {length}")
+        for i in (0, 1, random.randrange(PLACES), talk.model.count):
+            talk(f"sheetline {i} {random.choice((0, 8, 9, 10, 17, 18, 100, 116, 200, random.randrange(202)))}")
         if random.random() < 0.5:
             any_journal(talk)
         load(talk, text)
         talk("records")
 
 
-def sheets_in_runs(talk):
-    """Demand 3 with the sheet written and loaded between the calls of a run; now and then it is an old tool's sheet of the same records."""
+def any_records(random, count):
+    return [any_record(random, random.randrange(4096), with_tag(random, random.choice(list(UNITS)))) for _ in range(count)]
+
+
+def large(talk):
+    """Sheets of both kinds of lines, of few and of many, in place of other records; then written again, and line by line."""
     random = talk.random
-    for _ in range(60):
-        talk.fill(160)
-        busy = list(range(10))
-        for n in busy:
-            talk.bundle(n, random.choice(list(UNITS)))
-        talk("journal 0")
-        standing = Standing(talk.model.code)
-        for _ in range(60):
+    for count in (0, 1, 2, 5, 64, 65, 700, PLACES - 1, PLACES, PLACES + 1, 1500):
+        records = any_records(random, count)
+        for lines in (records, list(map(old_fields, records))):
+            put_journal(talk, any_records(random, random.choice((0, 3, 64, 700, PLACES))))
+            assert load(talk, sheet(lines)) == ("load 0" if count <= PLACES else "load 13")
+            talk("records")
+        line_by_line(talk)
+
+
+def line_by_line(talk):
+    """The sheet of a valid journal and each of its lines, into outputs too short, just long enough and longer; and lines past the last."""
+    random, count = talk.random, talk.model.count
+    whole = talk(f"sheet {LONGEST}").split(" ")[3]
+    together = ""
+    for i, line in enumerate(bytes.fromhex(whole).splitlines(keepends=True)):
+        for length in (0, len(line) - 1, random.randrange(len(line), 202), len(line)):
+            said = talk(f"sheetline {i} {length}")
+        together += said.split(" ")[3]
+    assert together == whole, "the lines aren't the sheet"
+    for i in (count + 1, count + 2, PLACES + 1, 2 * PLACES, 1 << 32, HUGE - 1):
+        for length in (0, 1, 200):
+            talk(f"sheetline {i} {length}")
+
+
+def faults(lines):
+    """Texts that are one fault away from a sheet of those lines: in the first one, one within or the last, and at the ends."""
+    text, count = sheet(lines), len(lines)
+    for i in sorted({0, count // 2, count - 1}):
+        n, *rest = lines[i]
+        others = [(4096, *rest), rest, (n, *rest, 0), (n, *rest[:-1], HUGE), (n, *rest[:-1], "1\r"), ("", n, *rest), ()]
+        for one in others + [(n, 3, *rest[1:])] * (len(rest) == 7):
+            yield sheet([*lines[:i], one, *lines[i + 1:]])
+        yield header(count) + sheet([*lines[:i], *lines[i + 1:]]).split(b"\n", 1)[1]
+    yield from (text[:-1], text[:-2], text[1:], text + b"\n", text + b"0", b"\n" + text)
+    for said in (count - 1, count + 1, PLACES + 1, HUGE + count):
+        yield header(said) + text.split(b"\n", 1)[1]
+
+
+def refused_loads(talk):
+    """Texts with one fault, over journals of which every record is shown after."""
+    random = talk.random
+    for count in (1, 2, 64, PLACES):
+        records = any_records(random, count)
+        for lines, before in itertools.product((records, list(map(old_fields, records))), (0, 1, PLACES)):
+            put_journal(talk, any_records(random, before))
+            for text in (*faults(lines), sheet(lines)):
+                with_records(talk, f"load {text.hex()}")
+
+
+def again(talk):
+    """Loads the sheet, written as a whole or line by line."""
+    if talk.random.random() < 0.5:
+        text = talk(f"sheet {LONGEST}").split(" ")[3]
+    else:
+        text = "".join(talk(f"sheetline {i} 116").split(" ")[3] for i in range(talk.model.count + 1))
+    talk(f"load {text}")
+    shown(talk)
+
+
+def again_old(talk, standing):
+    """Loads an old tool's sheet of the same records."""
+    load(talk, sheet(list(map(old_fields, talk.model.standing()))))
+    standing.whole = len(standing.edits)
+    shown(talk)
+
+
+def sheets_in_runs(talk, count, calls, most):
+    """Demand 3 with the sheet written and loaded between the calls of a run, from so many edits on."""
+    random = talk.random
+    for _ in range(count):
+        busy, standing = begun(talk, 160, 10)
+        while talk.model.count < most:
+            step(talk, standing, busy, 0.02)
+        for _ in range(calls):
             kind = random.random()
             if kind < 0.2:
-                text = talk(f"sheet {LONGEST}").split(" ")[3]
-                talk(f"load {text}")
-                shown(talk)
+                again(talk)
             elif kind < 0.22:
-                load(talk, sheet(list(map(old_fields, talk.model.places[:talk.model.count]))))
-                standing.whole = len(standing.edits)
-                shown(talk)
+                again_old(talk, standing)
             step(talk, standing, busy, 0.3)
-        while standing.edits:
-            undo(talk, standing)
-        assert talk.model.code == standing.first, "undoing all edits doesn't give the first code"
+        undo_all(talk, standing)
 
 
 def sheets(talk):
@@ -790,8 +949,14 @@ def sheets(talk):
     mixed(talk)
     whole_lines(talk)
     told(talk)
-    wrong_in_one(talk, (f"sheet {LONGEST}", "undo", f"sheet {LONGEST}"))
-    sheets_in_runs(talk)
+    calls = f"sheet {LONGEST}", "sheetline 0 200", "sheetline 1 200", f"sheetline {HUGE - 1} 0"
+    wrong_in_one(talk, (*calls, "undo", f"sheet {LONGEST}"))
+    texts = sheet([EXAMPLE])[:-1], sheet([FREE] * 2 * PLACES), sheet([FREE] * PLACES), sheet([EXAMPLE])
+    slices(talk, (*calls, "sheet 0", "sheetline 0 0", *(f"load {text.hex()}" for text in texts)))
+    large(talk)
+    refused_loads(talk)
+    sheets_in_runs(talk, 60, 60, 0)
+    sheets_in_runs(talk, 2, 30, PLACES - 5)
 
 
 # ---- stages, by the crate that brings them
@@ -801,14 +966,14 @@ STAGES = {
     "readers": (("operands",), refused_operands),
     "immediate": (("immediate", "target"), immediates),
     "journal": (("journal", "place", "records", "edit", "undo"), journals),
-    "sheet": (("sheet", "load"), sheets),
+    "sheet": (("sheet", "sheetline", "load"), sheets),
     "tally": (("report", "clear"), reports),
 }
 
 # every pair of refusals (in 01's order) that can apply together; not among them: 1 with 2 and with 9, 8 with 1 and with 9
 TOGETHER = {
     "find": "10 1", "cut": "10 1 2", "join": "4 2 12", "operands": "3 4", "immediate": "10 1 2 3 5", "target": "10 1 2 3 5 6",
-    "edit": "10 1 2 3 5 6 11 7", "undo": "10 11 8 1 9", "sheet": "11 12", "load": "13",
+    "edit": "10 1 2 3 5 6 11 7", "undo": "10 11 8 1 9", "sheet": "11 12", "sheetline": "11 12", "load": "11 13",
     "report": "10 6",
 }
 APART = {(1, 2), (1, 9), (8, 1), (8, 9)}

@@ -13,7 +13,7 @@ sys.path.append(str(pathlib.Path(__file__).resolve().parents[1] / "table"))
 import table
 from table import FITTING, FORMS, STOPS, UNITS
 
-MOST, WORD, PLACES = 65536, 1 << 41, 64
+MOST, WORD, PLACES = 65536, 1 << 41, 1024
 HUGE = 1 << 64
 
 
@@ -169,9 +169,17 @@ LINE = re.compile(rb"\t".join([DECIMAL, DECIMAL, rb"(-|[A-Z](?:0|[1-9][0-9]{0,19
 OLD_LINE = re.compile(rb"\t".join([DECIMAL] * 5))
 
 
+def line(fields):
+    return ("\t".join(map(str, fields)) + "\n").encode()
+
+
+def header(count):
+    return line(("patches", count))
+
+
 def sheet(lines):
     """A text with those fields in its lines; a record's are the record."""
-    return "".join("\t".join(map(str, fields)) + "\n" for fields in [("patches", len(lines)), *lines]).encode()
+    return header(len(lines)) + b"".join(map(line, lines))
 
 
 def old_fields(one):
@@ -271,7 +279,7 @@ class Model:
     def __init__(self):
         self.code, self.hash = bytearray(), 0
         self.report = [0] * NUMBERS
-        self.count, self.places, self.shown = 0, [FREE] * PLACES, {}
+        self.on_journal(b"0")
         self.reasons = []
 
     def answer(self, line):
@@ -401,25 +409,38 @@ class Model:
     # the journal
 
     def valid(self):
-        standing, rest = self.places[:self.count], self.places[self.count:]
-        return self.count <= PLACES and all(map(may_stand, standing)) and rest.count(FREE) == len(rest)
+        """Whether the slice has its length, what stands can stand, and every other place is free."""
+        stand = all(i >= self.count for i in self.unfit)
+        return len(self.places) == PLACES and self.count <= PLACES and stand and max(self.shown, default=-1) < self.count
 
     def place(self, i, one):
+        """Sets a place, and keeps how each that isn't free is shown and which of them can't stand."""
         self.places[i] = one
-        self.shown[i] = f" {i}:" + ":".join(map(str, one)) if one != FREE else ""
+        self.shown.pop(i, None)
+        self.unfit.discard(i)
+        if one != FREE:
+            self.shown[i] = f" {i}:" + ":".join(map(str, one))
+        if not may_stand(one):
+            self.unfit.add(i)
+
+    def standing(self):
+        return self.places[:self.count]
 
     def halves(self, n):
         given = self.code[16 * n:16 * n + 16]
         return int.from_bytes(given[:8], "little"), int.from_bytes(given[8:], "little")
 
-    def on_journal(self, count):
-        self.count, self.places, self.shown = number(count), [FREE] * PLACES, {}
+    def on_journal(self, count, length=b"%d" % PLACES):
+        count, length = number(count), number(length)
+        if length > 2 * PLACES:
+            raise Unread
+        self.count, self.places, self.shown, self.unfit = count, [FREE] * length, {}, set()
         return "ok"
 
     def on_place(self, i, bundle, slot, name, value, old_low, old_high, new_low, new_high):
         halves = map(number, (old_low, old_high, new_low, new_high))
         i, one = number(i), (number(bundle), number(slot), form(name), number(value), *halves)
-        if i >= PLACES:
+        if i >= len(self.places):
             raise Unread
         self.place(i, one)
         return "ok"
@@ -445,7 +466,7 @@ class Model:
         return f"edit {answer}"
 
     def on_undo(self):
-        last = self.places[self.count - 1] if 0 < self.count <= PLACES else None
+        last = self.places[self.count - 1] if 0 < self.count <= len(self.places) else None
         n = last and last[0]
         inside = last and 16 * n + 16 <= len(self.code)
         answer = self.refused([
@@ -459,18 +480,28 @@ class Model:
 
     # sheets
 
+    def put_out(self, name, wanted, length):
+        answer = self.refused([(11, not self.valid()), (12, length < len(wanted))])
+        wanted = b"" if answer else wanted
+        return f"{name} {answer} {len(wanted)} {text(wanted)} {length - len(wanted)}"
+
     def on_sheet(self, length):
         length = number(length)
         if length > 130000:
             raise Unread
-        wanted = sheet(self.places[:self.count]) if self.count <= PLACES else b""
-        answer = self.refused([(11, not self.valid()), (12, length < len(wanted))])
-        wanted = b"" if answer else wanted
-        return f"sheet {answer} {len(wanted)} {text(wanted)} {length - len(wanted)}"
+        return self.put_out("sheet", sheet(self.standing()), length)
+
+    def on_sheetline(self, i, length):
+        """Past the last line there is none: an empty text."""
+        i, length = number(i), number(length)
+        if length > 200:
+            raise Unread
+        wanted = header(self.count) if i == 0 else b"".join(map(line, self.standing()[i - 1:i]))
+        return self.put_out("sheetline", wanted, length)
 
     def on_load(self, given):
         records = loaded(data(given))
-        answer = self.refused([(13, records is None)])
+        answer = self.refused([(11, len(self.places) != PLACES), (13, records is None)])
         if not answer:
             self.on_journal(b"%d" % len(records))
             for i, one in enumerate(records):
@@ -478,6 +509,10 @@ class Model:
         return f"load {answer}"
 
 
-# how many fields may follow each name
-COUNT = {name[3:]: (len(inspect.signature(method).parameters) - 1,)
-         for name, method in vars(Model).items() if name.startswith("on_")} | {"clear": (0, NUMBERS)}
+def how_many(method):
+    """How many fields may follow its name."""
+    fields = list(inspect.signature(method).parameters.values())[1:]
+    return range(sum(field.default is field.empty for field in fields), len(fields) + 1)
+
+
+COUNT = {name[3:]: how_many(method) for name, method in vars(Model).items() if name.startswith("on_")} | {"clear": (0, NUMBERS)}

@@ -27,7 +27,7 @@ class Standing:
         if not self.acceptable(n, slot, family, form, kind, value) or len(self.edits) == PLACES:
             return False
         self.edits.append((n, slot, f"{chr(family)}{form}", value))
-        self.remake(n)
+        self.code[16 * n:16 * n + 16] = made(self.code[16 * n:16 * n + 16], self.edits[-1])
         return True
 
     def undo(self):

@@ -1,64 +1,99 @@
-//! Sheets, written and loaded.
+//! Sheets, written as a whole or line by line, and loaded.
 
-use super::journal::{Journal, Record};
+use super::journal::{Halves, Record, NONE, PLACES};
 use super::text::Text;
 use super::Model;
 
-pub const LONGEST: usize = 7435;
+pub const LONGEST: usize = 118797;
 
 impl Model {
-    pub fn write_sheet(&self, journal: Journal, out: &mut [u8]) -> (u8, usize) {
-        if !self.valid(&journal) {
+    /// The answer and the sheet's length.
+    pub fn write_sheet(&self, count: u64, records: &[Record], out: &mut [u8]) -> (u8, usize) {
+        self.written(count, records, out, LONGEST, |text| {
+            put_header(text, count);
+            records[..count as usize].iter().for_each(|one| put(text, one));
+        })
+    }
+
+    /// The answer and the length of a line of the sheet: the first is the header, and past the last all are empty.
+    pub fn write_line(&self, count: u64, records: &[Record], line: u64, out: &mut [u8]) -> (u8, usize) {
+        self.written(count, records, out, LONGEST_LINE, |text| match line {
+            0 => put_header(text, count),
+            _ if line <= count => put(text, &records[line as usize - 1]),
+            _ => (),
+        })
+    }
+
+    /// The answer and the length of a text, which is written where it has room; it is at most so long.
+    fn written(&self, count: u64, records: &[Record], out: &mut [u8], longest: usize, put: impl Fn(&mut Text)) -> (u8, usize) {
+        if !self.valid(count, records) {
             return (11, 0);
         }
-        if out.len() < LONGEST {
-            let length = put(&journal, &mut []);
-            if out.len() < length {
+        if out.len() < longest {
+            let mut lost = Text { out: &mut [], length: 0 };
+            put(&mut lost);
+            if out.len() < lost.length {
                 return (12, 0);
             }
         }
-        (0, put(&journal, out))
+        let mut text = Text { out, length: 0 };
+        put(&mut text);
+        (0, text.length)
     }
 
-    pub fn load_sheet(&self, journal: Journal, text: &[u8]) -> (u8, Journal) {
-        match self.loaded(text, full).or_else(|| self.loaded(text, old)) {
-            Some(loaded) => (0, loaded),
-            None => (13, journal),
+    /// The answer and the count.
+    pub fn load_sheet(&self, count: u64, records: &mut [Record], text: &[u8]) -> (u8, u64) {
+        if records.len() != PLACES {
+            return (11, count);
+        }
+        match header(text) {
+            Some((said, lines)) if self.loaded(records, said, lines, full) || self.loaded(records, said, lines, old) => (0, said),
+            _ => (13, count),
         }
     }
 
-    /// The journal of a sheet whose lines are all of one kind.
-    fn loaded(&self, mut text: &[u8], line: impl Fn(&mut &[u8]) -> Option<Record>) -> Option<Journal> {
-        text = text.strip_prefix(b"patches\t")?;
-        let mut journal = Journal::empty();
-        journal.count = number(&mut text, b'\n').filter(|count| *count <= 64)?;
-        for place in &mut journal.records[..journal.count as usize] {
-            *place = line(&mut text).filter(|one| self.may_stand(one))?;
+    /// Loads so many lines of one kind, with no copy of the records: the lines are looked at first, and no record is written where they aren't
+    /// such.
+    fn loaded(&self, records: &mut [Record], count: u64, lines: &[u8], line: impl Fn(&mut &[u8]) -> Option<Record>) -> bool {
+        let mut text = lines;
+        let good = (0..count).all(|_| line(&mut text).is_some_and(|one| self.may_stand(&one))) && text.is_empty();
+        if good {
+            text = lines;
+            records[..count as usize].fill_with(|| line(&mut text).unwrap());
+            records[count as usize..].fill(NONE);
         }
-        text.is_empty().then_some(journal)
+        good
     }
 }
 
-fn put(journal: &Journal, out: &mut [u8]) -> usize {
-    let mut text = Text { out, length: 0 };
+const LONGEST_LINE: usize = 116;
+
+fn put_header(text: &mut Text, count: u64) {
     text.put(b"patches\t");
-    text.field(journal.count, b'\n');
-    for place in &journal.records[..journal.count as usize] {
-        text.field(place.bundle, b'\t');
-        text.field(place.slot, b'\t');
-        if place.family == 0 {
-            text.put(b"-\t");
-        } else {
-            text.put(&[place.family as u8]);
-            text.field(place.number, b'\t');
-        }
-        text.field(place.value, b'\t');
-        text.field(place.old as u64, b'\t');
-        text.field((place.old >> 64) as u64, b'\t');
-        text.field(place.new as u64, b'\t');
-        text.field((place.new >> 64) as u64, b'\n');
+    text.field(count, b'\n');
+}
+
+fn put(text: &mut Text, one: &Record) {
+    text.field(one.bundle, b'\t');
+    text.field(one.slot, b'\t');
+    if one.family == 0 {
+        text.put(b"-\t");
+    } else {
+        text.put(&[one.family as u8]);
+        text.field(one.number, b'\t');
     }
-    text.length
+    text.field(one.value, b'\t');
+    for (halves, end) in [(one.old, b'\t'), (one.new, b'\n')] {
+        text.field(halves[0], b'\t');
+        text.field(halves[1], end);
+    }
+}
+
+/// How many lines a header promises, and the text after it.
+fn header(text: &[u8]) -> Option<(u64, &[u8])> {
+    let mut text = text.strip_prefix(b"patches\t")?;
+    let count = number(&mut text, b'\n').filter(|count| *count <= PLACES as u64)?;
+    Some((count, text))
 }
 
 fn number(text: &mut &[u8], end: u8) -> Option<u64> {
@@ -77,9 +112,8 @@ fn number(text: &mut &[u8], end: u8) -> Option<u64> {
     Some(n)
 }
 
-fn whole(text: &mut &[u8], end: u8) -> Option<u128> {
-    let low = number(text, b'\t')?;
-    Some(low as u128 | (number(text, end)? as u128) << 64)
+fn halves(text: &mut &[u8], end: u8) -> Option<Halves> {
+    Some([number(text, b'\t')?, number(text, end)?])
 }
 
 /// A form's family and number; zeros for `-`.
@@ -98,10 +132,10 @@ fn full(text: &mut &[u8]) -> Option<Record> {
     let (bundle, slot) = (number(text, b'\t')?, number(text, b'\t')?);
     let (family, number_of) = form(text)?;
     let value = number(text, b'\t')?;
-    Some(Record { bundle, slot, family, number: number_of, value, old: whole(text, b'\t')?, new: whole(text, b'\n')? })
+    Some(Record { bundle, slot, family, number: number_of, value, old: halves(text, b'\t')?, new: halves(text, b'\n')? })
 }
 
 /// A line of five fields, as sheets had them before records told of edits.
 fn old(text: &mut &[u8]) -> Option<Record> {
-    Some(Record::whole(number(text, b'\t')?, whole(text, b'\t')?, whole(text, b'\n')?))
+    Some(Record::whole(number(text, b'\t')?, halves(text, b'\t')?, halves(text, b'\n')?))
 }

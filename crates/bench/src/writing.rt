@@ -4,8 +4,8 @@ use crate::sum::plus;
 use form::B;
 use form::Edit;
 use form::Form;
-use journal::Edited;
 use operand::Operand;
+use record::Record;
 
 // An immediate's value for a row with a sign, or without.
 fn value_of(signed: u64, pattern: u64) -> Operand {
@@ -63,44 +63,34 @@ fn branch(bundle: u64, to: i64) -> Edit {
     }
 }
 
-// The last of so many edits of an empty journal: slot 2, B1, of the first bundles set to 16.
-fn filled(code: &mut [u8], records: u64) -> Edited {
-    let mut last = Edited {
-        answer: 0,
-        journal: journal::empty(),
-    };
-    let mut n = 0;
-    while n < records {
-        last = journal::edit(code, last.journal, branch(n, 16));
-        n += 1;
-    }
-    last
-}
-
-// So many edits, each undone, after so many that stand.
+// So many edits, each undone, after those that stand.
 #[no_mangle]
-pub extern "C" fn bench_edit(code: &mut [u8], standing: u64, times: u64) -> u64 {
-    let mut last = filled(code, standing);
+pub extern "C" fn bench_edit(
+    code: &mut [u8],
+    count: u64,
+    records: &mut [Record],
+    times: u64,
+) -> u64 {
+    let mut standing = count;
     let mut sum = 0;
     let mut left = times;
     while 0 < left {
-        last = journal::edit(code, last.journal, branch(63, 32));
-        sum = plus(sum, last.answer as u64);
-        last = journal::undo(code, last.journal);
-        sum = plus(sum, last.answer as u64);
+        let edited = journal::edit(code, standing, records, branch(63, 32));
+        let undone = journal::undo(code, edited.count, records);
+        standing = undone.count;
+        sum = plus(sum, plus(edited.answer as u64, undone.answer as u64));
         left -= 1;
     }
     sum
 }
 
-// The sheet of a journal with so many records, written so many times.
+// The sheet of a journal, written so many times.
 #[no_mangle]
-pub extern "C" fn bench_sheet(code: &mut [u8], standing: u64, times: u64, out: &mut [u8]) -> u64 {
-    let last = filled(code, standing);
+pub extern "C" fn bench_sheet(count: u64, records: &[Record], out: &mut [u8], times: u64) -> u64 {
     let mut sum = 0;
     let mut left = times;
     while 0 < left {
-        let written = sheet::write(last.journal, out);
+        let written = sheet::write(count, records, out);
         sum = plus(sum, written.length as u64);
         left -= 1;
     }
@@ -109,16 +99,14 @@ pub extern "C" fn bench_sheet(code: &mut [u8], standing: u64, times: u64, out: &
 
 // A sheet, loaded so many times.
 #[no_mangle]
-pub extern "C" fn bench_load(text: &[u8], times: u64) -> u64 {
-    let mut last = Edited {
-        answer: 0,
-        journal: journal::empty(),
-    };
+pub extern "C" fn bench_load(count: u64, records: &mut [Record], text: &[u8], times: u64) -> u64 {
+    let mut standing = count;
     let mut sum = 0;
     let mut left = times;
     while 0 < left {
-        last = sheet::load(last.journal, text);
-        sum = plus(sum, last.answer as u64);
+        let loaded = sheet::load(standing, records, text);
+        standing = loaded.count;
+        sum = plus(sum, loaded.answer as u64);
         left -= 1;
     }
     sum

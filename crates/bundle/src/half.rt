@@ -8,6 +8,7 @@ ghost use Rattle.bits.specs.Part.{put as Part·put};
 ghost use Rattle.bundle.specs.Bytes.{number, bytes};
 ghost use Rattle.bundle.specs.Bundle.{whole, halvesOf, slotsOf, joined};
 
+#[repr(C)]
 pub struct Halves {
     pub low: u64,
     pub high: u64,

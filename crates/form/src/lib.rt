@@ -16,6 +16,7 @@ pub const M: u64 = b'M' as u64;
 
 pub const X: u64 = b'X' as u64;
 
+#[repr(C)]
 pub struct Form {
     pub family: u64,
     pub number: u64,

@@ -19,12 +19,11 @@ use Rattle.form.specs.declared.Edit.{Edit}
 use Rattle.immediate.specs.Immediate.{changeRefusals, changedNumber}
 use Rattle.immediate.proofs.Laws.{changed-lt}
 use Rattle.journal.specs.Edit.{Outcome, codeRefusals, rewritten, made, recordOf, roomRefusals, editRefusals, editOf, undoRefusals, undoOf}
-use Rattle.journal.specs.Journal.{standing, journalOf, viewOf, withRecord}
+use Rattle.records.specs.Journal.{Journal, viewOf, withRecord}
 use Rattle.journal.specs.Plan.{refusedPlan, editPlanOf, undoPlanOf, carriedOut}
 use Rattle.journal.specs.declared.plan.Plan.{Plan}
-use Rattle.journal.specs.declared.records.Journal.{Journal}
-use Rattle.journal.specs.declared.records.View.{View}
-use Rattle.journal.proofs.Standing.{view-pushes, view-pops}
+use Rattle.records.specs.declared.View.{View}
+use Rattle.records.proofs.Standing.{view-pushes, view-pops}
 
 -- an outcome that is refused, whatever would be done
 pub refused-is {ℓ} : {A : Type ℓ} (refused : ℕ → A) (done : A) (a b : ℕ) → b ≡ a → (a ≡ accepted → ⊥) → refused a ≡ outcome b done (refused b)

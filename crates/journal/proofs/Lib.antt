@@ -1,5 +1,5 @@
 pub mod Laws
+pub mod Made
 pub mod Rewritten
 pub mod Run
-pub mod Standing
 pub mod Unique

@@ -5,8 +5,8 @@ use mathlib.Core.List.{List}
 use Prim.Native.Nat.{ℕ}
 use Rattle.answer.proofs.Laws.{one-outcome}
 use Rattle.form.specs.declared.Edit.{Edit}
+use Rattle.records.specs.Journal.{Journal}
 use Rattle.journal.specs.Edit.{Outcome, editOf, undoOf}
-use Rattle.journal.specs.declared.records.Journal.{Journal}
 
 pub edit-unique : (places : ℕ) (code : List ℕ) (journal : Journal) (e : Edit) {r s : Outcome}
     → r ≡ editOf places code journal e → s ≡ editOf places code journal e → r ≡ s

@@ -11,9 +11,9 @@ use Rattle.form.specs.declared.Edit.{Edit}
 use Rattle.immediate.specs.Immediate.{changeRefusals, changedNumber}
 use Rattle.record.specs.Record.{editRecord, sameHalves}
 use Rattle.record.specs.declared.Record.{Record}
-use Rattle.journal.specs.Journal.{standing, journalOf, viewOf}
-use Rattle.journal.specs.declared.records.Journal.{Journal}
-use Rattle.journal.specs.declared.records.View.{View}
+use Rattle.records.specs.Journal.{Journal, lent, standing, journalOf, viewOf}
+use Rattle.records.specs.declared.View.{View}
+use Rattle.journal.specs.declared.Edited.{Edited}
 
 -- the code with bundle k made anew
 unfoldable pub rewritten : List ℕ → ℕ → ℕ → List ℕ
@@ -32,6 +32,10 @@ pub record Outcome : Type 0 where
   pub answer : ℕ
   pub journal : Journal
   pub code : List ℕ
+
+-- what a call hands back, with the records and the code that it leaves
+abbrev pub outcomeOf : Edited → List Record → List ℕ → Outcome
+outcomeOf r records code = record { answer = r .answer; journal = lent (r .count) records; code = code }
 
 -- when none of so many places is left for a record, by what the journal shows
 abbrev pub roomRefusals : ℕ → View → List Refusal

@@ -6,10 +6,9 @@ use Rattle.answer.specs.Answer.{first, outcome, accepted}
 use Rattle.bundle.specs.Bundle.{halvesOf, whole}
 use Rattle.form.specs.declared.Edit.{Edit}
 use Rattle.record.specs.Record.{noRecord}
-use Rattle.journal.specs.Journal.{withRecord}
+use Rattle.records.specs.Journal.{Journal, withRecord}
 use Rattle.journal.specs.Edit.{Outcome, rewritten, recordOf, editRefusals, undoRefusals}
-use Rattle.journal.specs.declared.records.Journal.{Journal}
-use Rattle.journal.specs.declared.records.View.{View}
+use Rattle.records.specs.declared.View.{View}
 use Rattle.journal.specs.declared.plan.Plan.{Plan}
 
 -- a refused plan: zeros but for its answer

@@ -2,10 +2,8 @@
 ghost use mathlib.Core.Path.{_≡_};
 ghost use Rattle.answer.specs.Answer.{first};
 ghost use Rattle.journal.specs.Edit.{roomRefusals, undoRefusals};
-ghost use Rattle.journal.specs.Journal.{limit};
+ghost use Rattle.records.specs.Journal.{limit};
 ghost use Rattle.journal.specs.Plan.{refusedPlan, editPlanOf, undoPlanOf};
-use crate::records::LIMIT;
-use crate::records::View;
 use answer::ACCEPTED;
 use answer::BAD_JOURNAL;
 use answer::EMPTY;
@@ -17,6 +15,8 @@ use bundle::Halves;
 use form::Edit;
 use record::NONE;
 use record::Record;
+use records::LIMIT;
+use records::View;
 
 // The answer, the bundle to write, the record to keep and its place, and how many records stand then.
 pub struct Plan {

@@ -1,14 +1,23 @@
-// Sets slot 2, B1, of document 01's example to 16, and writes the sheet of that edit.
+// Sets slot 2, B1, of document 01's example to 16, and writes the sheet of that edit, a line at a time.
 use form::B;
 use form::Edit;
 use form::Form;
 use libc::STDOUT_FILENO;
 use operand::Operand;
+use record::Record;
+
+// No line of a sheet is longer.
+const LINE: usize = 116;
 
 fn main() {
     let mut code = *b"\x30\x00\x00\x00\x00\x40\x00\x00\x00\x00\x80\x00\x00\x00\x00\x80";
-    let mut out = [0u8; sheet::CAPACITY];
-    let edit = Edit {
+    let mut records = records::free();
+    let edited = journal::edit(&mut code, 0, &mut records, example());
+    put_sheet(edited.count, &records);
+}
+
+fn example() -> Edit {
+    Edit {
         bundle: 0,
         slot: 2,
         form: Form {
@@ -16,10 +25,22 @@ fn main() {
             number: 1,
         },
         value: Operand::ImmI64(16),
-    };
-    let edited = journal::edit(&mut code, journal::empty(), edit);
-    let patched = edited.journal;
-    let written = sheet::write(patched, &mut out);
+    }
+}
+
+// The line with the count, then a line a record.
+fn put_sheet(count: u64, records: &[Record]) {
+    put_line(0, count, records);
+    let mut line = 0;
+    while line < count {
+        line += 1;
+        put_line(line, count, records);
+    }
+}
+
+fn put_line(line: u64, count: u64, records: &[Record]) {
+    let mut out = [0u8; LINE];
+    let written = sheet::write_line(line, count, records, &mut out);
     let length = written.length;
     io::write_all(STDOUT_FILENO, &out[..length]);
 }

@@ -1,5 +1,5 @@
-// The commands, by name: first those that show the code, then those that show the journal, then those that
-// change either, and the report's two. A command's answer starts with a word, and each answers where the output stands then.
+// The commands, by name: first those that reach no records, then those that call for them. A command's answer starts with a word, and each
+// answers where the output stands then.
 ghost use Prim.Native.Nat.{_≤_};
 
 mod clear;
@@ -15,46 +15,36 @@ mod load;
 mod operands;
 mod place;
 mod put;
-mod records;
+mod recorded;
 mod report;
 mod sheets;
 mod sum;
 mod target;
-mod undo;
 
+use crate::calls::Call;
+use crate::kept;
 use lines::fields;
 use lines::fields::Six;
 use lines::out;
 use lines::part;
-
-pub struct Done {
-    pub length: usize,
-    pub at: usize,
-}
+pub use recorded::show_place;
 
 // A line that was read: its command, the numbers after it, and where they end.
-struct Call {
+struct Line {
     command: u64,
     of: Six,
     rest: usize,
 }
 
-// What a command that changes something has to say after its word, or that the line doesn't read.
-pub enum Said {
-    Answer(u8),
-    Nothing,
-    Unread,
-}
-
 // No answer ends there, since each starts with a word: the line doesn't read.
 pub const UNREAD: usize = 0;
 
-const NAMES: [u8; 112] =
-    *b"code get sum find cut join operands immediate target records sheet put journal place undo edit load report clear";
+const NAMES: [u8; 122] =
+    *b"code get sum find cut join operands immediate target put report clear records undo edit load journal place sheet sheetline";
 
 // The words that the answers start with.
-const WORDS: [u8; 100] =
-    *b"ok bytes sum find cut join operands immediate target records sheet ok ok ok undo edit load report ok";
+const WORDS: [u8; 110] =
+    *b"ok bytes sum find cut join operands immediate target ok report ok records undo edit load ok ok sheet sheetline";
 
 // Places in both lists.
 const CODE: u64 = 0;
@@ -75,59 +65,62 @@ const IMMEDIATE: u64 = 7;
 
 const TARGET: u64 = 8;
 
-const RECORDS: u64 = 9;
+const PUT: u64 = 9;
 
-const SHEET: u64 = 10;
+const REPORT: u64 = 10;
 
-const PUT: u64 = 11;
+const CLEAR: u64 = 11;
 
-const JOURNAL: u64 = 12;
+const RECORDS: u64 = 12;
 
-const PLACE: u64 = 13;
+const UNDO: u64 = 13;
 
-const UNDO: u64 = 14;
+const EDIT: u64 = 14;
 
-const EDIT: u64 = 15;
+const LOAD: u64 = 15;
 
-const LOAD: u64 = 16;
+const JOURNAL: u64 = 16;
 
-const REPORT: u64 = 17;
+const PLACE: u64 = 17;
 
-const CLEAR: u64 = 18;
+const SHEET: u64 = 18;
 
-// A line on a code of that length, in its room, and on a journal.
+const SHEETLINE: u64 = 19;
+
+// Answers a line on a code, in its room, from `at` on. Where it calls for the records, only its word is written.
 pub fn answer(
     line: &[u8],
     code: &mut [u8],
-    length: usize,
+    lent: &mut [u8],
     kept: &mut [u64],
     out: &mut [u8],
     at: usize,
-) -> Done {
-    let call = read(line);
-    let of = call.of;
-    let command = call.command;
+) -> Call {
+    let read = read(line);
+    let command = read.command;
+    let of = read.of;
+    let start = part::within(line, read.rest);
+    let rest = &line[start..];
     let name = word(out, at, command);
-    if command == CODE {
-        return code::answer(of.0, code, length, name);
+    let call = asked(command, of, rest, lent, kept);
+    if is_call(call) {
+        begin(kept, command, name);
+        return call;
     }
-    let n = part::within(code, length);
-    let rest = part::within(line, call.rest);
-    Done {
-        length,
-        at: called(command, of, &line[rest..], &mut code[0..n], kept, out, name),
-    }
+    let to = answered(command, of, rest, code, kept, out, name);
+    kept::set(kept, kept::AT, ended(out, at, to) as u64);
+    Call::None
 }
 
-// What a line calls; where it doesn't read, a command that there isn't.
-fn read(line: &[u8]) -> Call {
+// What a line asks; where it doesn't read, a command that there isn't.
+fn read(line: &[u8]) -> Line {
     let end = part::first(line, 0, b' ');
     let command = part::place(&NAMES, &line[0..end]);
     let f = fields::numbers_at(line, end, count(command));
     let of = f.of;
     let rest = f.at;
     let reads = f.ok && (line.len() <= rest || takes_text(command));
-    Call {
+    Line {
         command: if reads { command } else { u64::MAX },
         of,
         rest,
@@ -139,8 +132,8 @@ fn count(command: u64) -> usize
     ensures { λ r. ⌜ r ≤ 6 ⌝ }
 {
     match command {
-        SUM | RECORDS | UNDO | LOAD | REPORT | CLEAR => 0,
-        GET => 2,
+        SUM | REPORT | CLEAR | RECORDS | UNDO | LOAD => 0,
+        GET | SHEETLINE => 2,
         PLACE => 3,
         OPERANDS | IMMEDIATE | EDIT => 4,
         JOIN | TARGET => 5,
@@ -150,14 +143,66 @@ fn count(command: u64) -> usize
 
 // Whether text follows the numbers.
 fn takes_text(command: u64) -> bool {
-    command == PUT || command == PLACE || command == EDIT || command == LOAD || command == CLEAR
+    match command {
+        PUT | CLEAR | EDIT | LOAD | JOURNAL | PLACE => true,
+        _ => false,
+    }
 }
 
 fn word(out: &mut [u8], at: usize, command: u64) -> usize {
     text::put_text(out, at, part::word(&WORDS, command))
 }
 
-fn called(
+// What a line calls for; nothing where it doesn't read.
+fn asked(command: u64, of: Six, rest: &[u8], lent: &mut [u8], kept: &mut [u64]) -> Call {
+    match command {
+        RECORDS => recorded::asked(kept),
+        UNDO => Call::Undo,
+        EDIT => edit::asked(of, rest),
+        LOAD => load::asked(rest, lent, kept),
+        JOURNAL => journals::asked(of.0, rest),
+        PLACE => place::asked(of, rest, kept),
+        SHEET => sheets::asked(of.0, lent, kept),
+        SHEETLINE => sheets::line_asked(of.0, of.1, lent, kept),
+        _ => Call::None,
+    }
+}
+
+fn is_call(call: Call) -> bool {
+    match call {
+        Call::None => false,
+        _ => true,
+    }
+}
+
+// A command has called for the records, and its word is written.
+fn begin(kept: &mut [u64], command: u64, at: usize) {
+    kept::set(kept, kept::COMMAND, command);
+    kept::set(kept, kept::AT, at as u64);
+}
+
+// Tells what a call on the records gave.
+pub fn tell(lent: &[u8], kept: &mut [u64], out: &mut [u8]) {
+    let command = kept::get(kept, kept::COMMAND);
+    if command == 0 {
+        return;
+    }
+    let at = kept::get(kept, kept::AT) as usize;
+    let to = told(command, lent, kept, out, at);
+    begin(kept, 0, text::put_byte(out, to, b'\n'));
+}
+
+fn told(command: u64, lent: &[u8], kept: &[u64], out: &mut [u8], at: usize) -> usize {
+    match command {
+        RECORDS => recorded::told(lent, kept, out, at),
+        SHEET | SHEETLINE => sheets::told(lent, kept, out, at),
+        UNDO | EDIT | LOAD => out::number(out, at, kept::get(kept, kept::ANSWER)),
+        _ => at,
+    }
+}
+
+// A line that calls for no records.
+fn answered(
     command: u64,
     of: Six,
     rest: &[u8],
@@ -166,19 +211,20 @@ fn called(
     out: &mut [u8],
     at: usize,
 ) -> usize {
-    if command < RECORDS {
-        return on_code(command, of, code, out, at);
+    if command == CODE {
+        return code::answer(of.0, code, kept, at);
     }
-    if command == RECORDS {
-        return records::answer(kept, out, at);
+    let length = kept::within(kept, kept::LENGTH, code.len());
+    if command == PUT {
+        return put::answer(of.0, rest, &mut code[0..length], at);
     }
-    if command == SHEET {
-        return sheets::answer(of.0, kept, out, at);
+    if command == CLEAR {
+        return clear::answer(rest, kept, at);
     }
     if command == REPORT {
-        return report::answer(code, kept, out, at);
+        return report::answer(&code[0..length], kept, out, at);
     }
-    told(out, at, changed(command, of, rest, code, kept))
+    on_code(command, of, &code[0..length], out, at)
 }
 
 fn on_code(command: u64, of: Six, code: &[u8], out: &mut [u8], at: usize) -> usize {
@@ -190,27 +236,15 @@ fn on_code(command: u64, of: Six, code: &[u8], out: &mut [u8], at: usize) -> usi
         JOIN => join::answer(of, out, at),
         OPERANDS => operands::answer(of, out, at),
         IMMEDIATE => immediates::answer(of, code, out, at),
-        _ => target::answer(of, code, out, at),
+        TARGET => target::answer(of, code, out, at),
+        _ => UNREAD,
     }
 }
 
-fn changed(command: u64, of: Six, rest: &[u8], code: &mut [u8], kept: &mut [u64]) -> Said {
-    match command {
-        PUT => put::answer(of.0, rest, code),
-        JOURNAL => journals::answer(of.0, kept),
-        PLACE => place::answer(of, rest, kept),
-        UNDO => undo::answer(code, kept),
-        EDIT => edit::answer(of, rest, code, kept),
-        LOAD => load::answer(rest, kept),
-        CLEAR => clear::answer(rest, kept),
-        _ => Said::Unread,
+// The newline after an answer; a line that wrote nothing doesn't read.
+pub fn ended(out: &mut [u8], from: usize, to: usize) -> usize {
+    if to <= from {
+        return text::put_text(out, from, b"error\n");
     }
-}
-
-fn told(out: &mut [u8], at: usize, said: Said) -> usize {
-    match said {
-        Said::Answer(answer) => out::number(out, at, answer as u64),
-        Said::Nothing => at,
-        Said::Unread => UNREAD,
-    }
+    text::put_byte(out, to, b'\n')
 }

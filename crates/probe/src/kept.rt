@@ -1,16 +1,62 @@
-// What is kept between the lines: the journal's count, the nine numbers of each of its places, and after them the report.
-use bundle::Halves;
-use form::Form;
+// What is kept between the lines, a number at each of these places.
+ghost use Prim.Native.Nat.{_≤_};
 use journal::Edited;
-use journal::Journal;
-use record::Record;
 use tally::NUMBERS;
+use text::Written;
 
-// Where the report's numbers begin, after the journal's.
-const REPORT: usize = 577;
+// The most places that a journal has here.
+pub const MOST_PLACES: usize = 2048;
+
+// The journal's count, and how many places it has.
+pub const COUNT: usize = 0;
+
+pub const PLACES: usize = 1;
+
+// The code's length.
+pub const LENGTH: usize = 2;
+
+// How many bytes of input are held, and where those begin that are not answered yet.
+pub const HELD: usize = 3;
+
+pub const FROM: usize = 4;
+
+// Whether the start of the line at hand is gone, since there was no room for it.
+pub const CUT: usize = 5;
+
+// Whether the input has ended.
+pub const OVER: usize = 6;
+
+// How many bytes of output are not written yet.
+pub const AT: usize = 7;
+
+// The command that calls for the records, or 0, and how much room it is lent.
+pub const COMMAND: usize = 8;
+
+pub const LENT: usize = 9;
+
+// What it answered, and how many bytes it wrote.
+pub const ANSWER: usize = 10;
+
+pub const WRITTEN: usize = 11;
+
+const REPORT: usize = 12;
+
+pub fn first() -> [u64; REPORT + NUMBERS] {
+    let mut kept = [0; REPORT + NUMBERS];
+    kept[PLACES] = records::LIMIT;
+    kept
+}
 
 pub fn get(kept: &[u64], i: usize) -> u64 {
     if i < kept.len() { kept[i] } else { 0 }
+}
+
+// The number at a place, and never more than `most`.
+pub fn within(kept: &[u64], i: usize, most: usize) -> usize
+    ensures { λ r. ⌜ r ≤ most ⌝ }
+{
+    let n = get(kept, i) as usize;
+    if n < most { n } else { most }
 }
 
 pub fn set(kept: &mut [u64], i: usize, n: u64) {
@@ -19,23 +65,21 @@ pub fn set(kept: &mut [u64], i: usize, n: u64) {
     }
 }
 
-// Sets the nine numbers from `at` on.
-pub fn set_place(kept: &mut [u64], at: usize, of: [u64; 9]) {
-    let from = at % 1024;
-    let mut i = 0;
-    while i < 9 {
-        set(kept, from + i, of[i]);
-        i += 1;
-    }
+pub fn set_journal(kept: &mut [u64], count: u64, places: u64) {
+    set(kept, COUNT, count);
+    set(kept, PLACES, places);
 }
 
-// Every number of the journal is zero.
-pub fn clear(kept: &mut [u64]) {
-    let mut i = 0;
-    while i < REPORT {
-        set(kept, i, 0);
-        i += 1;
-    }
+// Keeps what an edit, an undo or a load gave.
+pub fn keep(kept: &mut [u64], edited: Edited) {
+    set(kept, ANSWER, edited.answer as u64);
+    set(kept, COUNT, edited.count);
+}
+
+// Keeps what writing a sheet or its line gave.
+pub fn keep_written(kept: &mut [u64], written: Written) {
+    set(kept, ANSWER, written.answer as u64);
+    set(kept, WRITTEN, written.length as u64);
 }
 
 pub fn report(kept: &[u64]) -> [u64; NUMBERS] {
@@ -54,75 +98,4 @@ pub fn set_report(kept: &mut [u64], report: &[u64]) {
         set(kept, REPORT + i, get(report, i));
         i += 1;
     }
-}
-
-pub fn journal(kept: &[u64]) -> Journal {
-    let count = get(kept, 0);
-    let mut j = journal::empty();
-    let mut i = 0;
-    while i < journal::LIMIT {
-        let edited = journal::with_record(j, i, place(kept, i as usize * 9), count);
-        j = edited.journal;
-        i += 1;
-    }
-    j
-}
-
-pub fn place(kept: &[u64], before: usize) -> Record {
-    let at = before % 1024;
-    let form = Form {
-        family: get(kept, at + 3),
-        number: get(kept, at + 4),
-    };
-    let old = Halves {
-        low: get(kept, at + 6),
-        high: get(kept, at + 7),
-    };
-    let new = Halves {
-        low: get(kept, at + 8),
-        high: get(kept, at + 9),
-    };
-    Record {
-        bundle: get(kept, at + 1),
-        slot: get(kept, at + 2),
-        form,
-        value: get(kept, at + 5),
-        old,
-        new,
-    }
-}
-
-// Keeps the journal that a call handed back, and gives its answer.
-pub fn keep(kept: &mut [u64], edited: Edited) -> u8 {
-    let j = edited.journal;
-    set_journal(kept, j);
-    edited.answer
-}
-
-fn set_journal(kept: &mut [u64], j: Journal) {
-    set(kept, 0, j.count);
-    let records = journal::places(j);
-    let mut i = 0;
-    while i < journal::LIMIT as usize {
-        let one = records[i];
-        set_place(kept, i * 9 + 1, numbers(one));
-        i += 1;
-    }
-}
-
-pub fn numbers(one: Record) -> [u64; 9] {
-    let form = one.form;
-    let old = one.old;
-    let new = one.new;
-    [
-        one.bundle,
-        one.slot,
-        form.family,
-        form.number,
-        one.value,
-        old.low,
-        old.high,
-        new.low,
-        new.high,
-    ]
 }

@@ -2,11 +2,15 @@
 ghost use mathlib.Core.Path.{_≡_};
 ghost use lib.ListN.{length};
 
+mod calls;
 mod command;
 mod kept;
 mod session;
 
-// Room for the longest line, and more.
+use record::NONE;
+use record::Record;
+
+// Room for the longest line or answer, and more.
 fn room() -> [u8; 524288]
     ensures { λ r. ⌜ 524288 ≡ length r ⌝ }
 {
@@ -19,10 +23,25 @@ fn code_room() -> [u8; 65600]
     [0; 65600]
 }
 
+fn places() -> [Record; kept::MOST_PLACES]
+    ensures { λ r. ⌜ 2048 ≡ length r ⌝ }
+{
+    [NONE; kept::MOST_PLACES]
+}
+
 fn main() {
     let mut text = room();
     let mut code = code_room();
-    let mut kept = [0u64; 577 + tally::NUMBERS];
+    let mut lent = room();
+    let mut kept = kept::first();
     let mut out = room();
-    session::run(&mut text, &mut code, &mut kept, &mut out);
+    let mut records = places();
+    session::run(
+        &mut text,
+        &mut code,
+        &mut lent,
+        &mut kept,
+        &mut out,
+        &mut records,
+    );
 }

@@ -1,7 +1,8 @@
 -- A record of an edit, and which records may stand in a journal. Assumes nothing.
-use Prim.Native.Nat.{ℕ}
-use mathlib.Core.Bool.{Bool, _&&_, _||_}
-use lib.Dec.{eqb, leb}
+use Prim.Native.Nat.{ℕ, _^_}
+use mathlib.Core.Bool.{Bool, true, _&&_, _||_}
+use mathlib.Core.List.{List, [], _∷_}
+use lib.Dec.{eqb, leb, ltb}
 use Rattle.answer.specs.Answer.{accepted}
 use Rattle.bundle.specs.Bundle.{halvesOf, whole}
 use Rattle.bundle.specs.declared.half.Halves.{Halves}
@@ -59,3 +60,16 @@ passes r = isWhole r || gives (changedOf (whole (r .old)) (told r)) (r .new)
 -- a record that may stand
 abbrev pub mayStand : Record → Bool
 mayStand r = leb (r .bundle) highest && passes r
+
+-- numbers of 64 bits
+abbrev pub areWords : List ℕ → Bool
+areWords [] = true
+areWords (n ∷ ns) = ltb n (2 ^ 64) && areWords ns
+
+-- the numbers of a record's line
+abbrev pub numbersOf : Record → List ℕ
+numbersOf r = r .bundle ∷ r .slot ∷ r .form .number ∷ r .value ∷ r .old .low ∷ r .old .high ∷ r .new .low ∷ r .new .high ∷ []
+
+-- a record of the code, whose numbers are
+abbrev pub isHeld : Record → Bool
+isHeld r = areWords (numbersOf r)

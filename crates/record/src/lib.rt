@@ -13,6 +13,7 @@ const HIGHEST: u64 = 4095;
 
 // The slot, form and value are those of the edit, the value by its 64-bit pattern; a record of a whole bundle has slot 0,
 // no form and value 0.
+#[repr(C)]
 pub struct Record {
     pub bundle: u64,
     pub slot: u64,

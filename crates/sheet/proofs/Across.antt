@@ -14,20 +14,19 @@ use Rattle.answer.proofs.Laws.{accepts, refuses}
 use Rattle.bits.proofs.Laws.{part-lt}
 use Rattle.bundle.specs.Bundle.{longestCode}
 use Rattle.bundle.proofs.Bytes.{Bytes}
-use Rattle.journal.specs.Journal.{limit}
+use Rattle.records.specs.Journal.{Journal, limit}
 use Rattle.journal.specs.Edit.{Outcome, editOf, undoOf}
 use Rattle.journal.specs.Demand3.{Call, edit, undo, step, run}
-use Rattle.journal.specs.declared.records.Edited.{Edited}
-use Rattle.journal.specs.declared.records.Journal.{Journal}
 use Rattle.journal.proofs.Run.{OfEdits, holds, run-valid, run-all}
-use Rattle.record.specs.Record.{editRecord}
+use Rattle.record.specs.Record.{editRecord, isHeld, numbersOf}
+use Rattle.records.proofs.Standing.{valid-places}
 use Rattle.record.proofs.Laws.{edit-slot, edit-form, edit-pattern}
 use Rattle.text.specs.Whole.{wroteOf, wholeRefusals}
 use Rattle.text.specs.declared.whole.Written.{Written}
-use Rattle.sheet.specs.RoundTrip.{isHeld, numbersOf, HasSheet}
+use Rattle.sheet.specs.RoundTrip.{HasSheet}
 use Rattle.sheet.specs.Sheet.{tells, sheetOf, writeRefusals}
 use Rattle.sheet.specs.declared.line.Kind.the-variants.{Full}
-use Rattle.sheet.specs.Load.{loadOf}
+use Rattle.sheet.specs.Load.{Loaded, loadOf}
 use Rattle.sheet.specs.Across.{SheetCall, call, write, load, sheetIn, loaded, runAcross, plain, Demand3Across}
 use Rattle.sheet.proofs.Held.{are-words}
 use Rattle.sheet.proofs.Inverse.{load-written}
@@ -69,7 +68,7 @@ same-step s t p q (edit e) = ap₂ (λ (code : List ℕ) (journal : Journal). ed
 same-step s t p q undo = ap₂ (undoOf limit) p q
 
 module _ (code : List ℕ) (b : Bytes code) (short : length code ≤ longestCode) where
-  run-sheet : (calls : List Call) → HasSheet Full (run limit code calls .journal)
+  run-sheet : (calls : List Call) → HasSheet limit Full (run limit code calls .journal)
   run-sheet calls =
       record {
         valid = run-valid limit code b short calls;
@@ -79,10 +78,11 @@ module _ (code : List ℕ) (b : Bytes code) (short : length code ≤ longestCode
 
   -- loading the sheet of the run's journal gives that journal
   loads-own : (calls : List SheetCall) → Reached code calls → (text : List ℕ) → runAcross code calls .sheet ≡ some text
-      → (given : Journal) → loadOf given text ≡ record { answer = accepted; journal = run limit code (plain calls) .journal }
-  loads-own calls r text e given =
-      ap (loadOf given) (r .sheets text e)
-      ∙ load-written Full given (run limit code (plain calls) .journal) (run-sheet (plain calls))
+      → loadOf limit (runAcross code calls .after .journal) text ≡ record { answer = accepted; journal = run limit code (plain calls) .journal }
+  loads-own calls r text e =
+      let j = run limit code (plain calls) .journal in
+      let s = run-sheet (plain calls) in
+      ap₂ (loadOf limit) (r .journals) (r .sheets text e) ∙ load-written limit Full j j (omega arith) (valid-places limit j (s .valid)) s
 
   after-load : (calls : List SheetCall) → Reached code calls → Reached code (load ∷ calls)
   after-load calls r =
@@ -101,7 +101,7 @@ module _ (code : List ℕ) (b : Bytes code) (short : length code ≤ longestCode
 
       journals-of : (sheet : Option (List ℕ)) → runAcross code calls .sheet ≡ sheet → loaded o sheet .journal ≡ run limit code (plain calls) .journal
       journals-of none e = r .journals
-      journals-of (some text) e = ap (λ (l : Edited). l .journal) (loads-own calls r text e (o .journal))
+      journals-of (some text) e = ap (λ (l : Loaded). l .journal) (loads-own calls r text e)
 
   reached : (calls : List SheetCall) → Reached code calls
   reached [] = record { codes = refl; journals = refl; sheets = λ text e. absurd (Option·none-ne-some text e) }
@@ -131,6 +131,6 @@ demand-3-across code b short calls =
       answers = λ c. ap (λ (o : Outcome). o .answer) (same-step (runAcross code calls .after) (run limit code (plain calls)) (r .codes) (r .journals) c);
       loads = λ text e.
           ap (λ (sheet : Option (List ℕ)). loaded (runAcross code calls .after) sheet .answer) e
-          ∙ ap (λ (l : Edited). l .answer) (loads-own code b short calls r text e (runAcross code calls .after .journal));
+          ∙ ap (λ (l : Loaded). l .answer) (loads-own code b short calls r text e);
       holds = holds limit code b short (plain calls);
     }

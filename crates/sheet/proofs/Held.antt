@@ -4,8 +4,8 @@ use Prim.Native.Nat.{ℕ, _^_}
 use lib.Dec.{T, ltb, ltb→lt}
 use borrow.Author.Tests.{lt-ltb}
 use mir.Facts.{and-yes}
+use Rattle.record.specs.Record.{areWords}
 use Rattle.text.proofs.RoundTrip.{Words}
-use Rattle.sheet.specs.RoundTrip.{areWords}
 
 pub words : (ns : List ℕ) → T (areWords ns) → Words ns
 words [] t = tt

@@ -4,7 +4,7 @@ use mathlib.Core.Path.{_≡_, refl, sym, ap, _∙_, subst}
 use mathlib.Core.Bool.{Bool, true, false, decide-iff}
 use mathlib.Core.List.{List, [], _∷_, _++_, append-nil, List-discrete}
 use mathlib.Core.Option.{Option, none, some, Option·map, Option·some-injective, Option·none-ne-some}
-use Prim.Native.Nat.{ℕ, zero, suc, _+_, _≤_}
+use Prim.Native.Nat.{ℕ, zero, suc, _+_, _≤_, _<_, _^_}
 use native.Mathlib.Omega.{arith}
 use native.Mathlib.Decide.{decLt, ℕ-discrete}
 use lib.Dec.{T}
@@ -14,10 +14,9 @@ use lib.Seq.{drop-length}
 use mir.Facts.{and-yes, yes-and}
 use borrow.Author.Tests.{eq-eqb, ne-eqb, le-leb, lt-leb}
 use Rattle.answer.specs.Answer.{accepted, badSheet}
-use Rattle.journal.specs.Journal.{limit, all, standing, journalOf}
-use Rattle.journal.specs.declared.records.Journal.{Journal}
-use Rattle.journal.proofs.Standing.{journal-stands, journal-valid, valid-is-journal, valid-few, valid-stand}
-use Rattle.record.specs.Record.{mayStand}
+use Rattle.records.specs.Journal.{Journal, all, standing, journalOf}
+use Rattle.records.proofs.Standing.{journal-stands, journal-valid, valid-is-journal, valid-few, valid-stand}
+use Rattle.record.specs.Record.{mayStand, isHeld}
 use Rattle.record.specs.declared.Record.{Record}
 use Rattle.table.specs.Ascii.{ascii}
 use Rattle.text.specs.Ascii.{newline, startsWith}
@@ -28,8 +27,8 @@ use Rattle.text.proofs.RoundTrip.{starts-is, field-read, field-back}
 use Rattle.text.proofs.Stands.{Stands, stands-then, stands-parts}
 use Rattle.sheet.specs.declared.line.Line.{Line}
 use Rattle.sheet.specs.declared.line.Line.the-variants as line
-use Rattle.sheet.specs.RoundTrip.{isHeld, HasSheet, LoadsWritten, LoadsOnlyWritten, RefusesOther}
-use Rattle.sheet.specs.Load.{lineAt, recordsAt, headOf, recordsAs, orElse, recordsIn, answerOf, loadOf}
+use Rattle.sheet.specs.RoundTrip.{HasSheet, Fits, LoadsWritten, LoadsOnlyWritten, RefusesOther, RefusesMore, RefusesPlaces}
+use Rattle.sheet.specs.Load.{lineAt, recordsAt, headOf, recordsAs, orElse, recordsIn, Loaded, answerOf, loadOf}
 use Rattle.sheet.specs.Sheet.{lineAs, tells, linesAs, headerOf, sheetAs}
 use Rattle.sheet.specs.declared.line.Kind.{Kind}
 use Rattle.sheet.specs.declared.line.Kind.the-variants.{Full, Old}
@@ -60,22 +59,14 @@ record Begun (text : List ℕ) (count : ℕ) (rest : List ℕ) : Type 0 where
   head : headOf text ≡ Read count at
   lines : Stands text at rest (length text)
 
-begun : (text : List ℕ) (count : ℕ) (rest : List ℕ) → count ≤ limit → text ≡ headerOf count ++ rest → Begun text count rest
+begun : (text : List ℕ) (count : ℕ) (rest : List ℕ) → count < 2 ^ 64 → text ≡ headerOf count ++ rest → Begun text count rest
 unfolding headOf
 begun text count rest few e =
     let s : Stands text 0 (headerOf count ++ rest) (length text) = subst (λ (l : List ℕ). Stands text 0 l (length text)) e (whole-stands text) in
     let p = stands-parts (ascii "patches\t") {b = counted count ++ rest} s in
     let q = stands-parts (counted count) (p .1) in
     let starts : startsWith (ascii "patches\t") text ≡ true = ap (startsWith (ascii "patches\t")) e ∙ decide-iff (List-discrete ℕ-discrete (ascii "patches\t") (ascii "patches\t")) .1 refl in
-    record { at = 8 + length (counted count); head = rw starts (field-back text 8 10 count _ refl (omega arith) (q .0)); lines = q .1 }
-
-sheet-back : (kind : Kind) (j : Journal) → HasSheet kind j → recordsAs kind (sheetAs kind j) ≡ some (standing j)
-unfolding recordsAs sheetAs
-sheet-back kind j s =
-    let rs = standing j in
-    let few = valid-few limit j (s .valid) in
-    let b = begun (sheetAs kind j) (length rs) (linesAs kind rs) few refl in
-    rw (b .head, le-leb (length rs) limit few, records-back kind (sheetAs kind j) rs (b .at) (valid-stand limit j (s .valid)) (s .held) (s .told) (b .lines))
+    record { at = 8 + length (counted count); head = rw starts (field-back text 8 10 count _ refl few (q .0)); lines = q .1 }
 
 -- what was read from a place on
 record RecordsRead (kind : Kind) (text : List ℕ) (at left : ℕ) (rs : List Record) : Type 0 where
@@ -131,96 +122,132 @@ headed text count at e = go (startsWith (ascii "patches\t") text) refl
     go false s = absurd (let f : Refused ≡ Read count at = rw s at e in let z : _≡_ {A = ℕ} 0 1 = cc in omega arith)
     go true s = record { starts = starts-is (ascii "patches\t") text s; counts = field-read text 8 10 count at (rw s at e) .piece }
 
--- a text that was read is the sheet of the journal of what was read
-abbrev IsSheet : Kind → List ℕ → Journal → Type 0
-IsSheet kind text j = HasSheet kind j × (text ≡ sheetAs kind j)
+module _ (places : ℕ) where
+  sheet-back : (kind : Kind) (j : Journal) → places < 2 ^ 64 → HasSheet places kind j → recordsAs places kind (sheetAs kind j) ≡ some (standing j)
+  unfolding recordsAs sheetAs
+  sheet-back kind j short s =
+      let rs = standing j in
+      let few = valid-few places j (s .valid) in
+      let b = begun (sheetAs kind j) (length rs) (linesAs kind rs) (omega arith) refl in
+      rw (b .head, le-leb (length rs) places few, records-back kind (sheetAs kind j) rs (b .at) (valid-stand places j (s .valid)) (s .held) (s .told) (b .lines))
 
-is-sheet : (kind : Kind) (text : List ℕ) (count at : ℕ) → count ≤ limit → Headed text count at → (rs : List Record) → RecordsRead kind text at count rs → IsSheet kind text (journalOf limit rs)
-unfolding sheetAs
-is-sheet kind text count at few h rs r =
-    let stand = journal-stands limit rs in
-    let lines : drop at text ≡ linesAs kind rs = r .lines .found ∙ ap (λ (l : List ℕ). linesAs kind rs ++ l) (drop-length text) ∙ append-nil (linesAs kind rs) in (
-      record {
-        valid = journal-valid limit rs ∙ rw (le-leb (length rs) limit (omega (arith, r .long)), is-true (all mayStand rs) (r .stand));
-        held = subst (λ (qs : List Record). T (all isHeld qs)) (sym stand) (r .held);
-        told = subst (λ (qs : List Record). T (all (tells kind) qs)) (sym stand) (r .told);
-      },
-      h .starts
-          ∙ ap (λ (l : List ℕ). ascii "patches\t" ++ l) (h .counts .found ∙ ap (λ (l : List ℕ). counted count ++ l) lines)
-          ∙ ap (λ (n : ℕ). headerOf n ++ linesAs kind rs) (sym (r .long))
-          ∙ ap (λ (qs : List Record). headerOf (length qs) ++ linesAs kind qs) (sym stand),
-    )
+  -- the sheet of more records is none
+  sheet-more : (kind other : Kind) (j : Journal) → places < length (standing j) → length (standing j) < 2 ^ 64 → recordsAs places other (sheetAs kind j) ≡ none
+  unfolding recordsAs sheetAs
+  sheet-more kind other j more short =
+      let b = begun (sheetAs kind j) (length (standing j)) (linesAs kind (standing j)) short refl in
+      rw (b .head, lt-leb (length (standing j)) places more)
 
--- what reading in lines of a kind came to
-record Gave (kind : Kind) (text : List ℕ) (rs : List Record) : Type 0 where
-  count : ℕ
-  at : ℕ
-  few : count ≤ limit
-  head : headOf text ≡ Read count at
-  lines : recordsAt kind text at count ≡ some rs
+  -- a text that was read is the sheet of the journal of what was read
+  abbrev IsSheet : Kind → List ℕ → Journal → Type 0
+  IsSheet kind text j = HasSheet places kind j × (text ≡ sheetAs kind j)
 
-gave : (kind : Kind) (text : List ℕ) (rs : List Record) → recordsAs kind text ≡ some rs → Gave kind text rs
-unfolding recordsAs
-gave kind text rs = go (headOf text) refl
-  where
-    go : (m : Number) → headOf text ≡ m → recordsAs kind text ≡ some rs → Gave kind text rs
-    go Refused e f = absurd (Option·none-ne-some rs (rw e at f))
-    go (Read count at) e f =
-        elim (decLt limit count) [
-          | yes h ↦ absurd (Option·none-ne-some rs (rw (e, lt-leb count limit h) at f))
-          | no h ↦
-              let few : count ≤ limit = omega arith in
-              record { count = count; at = at; few = few; head = e; lines = rw (e, le-leb count limit few) at f }
-        ]
+  is-sheet : (kind : Kind) (text : List ℕ) (count at : ℕ) → count ≤ places → Headed text count at → (rs : List Record) → RecordsRead kind text at count rs → IsSheet kind text (journalOf places rs)
+  unfolding sheetAs
+  is-sheet kind text count at few h rs r =
+      let stand = journal-stands places rs in
+      let lines : drop at text ≡ linesAs kind rs = r .lines .found ∙ ap (λ (l : List ℕ). linesAs kind rs ++ l) (drop-length text) ∙ append-nil (linesAs kind rs) in (
+        record {
+          valid = journal-valid places rs ∙ rw (le-leb (length rs) places (omega (arith, r .long)), is-true (all mayStand rs) (r .stand));
+          held = subst (λ (qs : List Record). T (all isHeld qs)) (sym stand) (r .held);
+          told = subst (λ (qs : List Record). T (all (tells kind) qs)) (sym stand) (r .told);
+        },
+        h .starts
+            ∙ ap (λ (l : List ℕ). ascii "patches\t" ++ l) (h .counts .found ∙ ap (λ (l : List ℕ). counted count ++ l) lines)
+            ∙ ap (λ (n : ℕ). headerOf n ++ linesAs kind rs) (sym (r .long))
+            ∙ ap (λ (qs : List Record). headerOf (length qs) ++ linesAs kind qs) (sym stand),
+      )
 
-records-sheet : (kind : Kind) (text : List ℕ) (rs : List Record) → recordsAs kind text ≡ some rs → IsSheet kind text (journalOf limit rs)
-records-sheet kind text rs f =
-    let g = gave kind text rs f in
-    is-sheet kind text (g .count) (g .at) (g .few) (headed text (g .count) (g .at) (g .head)) rs (records-read kind text (g .count) (g .at) rs (g .lines))
+  -- what reading in lines of a kind came to
+  record Gave (kind : Kind) (text : List ℕ) (rs : List Record) : Type 0 where
+    count : ℕ
+    at : ℕ
+    few : count ≤ places
+    head : headOf text ≡ Read count at
+    lines : recordsAt kind text at count ≡ some rs
 
--- what a sheet gives, by its kind
-both : (text : List ℕ) (rs qs : List Record) → recordsAs Full text ≡ some rs → recordsAs Old text ≡ some qs → rs ≡ qs
-both text rs qs f g =
-    let a = gave Full text rs f in
-    let b = gave Old text qs g in
-    let e : Read (b .count) (b .at) ≡ Read (a .count) (a .at) = sym (b .head) ∙ a .head in
-    let n : b .count ≡ a .count = cc in
-    let p : b .at ≡ a .at = cc in
-    one-kind text (a .at) (a .count) rs qs (a .lines) (subst (λ (k : ℕ). recordsAt Old text k (a .count) ≡ some qs) p (subst (λ (k : ℕ). recordsAt Old text (b .at) k ≡ some qs) n (b .lines)))
+  gave : (kind : Kind) (text : List ℕ) (rs : List Record) → recordsAs places kind text ≡ some rs → Gave kind text rs
+  unfolding recordsAs
+  gave kind text rs = go (headOf text) refl
+    where
+      go : (m : Number) → headOf text ≡ m → recordsAs places kind text ≡ some rs → Gave kind text rs
+      go Refused e f = absurd (Option·none-ne-some rs (rw e at f))
+      go (Read count at) e f =
+          elim (decLt places count) [
+            | yes h ↦ absurd (Option·none-ne-some rs (rw (e, lt-leb count places h) at f))
+            | no h ↦
+                let few : count ≤ places = omega arith in
+                record { count = count; at = at; few = few; head = e; lines = rw (e, le-leb count places few) at f }
+          ]
 
-given-as : (kind : Kind) (text : List ℕ) (rs : List Record) → recordsAs kind text ≡ some rs → recordsIn text ≡ some rs
-given-as Full text rs e = rw e
-given-as Old text rs e = go (recordsAs Full text) refl
-  where
-    go : (o : Option (List Record)) → recordsAs Full text ≡ o → orElse o (recordsAs Old text) ≡ some rs
-    go none q = e
-    go (some qs) q = ap some (both text qs rs q e)
+  records-sheet : (kind : Kind) (text : List ℕ) (rs : List Record) → recordsAs places kind text ≡ some rs → IsSheet kind text (journalOf places rs)
+  records-sheet kind text rs f =
+      let g = gave kind text rs f in
+      is-sheet kind text (g .count) (g .at) (g .few) (headed text (g .count) (g .at) (g .head)) rs (records-read kind text (g .count) (g .at) rs (g .lines))
 
-of-kind : (text : List ℕ) (rs : List Record) → recordsIn text ≡ some rs → (kind : Kind) × IsSheet kind text (journalOf limit rs)
-of-kind text rs = go (recordsAs Full text) refl
-  where
-    go : (o : Option (List Record)) → recordsAs Full text ≡ o → orElse o (recordsAs Old text) ≡ some rs → (kind : Kind) × IsSheet kind text (journalOf limit rs)
-    go none q e = (Old, records-sheet Old text rs e)
-    go (some qs) q e = (Full, records-sheet Full text rs (q ∙ e))
+  -- what a sheet gives, by its kind
+  both : (text : List ℕ) (rs qs : List Record) → recordsAs places Full text ≡ some rs → recordsAs places Old text ≡ some qs → rs ≡ qs
+  both text rs qs f g =
+      let a = gave Full text rs f in
+      let b = gave Old text qs g in
+      let e : Read (b .count) (b .at) ≡ Read (a .count) (a .at) = sym (b .head) ∙ a .head in
+      let n : b .count ≡ a .count = cc in
+      let p : b .at ≡ a .at = cc in
+      one-kind text (a .at) (a .count) rs qs (a .lines) (subst (λ (k : ℕ). recordsAt Old text k (a .count) ≡ some qs) p (subst (λ (k : ℕ). recordsAt Old text (b .at) k ≡ some qs) n (b .lines)))
+
+  given-as : (kind : Kind) (text : List ℕ) (rs : List Record) → recordsAs places kind text ≡ some rs → recordsIn places text ≡ some rs
+  given-as Full text rs e = rw e
+  given-as Old text rs e = go (recordsAs places Full text) refl
+    where
+      go : (o : Option (List Record)) → recordsAs places Full text ≡ o → orElse o (recordsAs places Old text) ≡ some rs
+      go none q = e
+      go (some qs) q = ap some (both text qs rs q e)
+
+  of-kind : (text : List ℕ) (rs : List Record) → recordsIn places text ≡ some rs → (kind : Kind) × IsSheet kind text (journalOf places rs)
+  of-kind text rs = go (recordsAs places Full text) refl
+    where
+      go : (o : Option (List Record)) → recordsAs places Full text ≡ o → orElse o (recordsAs places Old text) ≡ some rs → (kind : Kind) × IsSheet kind text (journalOf places rs)
+      go none q e = (Old, records-sheet Old text rs e)
+      go (some qs) q e = (Full, records-sheet Full text rs (q ∙ e))
+
+-- loading over a journal of so many places
+module _ (places : ℕ) (given : Journal) (text : List ℕ) (fits : Fits places given) where
+  pub loads-fit : loadOf places given text ≡ answerOf places given (recordsIn places text)
+  unfolding loadOf
+  loads-fit = rw (eq-eqb _ _ fits)
 
 pub load-written : LoadsWritten
+load-written places kind given j short fits s =
+    loads-fit places given (sheetAs kind j) fits
+    ∙ ap (answerOf places given) (given-as places kind (sheetAs kind j) (standing j) (sheet-back places kind j short s))
+    ∙ ap (λ (i : Journal). record { answer = accepted; journal = i }) (valid-is-journal places j (s .valid))
+
+pub refuses-places : RefusesPlaces
 unfolding loadOf
-load-written kind given j s =
-    ap (answerOf given) (given-as kind (sheetAs kind j) (standing j) (sheet-back kind j s))
-    ∙ ap (λ (i : Journal). record { answer = accepted; journal = i }) (valid-is-journal limit j (s .valid))
+refuses-places places given text d = rw (ne-eqb _ _ d)
 
 pub load-only-written : LoadsOnlyWritten
-unfolding loadOf
-load-only-written given text e = go (recordsIn text) refl e
+load-only-written places given text e = by (ℕ-discrete (length (given .records)) places)
   where
-    go : (o : Option (List Record)) → recordsIn text ≡ o → answerOf given o .answer ≡ accepted → (kind : Kind) × HasSheet kind (answerOf given o .journal) × (text ≡ sheetAs kind (answerOf given o .journal))
+    Gives : Loaded → Type 0
+    Gives l = (kind : Kind) × HasSheet places kind (l .journal) × (text ≡ sheetAs kind (l .journal))
+
+    go : (o : Option (List Record)) → recordsIn places text ≡ o → answerOf places given o .answer ≡ accepted → Gives (answerOf places given o)
     go none q e = absurd (omega (arith, e))
-    go (some rs) q e = let s = of-kind text rs q in (s .0, s .1 .0, s .1 .1)
+    go (some rs) q e = let s = of-kind places text rs q in (s .0, s .1 .0, s .1 .1)
+
+    by : Dec (length (given .records) ≡ places) → Gives (loadOf places given text)
+    by (yes f) = let l = loads-fit places given text f in subst Gives (sym l) (go (recordsIn places text) refl (ap (λ (l : Loaded). l .answer) (sym l) ∙ e))
+    by (no d) = absurd (let r = ap (λ (l : Loaded). l .answer) (refuses-places places given text d) in omega (arith, e, r))
 
 pub refuses-other : RefusesOther
-unfolding loadOf
-refuses-other given text none-is = go (recordsIn text) refl
+refuses-other places given text fits none-is = loads-fit places given text fits ∙ go (recordsIn places text) refl
   where
-    go : (o : Option (List Record)) → recordsIn text ≡ o → answerOf given o ≡ record { answer = badSheet; journal = given }
+    go : (o : Option (List Record)) → recordsIn places text ≡ o → answerOf places given o ≡ record { answer = badSheet; journal = given }
     go none q = refl
-    go (some rs) q = let s = of-kind text rs q in absurd (none-is (s .0) (journalOf limit rs) (s .1 .0) (s .1 .1))
+    go (some rs) q = let s = of-kind places text rs q in absurd (none-is (s .0) (journalOf places rs) (s .1 .0) (s .1 .1))
+
+pub refuses-more : RefusesMore
+refuses-more places kind given j fits more short =
+    let none-is : recordsIn places (sheetAs kind j) ≡ none = rw (sheet-more places kind Full j more short) (sheet-more places kind Old j more short) in
+    loads-fit places given (sheetAs kind j) fits ∙ ap (answerOf places given) none-is

@@ -22,18 +22,18 @@ use Rattle.bundle.specs.Template.{unitsOf}
 use Rattle.form.specs.Form.{noForm, m}
 use Rattle.form.specs.declared.Form.{Form}
 use Rattle.immediate.specs.Immediate.{changeRefusals, changedOf}
-use Rattle.journal.specs.Journal.{limit, all, standing}
-use Rattle.journal.proofs.Standing.{journal-stands, journal-valid, valid-few, valid-stand}
+use Rattle.records.specs.Journal.{limit, all, standing}
+use Rattle.records.proofs.Standing.{journal-stands, journal-valid, valid-few, valid-stand}
 use Rattle.name.specs.Name.{nameOf}
 use Rattle.name.proofs.Names.{letter-name, other-name}
-use Rattle.record.specs.Record.{highest, isWhole, told, passes, mayStand}
+use Rattle.record.specs.Record.{highest, isWhole, told, passes, mayStand, isHeld, numbersOf}
 use Rattle.record.specs.declared.Record.{Record}
 use Rattle.record.proofs.Laws.{whole-is, passes-by, passes-form, edit-slot}
 use Rattle.row.specs.Row.{lines, rowOf}
 use Rattle.text.specs.Decimal.{decimal}
 use Rattle.text.proofs.Numerals.{decimal-one, decimal-more, decimal-length}
 use Rattle.sheet.specs.declared.line.Kind.the-variants.{Full}
-use Rattle.sheet.specs.RoundTrip.{isHeld, numbersOf, AtMost, longestRecord, longest, LongestHas}
+use Rattle.sheet.specs.RoundTrip.{AtMost, longestRecord, longest, LongestHas}
 use Rattle.sheet.specs.Sheet.{lineAs, tells, linesAs}
 use Rattle.sheet.proofs.Held.{words}
 use Rattle.sheet.proofs.Sheets.{line-length, sheet-length}
@@ -82,7 +82,7 @@ lines-most (r ∷ rs) m h =
 pub sheet-most : AtMost
 sheet-most j s =
     let few = valid-few limit j (s .valid) in
-    omega (arith, few, sheet-length Full j, decimal-length 1 (length (standing j)) (omega (arith, few)), lines-most (standing j) (valid-stand limit j (s .valid)) (s .held))
+    omega (arith, few, sheet-length Full j, decimal-length 3 (length (standing j)) (omega (arith, few)), lines-most (standing j) (valid-stand limit j (s .valid)) (s .held))
 
 -- a number of 10 ^ k or more has more than k digits
 digits-least : (k n : ℕ) → 10 ^ k ≤ n → suc k ≤ length (decimal n)
@@ -138,7 +138,7 @@ longest-has =
           ∙ omega (
             arith,
             ap (λ (n : ℕ). length (decimal n)) (length-replicate limit longestRecord),
-            sized 1 limit (omega arith) (omega arith),
+            sized 3 limit (omega arith) (omega arith),
             lines-copies limit longestRecord,
             line-length longestRecord,
             sized 3 highest (omega arith) (omega arith),

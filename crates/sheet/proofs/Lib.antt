@@ -1,12 +1,14 @@
 pub mod Across
+pub mod ByNumber
 pub mod Found
 pub mod Held
 pub mod Inverse
 pub mod Lengths
 pub mod Lines
+pub mod Made
 pub mod Old
 pub mod OneKind
-pub mod Owned
 pub mod Reading
 pub mod Sheets
+pub mod Twice
 pub mod Unique

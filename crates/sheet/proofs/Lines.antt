@@ -19,7 +19,7 @@ use Rattle.name.specs.Name.{nameOf, hasName, afterName, namedAt}
 use Rattle.name.specs.declared.Name.{Name}
 use Rattle.name.specs.declared.Name.the-variants as name
 use Rattle.name.proofs.Names.{named-read, named-back}
-use Rattle.record.specs.Record.{highest, isWhole, passes, mayStand}
+use Rattle.record.specs.Record.{highest, isWhole, passes, mayStand, isHeld, numbersOf}
 use Rattle.record.specs.declared.Record.{Record}
 use Rattle.record.proofs.Laws.{whole-is, passes-form}
 use Rattle.text.specs.Ascii.{tab}
@@ -32,7 +32,6 @@ use Rattle.sheet.specs.declared.line.Kind.the-variants.{Full, Old}
 use Rattle.sheet.specs.declared.line.Line.{Line}
 use Rattle.sheet.specs.declared.line.Line.the-variants.{Read, Refused}
 use Rattle.sheet.specs.Load.{frontEnds, ends, afterFields, fullRecord, oldRecord, readAs, tested, lineAt}
-use Rattle.sheet.specs.RoundTrip.{isHeld, numbersOf}
 use Rattle.sheet.specs.Sheet.{lineAs, tells}
 use Rattle.sheet.proofs.Held.{words, are-words}
 

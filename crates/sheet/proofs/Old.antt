@@ -13,16 +13,15 @@ use mir.Facts.{and-yes, yes-and}
 use Rattle.answer.specs.Answer.{first, outcome, accepted, exhaustedInput, stale}
 use Rattle.bundle.specs.Bundle.{longestCode, numberAt, halvesOf, whole}
 use Rattle.bundle.proofs.Lies.{Lies}
-use Rattle.journal.specs.Journal.{limit, all, journalOf, validOf}
 use Rattle.journal.specs.Edit.{Outcome, rewritten, undoOf}
-use Rattle.journal.specs.declared.records.Journal.{Journal}
 use Rattle.journal.proofs.Rewritten.{rewritten-length}
 use Rattle.journal.proofs.Run.{undo-of}
-use Rattle.journal.proofs.Standing.{all-append, journal-stands, journal-valid, last-snoc, drop-last-snoc}
-use Rattle.record.specs.Record.{highest, wholeRecord, sameHalves, passes, mayStand}
+use Rattle.records.proofs.Standing.{all-append, journal-stands, journal-valid, last-snoc, drop-last-snoc}
+use Rattle.record.specs.Record.{highest, wholeRecord, sameHalves, passes, mayStand, isHeld}
 use Rattle.record.specs.declared.Record.{Record}
+use Rattle.records.specs.Journal.{Journal, limit, all, journalOf, validOf}
 use Rattle.record.proofs.Laws.{whole-passes}
-use Rattle.sheet.specs.RoundTrip.{isHeld, HasSheet}
+use Rattle.sheet.specs.RoundTrip.{HasSheet}
 use Rattle.sheet.specs.Sheet.{tells}
 use Rattle.sheet.specs.Old.{OldRecord, wholes, undone, undos, couldStand, OldLoads}
 use Rattle.sheet.specs.declared.line.Kind.the-variants.{Old}
@@ -53,7 +52,7 @@ module _ (rs : List OldRecord) (few : length rs ≤ limit) (t : T (all couldStan
       journal-valid limit (wholes rs)
       ∙ ap₂ (λ (a b : Bool). a && b) (le-leb (length (wholes rs)) limit (omega (arith, few, wholes-length rs))) (is-true (all mayStand (wholes rs)) (wholes-all mayStand may rs t))
 
-  old-sheet : HasSheet Old (journalOf limit (wholes rs))
+  old-sheet : HasSheet limit Old (journalOf limit (wholes rs))
   old-sheet =
       let stand = sym (journal-stands limit (wholes rs)) in
       record {
@@ -108,5 +107,5 @@ undoes (r ∷ rs) few t a code short =
         ∙ more accepted (rewritten code (r .bundle) (whole (r .old))) (omega (arith, short, rewritten-length code (r .bundle) lies (whole (r .old)))))
 
 pub old-loads : OldLoads
-old-loads given rs few t =
-    record { loads = load-written Old given (journalOf limit (wholes rs)) (old-sheet rs few t); undoes = undoes rs few t accepted }
+old-loads given rs fits few t =
+    record { loads = load-written limit Old given (journalOf limit (wholes rs)) (omega arith) fits (old-sheet rs few t); undoes = undoes rs few t accepted }

@@ -6,8 +6,7 @@ use native.Mathlib.Numerals.{add-one}
 use native.Mathlib.Omega.{arith}
 use lib.ListN.{length, getD, take, length-append}
 use lib.Seq.{take-suc}
-use Rattle.journal.specs.Journal.{standing}
-use Rattle.journal.specs.declared.records.Journal.{Journal}
+use Rattle.records.specs.Journal.{Journal, standing}
 use Rattle.name.specs.Name.{nameOf}
 use Rattle.record.specs.Record.{noRecord}
 use Rattle.record.specs.declared.Record.{Record}

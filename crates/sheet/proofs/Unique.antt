@@ -4,9 +4,8 @@ use mathlib.Core.Path.{_≡_}
 use mathlib.Core.List.{List}
 use Prim.Native.Nat.{ℕ}
 use Rattle.answer.proofs.Laws.{one-outcome}
-use Rattle.journal.specs.declared.records.Edited.{Edited}
-use Rattle.journal.specs.declared.records.Journal.{Journal}
-use Rattle.sheet.specs.Load.{loadOf}
+use Rattle.records.specs.Journal.{Journal}
+use Rattle.sheet.specs.Load.{Loaded, loadOf}
 
-pub load-unique : (journal : Journal) (text : List ℕ) {r s : Edited} → r ≡ loadOf journal text → s ≡ loadOf journal text → r ≡ s
-load-unique journal text = one-outcome
+pub load-unique : (places : ℕ) (journal : Journal) (text : List ℕ) {r s : Loaded} → r ≡ loadOf places journal text → s ≡ loadOf places journal text → r ≡ s
+load-unique places journal text = one-outcome

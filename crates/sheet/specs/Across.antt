@@ -7,7 +7,7 @@ use mathlib.Core.Option.{Option, none, some}
 use lib.ListN.{length, getD, take}
 use Rattle.answer.specs.Answer.{accepted, outcome}
 use Rattle.bundle.specs.Bundle.{longestCode}
-use Rattle.journal.specs.Journal.{limit}
+use Rattle.records.specs.Journal.{limit}
 use Rattle.journal.specs.Edit.{Outcome}
 use Rattle.journal.specs.Demand3.{Call, step, run, Holds}
 use Rattle.text.specs.Whole.{wroteOf}
@@ -33,7 +33,7 @@ sheetIn w = outcome (w .0 .answer) (some (take (w .0 .length) (w .1))) none
 -- loading a text; where none was written straight before, loading is no call of a run
 abbrev pub loaded : Outcome → Option (List ℕ) → Outcome
 loaded o none = o
-loaded o (some text) = let l = loadOf (o .journal) text in record { answer = l .answer; journal = l .journal; code = o .code }
+loaded o (some text) = let l = loadOf limit (o .journal) text in record { answer = l .answer; journal = l .journal; code = o .code }
 
 abbrev pub next : State → SheetCall → State
 next s (call c) = record { after = step limit (s .after) c; sheet = none }

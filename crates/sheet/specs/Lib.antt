@@ -3,3 +3,4 @@ pub mod Load
 pub mod Old
 pub mod RoundTrip
 pub mod Sheet
+pub mod Twice

@@ -5,15 +5,14 @@ use mathlib.Core.List.{List, [], _∷_}
 use mathlib.Core.Option.{Option, none, some, Option·map}
 use lib.Dec.{eqb, leb}
 use lib.ListN.{length, getD}
-use Rattle.answer.specs.Answer.{accepted, badSheet}
+use Rattle.answer.specs.Answer.{accepted, badJournal, badSheet}
 use Rattle.bundle.specs.declared.half.Halves.{Halves}
 use Rattle.form.specs.declared.Form.{Form}
-use Rattle.journal.specs.Journal.{limit, journalOf}
-use Rattle.journal.specs.declared.records.Edited.{Edited}
-use Rattle.journal.specs.declared.records.Journal.{Journal}
+use Rattle.journal.specs.declared.Edited.{Edited}
 use Rattle.name.specs.Name.{afterName, namedAt}
 use Rattle.record.specs.Record.{wholeRecord, mayStand}
 use Rattle.record.specs.declared.Record.{Record}
+use Rattle.records.specs.Journal.{Journal, lent, journalOf}
 use Rattle.table.specs.Ascii.{ascii}
 use Rattle.text.specs.Ascii.{tab, newline, startsWith}
 use Rattle.text.specs.Fields.{afterNumber, fieldAt, fieldsAt}
@@ -81,22 +80,32 @@ recordsAt kind text at (suc left) =
 unfoldable pub headOf : List ℕ → Number
 headOf text = cond (startsWith (ascii "patches\t") text) (fieldAt text 8 newline) number.Refused
 
--- the records that a sheet of a kind gives
-unfoldable pub recordsAs : Kind → List ℕ → Option (List Record)
-recordsAs kind text = afterNumber (headOf text) (λ count at. cond (leb count limit) (recordsAt kind text at count) none) none
+-- the records that a sheet of a kind gives, where they are at most so many
+unfoldable pub recordsAs : ℕ → Kind → List ℕ → Option (List Record)
+recordsAs places kind text = afterNumber (headOf text) (λ count at. cond (leb count places) (recordsAt kind text at count) none) none
 
 -- those of a sheet in full lines, or else of one in old lines
 abbrev pub orElse : Option (List Record) → Option (List Record) → Option (List Record)
 orElse (some rs) other = some rs
 orElse none other = other
 
-abbrev pub recordsIn : List ℕ → Option (List Record)
-recordsIn text = orElse (recordsAs Full text) (recordsAs Old text)
+abbrev pub recordsIn : ℕ → List ℕ → Option (List Record)
+recordsIn places text = orElse (recordsAs places Full text) (recordsAs places Old text)
 
--- what loading answers: their journal, or that the text is no sheet and the journal as it was given
-abbrev pub answerOf : Journal → Option (List Record) → Edited
-answerOf journal (some rs) = record { answer = accepted; journal = journalOf limit rs }
-answerOf journal none = record { answer = badSheet; journal = journal }
+-- what loading answers, and the journal after it
+pub record Loaded : Type 0 where
+  pub answer : ℕ
+  pub journal : Journal
 
-unfoldable pub loadOf : Journal → List ℕ → Edited
-loadOf journal text = answerOf journal (recordsIn text)
+-- what loading hands back, with the records that it leaves
+abbrev pub loadedOf : Edited → List Record → Loaded
+loadedOf r records = record { answer = r .answer; journal = lent (r .count) records }
+
+-- the journal of the records, or that the text is no sheet and the journal as it was given
+abbrev pub answerOf : ℕ → Journal → Option (List Record) → Loaded
+answerOf places given (some rs) = record { answer = accepted; journal = journalOf places rs }
+answerOf places given none = record { answer = badSheet; journal = given }
+
+-- what loading comes to, with a journal of so many places
+unfoldable pub loadOf : ℕ → Journal → List ℕ → Loaded
+loadOf places given text = cond (eqb (length (given .records)) places) (answerOf places given (recordsIn places text)) (record { answer = badJournal; journal = given })

@@ -9,14 +9,13 @@ use lib.ListN.{length}
 use Rattle.answer.specs.Answer.{accepted}
 use Rattle.bundle.specs.Bundle.{longestCode, numberAt, halvesOf, whole}
 use Rattle.bundle.specs.declared.half.Halves.{Halves}
-use Rattle.journal.specs.Journal.{limit, all, journalOf}
 use Rattle.journal.specs.Edit.{Outcome, rewritten}
 use Rattle.journal.specs.Demand3.{undo, step}
-use Rattle.journal.specs.declared.records.Journal.{Journal}
-use Rattle.record.specs.Record.{highest, wholeRecord, sameHalves}
+use Rattle.record.specs.Record.{highest, wholeRecord, sameHalves, isHeld}
 use Rattle.record.specs.declared.Record.{Record}
+use Rattle.records.specs.Journal.{Journal, limit, all, journalOf}
 use Rattle.sheet.specs.Load.{loadOf}
-use Rattle.sheet.specs.RoundTrip.{isHeld}
+use Rattle.sheet.specs.RoundTrip.{Fits}
 use Rattle.sheet.specs.Sheet.{sheetAs}
 use Rattle.sheet.specs.declared.line.Kind.the-variants.{Old}
 
@@ -49,9 +48,9 @@ couldStand r = leb (r .bundle) highest && isHeld r
 
 -- what is so of a journal of that time
 pub record LoadsOld (given : Journal) (rs : List OldRecord) : Type 0 where
-  pub loads : loadOf given (sheetAs Old (journalOf limit (wholes rs))) ≡ record { answer = accepted; journal = journalOf limit (wholes rs) }
+  pub loads : loadOf limit given (sheetAs Old (journalOf limit (wholes rs))) ≡ record { answer = accepted; journal = journalOf limit (wholes rs) }
   pub undoes : (code : List ℕ) → length code ≤ longestCode → undos (length rs) (record { answer = accepted; journal = journalOf limit (wholes rs); code = code }) .code ≡ undone code rs
 
 -- of every one
 abbrev pub OldLoads : Type 0
-OldLoads = (given : Journal) (rs : List OldRecord) → length rs ≤ limit → T (all couldStand (wholes rs)) → LoadsOld given rs
+OldLoads = (given : Journal) (rs : List OldRecord) → Fits limit given → length rs ≤ limit → T (all couldStand (wholes rs)) → LoadsOld given rs

@@ -1,61 +1,63 @@
 -- Loading accepts exactly what a writer of either kind of line can write, and gives that journal. Proved in `proofs/Inverse.antt` and
 -- `Lengths.antt`. Assumes nothing.
-use Prim.Native.Nat.{ℕ, _-_, _^_, _≤_}
+use Prim.Native.Nat.{ℕ, _-_, _^_, _≤_, _<_}
 use mathlib.Core.Path.{_≡_}
-use mathlib.Core.Bool.{Bool, true, _&&_}
-use mathlib.Core.List.{List, [], _∷_}
-use lib.Dec.{T, ltb}
+use mathlib.Core.Bool.{true}
+use mathlib.Core.List.{List}
+use lib.Dec.{T}
 use lib.ListN.{length, replicate}
-use Rattle.answer.specs.Answer.{accepted, badSheet}
+use Rattle.answer.specs.Answer.{accepted, badJournal, badSheet}
 use Rattle.bundle.specs.declared.half.Halves.{Halves}
 use Rattle.form.specs.Form.{m}
-use Rattle.journal.specs.Journal.{limit, all, standing, journalOf, validOf}
-use Rattle.journal.specs.declared.records.Journal.{Journal}
-use Rattle.record.specs.Record.{highest}
+use Rattle.records.specs.Journal.{Journal, limit, all, standing, journalOf, validOf}
+use Rattle.record.specs.Record.{highest, isHeld}
 use Rattle.record.specs.declared.Record.{Record}
 use Rattle.sheet.specs.Sheet.{tells, sheetAs, sheetOf, capacity}
 use Rattle.sheet.specs.Load.{loadOf}
 use Rattle.sheet.specs.declared.line.Kind.{Kind}
 use Rattle.sheet.specs.declared.line.Kind.the-variants.{Full}
 
--- numbers of 64 bits
-abbrev pub areWords : List ℕ → Bool
-areWords [] = true
-areWords (n ∷ ns) = ltb n (2 ^ 64) && areWords ns
-
--- the numbers of a record's line
-abbrev pub numbersOf : Record → List ℕ
-numbersOf r = r .bundle ∷ r .slot ∷ r .form .number ∷ r .value ∷ r .old .low ∷ r .old .high ∷ r .new .low ∷ r .new .high ∷ []
-
--- a record of the code, whose numbers are
-abbrev pub isHeld : Record → Bool
-isHeld r = areWords (numbersOf r)
-
--- a journal that has a sheet of a kind: a valid one of the code, of whose records such lines tell all
-pub record HasSheet (kind : Kind) (j : Journal) : Type 0 where
-  pub valid : validOf limit j ≡ true
+-- a journal of so many places that has a sheet of a kind: a valid one of the code, of whose records such lines tell all
+pub record HasSheet (places : ℕ) (kind : Kind) (j : Journal) : Type 0 where
+  pub valid : validOf places j ≡ true
   pub held : T (all isHeld (standing j))
   pub told : T (all (tells kind) (standing j))
 
+-- a journal that a sheet may be loaded over, valid or not: it has so many places
+abbrev pub Fits : ℕ → Journal → Type 0
+Fits places given = length (given .records) ≡ places
+
 -- its sheet loads as that journal, whatever the journal to be replaced
 abbrev pub LoadsWritten : Type 0
-LoadsWritten = (kind : Kind) (given j : Journal) → HasSheet kind j → loadOf given (sheetAs kind j) ≡ record { answer = accepted; journal = j }
+LoadsWritten =
+    (places : ℕ) (kind : Kind) (given j : Journal) → places < 2 ^ 64 → Fits places given → HasSheet places kind j → loadOf places given (sheetAs kind j) ≡ record { answer = accepted; journal = j }
 
 -- what loads is byte for byte a sheet, of one of the kinds, of the journal that it gives
 abbrev pub LoadsOnlyWritten : Type 0
 LoadsOnlyWritten =
-    (given : Journal) (text : List ℕ) → loadOf given text .answer ≡ accepted
-    → (kind : Kind) × HasSheet kind (loadOf given text .journal) × (text ≡ sheetAs kind (loadOf given text .journal))
+    (places : ℕ) (given : Journal) (text : List ℕ) → loadOf places given text .answer ≡ accepted
+    → (kind : Kind) × HasSheet places kind (loadOf places given text .journal) × (text ≡ sheetAs kind (loadOf places given text .journal))
 
 -- any other text is no sheet, and the journal stays as it was given
 abbrev pub RefusesOther : Type 0
 RefusesOther =
-    (given : Journal) (text : List ℕ) → ((kind : Kind) (j : Journal) → HasSheet kind j → text ≡ sheetAs kind j → ⊥)
-    → loadOf given text ≡ record { answer = badSheet; journal = given }
+    (places : ℕ) (given : Journal) (text : List ℕ) → Fits places given → ((kind : Kind) (j : Journal) → HasSheet places kind j → text ≡ sheetAs kind j → ⊥)
+    → loadOf places given text ≡ record { answer = badSheet; journal = given }
 
--- no sheet that is written is longer than 7,435 bytes
+-- so is the sheet of more records than there are places: no part of it is loaded
+abbrev pub RefusesMore : Type 0
+RefusesMore =
+    (places : ℕ) (kind : Kind) (given j : Journal) → Fits places given → places < length (standing j) → length (standing j) < 2 ^ 64
+    → loadOf places given (sheetAs kind j) ≡ record { answer = badSheet; journal = given }
+
+-- nothing is loaded into a slice of another length
+abbrev pub RefusesPlaces : Type 0
+RefusesPlaces =
+    (places : ℕ) (given : Journal) (text : List ℕ) → (Fits places given → ⊥) → loadOf places given text ≡ record { answer = badJournal; journal = given }
+
+-- no sheet that is written is longer than 118,797 bytes
 abbrev pub AtMost : Type 0
-AtMost = (j : Journal) → HasSheet Full j → length (sheetOf j) ≤ capacity
+AtMost = (j : Journal) → HasSheet limit Full j → length (sheetOf j) ≤ capacity
 
 -- a full journal of longest records: an edit of M22 to -16 in a bundle with tag 0 whose other bits are all ones
 abbrev pub ones : Halves
@@ -69,4 +71,4 @@ longest = journalOf limit (replicate limit longestRecord)
 
 -- its sheet has so many
 abbrev pub LongestHas : Type 0
-LongestHas = HasSheet Full longest × (length (sheetOf longest) ≡ capacity)
+LongestHas = HasSheet limit Full longest × (length (sheetOf longest) ≡ capacity)

@@ -1,15 +1,16 @@
 -- The sheet of a journal: a line with the count, and a line for each standing record, the oldest first. There are two kinds of line: those
 -- that are written, and the old ones, from before records had a slot, a form and a value. Assumes nothing.
-use Prim.Native.Nat.{ℕ}
-use mathlib.Core.Bool.{Bool, true, not}
+use Prim.Native.Nat.{ℕ, zero, suc, _-_, _<_}
+use mathlib.Core.Path.{_≡_}
+use mathlib.Core.Bool.{Bool, true, cond, not}
 use mathlib.Core.List.{List, [], _∷_, _++_}
-use lib.ListN.{length}
+use lib.Dec.{eqb, leb}
+use lib.ListN.{length, getD}
 use Rattle.answer.specs.Answer.{Refusal, badJournal}
-use Rattle.journal.specs.Journal.{limit, standing, validOf}
-use Rattle.journal.specs.declared.records.Journal.{Journal}
 use Rattle.name.specs.Name.{nameOf}
-use Rattle.record.specs.Record.{isWhole}
+use Rattle.record.specs.Record.{noRecord, isWhole}
 use Rattle.record.specs.declared.Record.{Record}
+use Rattle.records.specs.Journal.{Journal, limit, standing, validOf}
 use Rattle.table.specs.Ascii.{ascii}
 use Rattle.text.specs.Ascii.{line}
 use Rattle.text.specs.Decimal.{decimal}
@@ -47,9 +48,26 @@ sheetAs kind j = headerOf (length (standing j)) ++ linesAs kind (standing j)
 abbrev pub sheetOf : Journal → List ℕ
 sheetOf j = sheetAs Full j
 
+-- line i of a journal of so many records: the first line, or that of record i - 1, the one given; past the last there is none
+abbrev pub numbered : ℕ → ℕ → Record → List ℕ
+numbered i count r = cond (eqb i 0) (headerOf count) (cond (leb i count) (lineAs Full r) [])
+
+-- line i of the sheet that is written
+abbrev pub sheetLine : Journal → ℕ → List ℕ
+sheetLine j i = numbered i (length (standing j)) (getD (standing j) (i - 1) noRecord)
+
+-- its first so many lines, one after the other
+abbrev pub linesTo : Journal → ℕ → List ℕ
+linesTo j zero = []
+linesTo j (suc n) = linesTo j n ++ sheetLine j n
+
+-- the lines, put out one at a time to the last or past it, are the sheet
+abbrev pub LinesAreSheet : Type 0
+LinesAreSheet = (j : Journal) (n : ℕ) → length (standing j) < n → linesTo j n ≡ sheetOf j
+
 -- no sheet that is written is longer
 abbrev pub capacity : ℕ
-capacity = 7435
+capacity = 118797
 
 -- which journal has no sheet
 abbrev pub writeRefusals : Journal → List Refusal

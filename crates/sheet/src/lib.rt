@@ -1,44 +1,42 @@
 // A journal's sheet, written and loaded: document 01, "Journal and sheet".
 mod line;
+mod look;
+mod numbered;
 
 ghost use mathlib.Core.Path.{_≡_};
 ghost use mathlib.Core.Bool.{true};
-ghost use lib.Dec.{leb};
+ghost use lib.Dec.{T, leb};
 ghost use lib.ListN.{length};
-ghost use Rattle.answer.specs.Answer.{badSheet};
-ghost use Rattle.journal.specs.Journal.{limit, validOf};
+ghost use Rattle.record.specs.Record.{isHeld};
+ghost use Rattle.records.specs.Journal.{limit, lent, all, validOf};
 ghost use Rattle.text.specs.Put.{Put};
 ghost use Rattle.text.specs.Whole.{wroteOf};
-ghost use Rattle.sheet.specs.Sheet.{sheetOf, writeRefusals};
-ghost use Rattle.sheet.specs.Load.{headOf, recordsAs, answerOf, loadOf};
+ghost use Rattle.sheet.specs.Sheet.{sheetOf, sheetLine, writeRefusals};
+ghost use Rattle.sheet.specs.Load.{loadedOf, loadOf};
+ghost use Rattle.sheet.specs.Twice.{filled};
 use answer::ACCEPTED;
 use answer::BAD_JOURNAL;
-use answer::BAD_SHEET;
 use answer::NO_ROOM;
 use journal::Edited;
-use journal::Journal;
-use line::Kind;
-use line::Line;
-use text::NEWLINE;
-use text::Number;
+use look::Found;
+use record::Record;
 use text::Written;
 
 // No sheet is longer.
-pub const CAPACITY: usize = 7435;
+pub const CAPACITY: usize = 118797;
 
 // Writes the sheet of a journal at the output's start.
-pub fn write(journal: Journal, out: &mut [u8]) -> Written
-    ensures { λ r. ⌜ (r, now (out .exit)) ≡ wroteOf (writeRefusals journal) (sheetOf journal) (now (out .entry)) ⌝ }
+pub fn write(count: u64, records: &[Record], out: &mut [u8]) -> Written
+    ensures { λ r. ⌜ (r, now (out .exit)) ≡ wroteOf (writeRefusals (lent count (now (records .entry)))) (sheetOf (lent count (now (records .entry)))) (now (out .entry)) ⌝ }
 {
-    let view = journal::view_of(journal);
-    if !view.valid {
+    if !records::is_valid(count, records) {
         return Written {
             answer: BAD_JOURNAL,
             length: 0,
         };
     }
-    if fits(journal, out.len()) {
-        let length = put_sheet(out, journal);
+    if fits(count, records, out.len()) {
+        let length = put_sheet(out, count, records);
         return Written {
             answer: ACCEPTED,
             length,
@@ -51,92 +49,68 @@ pub fn write(journal: Journal, out: &mut [u8]) -> Written
 }
 
 // Whether the sheet has at most `room` bytes. It is measured only where room may be short.
-fn fits(journal: Journal, room: usize) -> bool
-    requires { ⌜ validOf limit journal ≡ true ⌝ }
-    ensures { λ r. ⌜ r ≡ leb (length (sheetOf journal)) room ⌝ }
+fn fits(count: u64, records: &[Record], room: usize) -> bool
+    requires { ⌜ (validOf limit (lent count (now records)) ≡ true) × T (all isHeld (now records)) ⌝ }
+    ensures { λ r. ⌜ r ≡ leb (length (sheetOf (lent count (now (records .entry))))) room ⌝ }
 {
     if CAPACITY <= room {
         return true;
     }
     let mut none = [0u8; 0];
-    put_sheet(&mut none, journal) <= room
+    put_sheet(&mut none, count, records) <= room
 }
 
 // Writes the sheet as far as there is room, and answers its length.
-fn put_sheet(out: &mut [u8], journal: Journal) -> usize
-    requires { ⌜ validOf limit journal ≡ true ⌝ }
-    ensures { λ r. ⌜ Put (now (out .entry)) 0 (sheetOf journal) (now (out .exit)) r ⌝ }
+fn put_sheet(out: &mut [u8], count: u64, records: &[Record]) -> usize
+    requires { ⌜ validOf limit (lent count (now records)) ≡ true ⌝ }
+    ensures { λ r. ⌜ Put (now (out .entry)) 0 (sheetOf (lent count (now (records .entry)))) (now (out .exit)) r ⌝ }
 {
-    let count = journal.count;
-    let start = text::put_text(out, 0, b"patches\t");
-    let mut at = text::put_field(out, start, count, NEWLINE);
-    let records = journal::places(journal);
-    let mut left = count;
-    while 0 < left {
-        let one = records[(count - left) as usize];
+    let mut at = numbered::put_head(out, count);
+    let mut place = 0;
+    while place < count {
+        let one = records::get(records, place);
         at = line::put_line(out, at, one);
-        left -= 1;
+        place += 1;
     }
     at
 }
 
-// The journal whose sheet the text is, in place of the one given: in full lines, or else in old ones.
-pub fn load(journal: Journal, text: &[u8]) -> Edited
-    ensures { λ r. ⌜ r ≡ loadOf journal (now (text .entry)) ⌝ }
+// Writes line i of the sheet, of which the first is that with the count; past the last line there is nothing to write.
+pub fn write_line(i: u64, count: u64, records: &[Record], out: &mut [u8]) -> Written
+    ensures { λ r. ⌜ (r, now (out .exit)) ≡ wroteOf (writeRefusals (lent count (now (records .entry)))) (sheetLine (lent count (now (records .entry))) i) (now (out .entry)) ⌝ }
 {
-    let full = load_as(journal, text, Kind::Full);
-    if full.answer == ACCEPTED {
-        return full;
-    }
-    load_as(journal, text, Kind::Old)
+    let valid = records::is_valid(count, records);
+    let one = records::get(records, records::place_before(i));
+    numbered::write_numbered(out, valid, i, count, one)
 }
 
-// The same where the lines are of one kind.
-fn load_as(journal: Journal, text: &[u8], kind: Kind) -> Edited
-    ensures { λ r. ⌜ r ≡ answerOf journal (recordsAs kind (now (text .entry))) ⌝ }
+// The journal whose sheet the text is, in place of the one given. The text is gone through twice, so that a refused one changes nothing.
+pub fn load(count: u64, records: &mut [Record], text: &[u8]) -> Edited
+    ensures { λ r. ⌜ loadedOf r (now (records .exit)) ≡ loadOf limit (lent count (now (records .entry))) (now (text .entry)) ⌝ }
 {
-    let head = read_head(text);
-    let Number::Read(count, first) = head else {
-        return refused(journal);
-    };
-    if journal::LIMIT < count {
-        return refused(journal);
+    let found = look::look(text, records.len());
+    let answer = found.answer;
+    if answer != ACCEPTED {
+        return Edited { answer, count };
     }
-    let mut records = [record::NONE; journal::LIMIT as usize];
-    let mut at = first;
+    fill(records, text, found);
+    Edited {
+        answer,
+        count: found.count,
+    }
+}
+
+// Writes the records of the sheet that was found, and frees the other places.
+fn fill(records: &mut [Record], text: &[u8], found: Found)
+    ensures { λ _. ⌜ now (records .exit) ≡ filled (now (text .entry)) found (found .first) 0 (length (now (records .entry))) ⌝ }
+{
+    let mut at = found.first;
     let mut place = 0;
-    while place < count {
-        let line = line::read_line(text, at, kind);
-        let Line::Read(one, next) = line else {
-            return refused(journal);
-        };
-        records[place as usize] = one;
-        at = next;
+    while place < records.len() {
+        let next = look::next_line(text, at, place, found);
+        let one = next.one;
+        records::put(records, place as u64, one);
+        at = next.at;
         place += 1;
     }
-    if at != text.len() {
-        return refused(journal);
-    }
-    Edited {
-        answer: ACCEPTED,
-        journal: journal::journal_of(count, records),
-    }
-}
-
-// The text is no sheet, and the journal stays as it was given.
-fn refused(journal: Journal) -> Edited
-    ensures { λ r. ⌜ r ≡ record { answer = badSheet; journal = journal } ⌝ }
-{
-    let answer = BAD_SHEET;
-    Edited { answer, journal }
-}
-
-// The count that the first line gives, and the place after that line.
-fn read_head(text: &[u8]) -> Number
-    ensures { λ r. ⌜ r ≡ headOf (now (text .entry)) ⌝ }
-{
-    if !text::begins(text, b"patches\t") {
-        return Number::Refused;
-    }
-    text::read_field(text, 8, NEWLINE)
 }

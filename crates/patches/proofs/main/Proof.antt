@@ -1,27 +1,19 @@
--- `patches::main` meets its contract: what writing the sheet answers lies in the output. Assumes nothing.
-use mathlib.Core.Path.{sym}
-use lib.Seq.{length-take-le}
-use Rattle.text.proofs.Wholes.{whole-within}
+mod Lts
+mod Tie
+-- `main` meets its contract: as many records are lent as there are. Assumes nothing.
 use borrow.Author.Needs.{needs}
 use Rattle.patches.proofs.main.Statement.{statement}
-use Rattle.patches.proofs.main.Tie as tie
-
-array-share-prefix-out : tie.Need-array-share-prefix-out
-array-share-prefix-out c = whole-within _ _ _ (c .before .write .ensures)
-
-slice-aggregate-write-all : tie.Need-slice-aggregate-write-all
-slice-aggregate-write-all c = sym (length-take-le _ _ (array-share-prefix-out (c .before)))
+use Rattle.patches.proofs.main.Proof.Tie as tie
 
 pub main-spec : {M : Type 1} → statement M
 main-spec =
     tie.close
     (tie.spec
+    (λ c κs. search needs)
+    (λ c. search needs)
     (λ c. search needs)
     (λ c κs. search needs)
     (λ c κs. search needs)
     (λ c. search needs)
-    (λ c κs. search needs)
-    array-share-prefix-out
-    slice-aggregate-write-all
     (λ c κs. search needs)
     (λ c. search needs))

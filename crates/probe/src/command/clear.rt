@@ -1,16 +1,16 @@
 // `clear`: empties the report; with 36 numbers it sets it to them.
-use crate::command::Said;
+use crate::command::UNREAD;
 use crate::kept;
 use lines::fields;
 use tally::NUMBERS;
 
-pub fn answer(rest: &[u8], kept: &mut [u64]) -> Said {
+pub fn answer(rest: &[u8], kept: &mut [u64], at: usize) -> usize {
     let mut report = [0u64; NUMBERS];
     if !reads(rest, &mut report) {
-        return Said::Unread;
+        return UNREAD;
     }
     kept::set_report(kept, &report);
-    Said::Nothing
+    at
 }
 
 // Whether so many numbers stand there and no more, or none at all.

@@ -1,6 +1,5 @@
 // `edit N SLOT F NUMBER OPERAND`: writes a value into a form's immediate.
-use crate::command::Said;
-use crate::kept;
+use crate::calls::Call;
 use form::Edit;
 use form::Form;
 use lines::fields;
@@ -8,11 +7,11 @@ use lines::fields::Six;
 use lines::operands;
 use lines::operands::Parsed;
 
-pub fn answer(of: Six, rest: &[u8], code: &mut [u8], kept: &mut [u64]) -> Said {
+pub fn asked(of: Six, rest: &[u8]) -> Call {
     let Parsed::Of(value) = operands::read(fields::rest(rest)) else {
-        return Said::Unread;
+        return Call::None;
     };
-    let edit = Edit {
+    Call::Edit(Edit {
         bundle: of.0,
         slot: of.1,
         form: Form {
@@ -20,7 +19,5 @@ pub fn answer(of: Six, rest: &[u8], code: &mut [u8], kept: &mut [u64]) -> Said {
             number: of.3,
         },
         value,
-    };
-    let edited = journal::edit(code, kept::journal(kept), edit);
-    Said::Answer(kept::keep(kept, edited))
+    })
 }

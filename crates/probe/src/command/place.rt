@@ -1,34 +1,37 @@
 // `place I BUNDLE SLOT FORM VALUE OLDLOW OLDHIGH NEWLOW NEWHIGH`: sets a place of the journal.
-use crate::command::Said;
+use crate::calls::Call;
 use crate::kept;
+use bundle::Halves;
 use lines::fields;
 use lines::fields::Six;
 use name::Name;
+use record::Record;
 
-pub fn answer(of: Six, rest: &[u8], kept: &mut [u64]) -> Said {
+pub fn asked(of: Six, rest: &[u8], kept: &[u64]) -> Call {
     let text = fields::rest(rest);
     let Name::Read(form, at) = name::read_name(text, 0) else {
-        return Said::Unread;
+        return Call::None;
     };
     let mut more = [0u64; 5];
     let end = fields::read_numbers(text, at, &mut more, 5);
-    if 63 < of.0 || end != text.len() {
-        return Said::Unread;
+    if kept::get(kept, kept::PLACES) <= of.0 || end != text.len() {
+        return Call::None;
     }
-    kept::set_place(
-        kept,
-        (of.0 * 9 + 1) as usize,
-        [
-            of.1,
-            of.2,
-            form.family,
-            form.number,
-            more[0],
-            more[1],
-            more[2],
-            more[3],
-            more[4],
-        ],
-    );
-    Said::Nothing
+    let old = Halves {
+        low: more[1],
+        high: more[2],
+    };
+    let new = Halves {
+        low: more[3],
+        high: more[4],
+    };
+    let one = Record {
+        bundle: of.1,
+        slot: of.2,
+        form,
+        value: more[0],
+        old,
+        new,
+    };
+    Call::Place(of.0, one)
 }

@@ -1,37 +1,44 @@
-// `sheet OUTLEN`: into an output of OUTLEN bytes, at most 130,000, that are all 238.
-ghost use mathlib.Core.Path.{_≡_};
+// `sheet OUTLEN` and `sheetline I OUTLEN`: into an output of OUTLEN bytes, at most 130,000 or 200, that are all 238.
 ghost use Prim.Native.Nat.{_+_, _≤_, _<_, _^_};
-ghost use lib.ListN.{length};
-use crate::command::UNREAD;
+use crate::calls::Call;
 use crate::kept;
 use lines::out;
 use lines::part;
-use text::Written;
 
 const BLANK: u8 = 238;
 
-pub fn answer(length: u64, kept: &[u64], out: &mut [u8], at: usize) -> usize {
+pub fn asked(length: u64, lent: &mut [u8], kept: &mut [u64]) -> Call {
     if 130000 < length {
-        return UNREAD;
+        return Call::None;
     }
-    let mut room = blank();
-    let written = write(length, kept, &mut room);
-    let count = written.length as u64;
-    let said = out::number(out, at, written.answer as u64);
+    blank(length, lent, kept);
+    Call::Sheet
+}
+
+pub fn line_asked(i: u64, length: u64, lent: &mut [u8], kept: &mut [u64]) -> Call {
+    if 200 < length {
+        return Call::None;
+    }
+    blank(length, lent, kept);
+    Call::Line(i)
+}
+
+fn blank(length: u64, lent: &mut [u8], kept: &mut [u64]) {
+    let n = part::within(lent, length as usize);
+    part::fill(&mut lent[0..n], BLANK);
+    kept::set(kept, kept::LENT, length);
+}
+
+pub fn told(lent: &[u8], kept: &[u64], out: &mut [u8], at: usize) -> usize {
+    let count = kept::get(kept, kept::WRITTEN);
+    let said = out::number(out, at, kept::get(kept, kept::ANSWER));
     let to = out::number(out, said, count);
-    let end = out::first(out, to, &room, count);
-    out::number(out, end, blanks(&room, written.length, length))
-}
-
-fn blank() -> [u8; 130000]
-    ensures { λ r. ⌜ 130000 ≡ length r ⌝ }
-{
-    [BLANK; 130000]
-}
-
-fn write(length: u64, kept: &[u64], room: &mut [u8]) -> Written {
-    let n = part::within(room, length as usize);
-    sheet::write(kept::journal(kept), &mut room[0..n])
+    let end = out::first(out, to, lent, count);
+    out::number(
+        out,
+        end,
+        blanks(lent, count as usize, kept::get(kept, kept::LENT)),
+    )
 }
 
 // How many bytes are untouched from `from` on, up to `to`.

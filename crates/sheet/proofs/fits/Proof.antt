@@ -1,3 +1,5 @@
+mod Lts
+mod Tie
 -- `sheet::fits` meets its contract: no sheet is longer than the capacity, and what writing to an output with no room answers is the
 -- length. Assumes nothing.
 use mathlib.Core.Path.{sym, ap}
@@ -9,27 +11,25 @@ use borrow.Author.Needs.{needs}
 use borrow.Author.Tests.{le-leb}
 use lib.Dec.{T, leb}
 use lib.ListN.{length}
-use Rattle.journal.specs.Journal.{all}
-use Rattle.journal.proofs.Standing.{standing-all}
+use Rattle.record.specs.Record.{isHeld}
 use Rattle.record.specs.declared.Record.{Record}
-use Rattle.sheet.specs.RoundTrip.{isHeld}
+use Rattle.records.specs.Journal.{lent, all}
+use Rattle.records.proofs.Standing.{standing-all}
 use Rattle.sheet.specs.Sheet.{tells, sheetOf, capacity}
 use Rattle.sheet.specs.declared.line.Kind.the-variants.{Full}
 use Rattle.sheet.proofs.Lengths.{sheet-most}
-use Rattle.sheet.proofs.Owned.{owned}
 use Rattle.sheet.proofs.fits.Statement.{statement}
-use Rattle.sheet.proofs.fits.Tie as tie
+use Rattle.sheet.proofs.fits.Proof.Tie as tie
 
--- a full line tells all of any record
 all-told : (rs : List Record) → T (all (tells Full) rs)
 all-told [] = tt
 all-told (r ∷ rs) = all-told rs
 
-short : (c : tie.Start) → length (sheetOf (c .args .journal)) ≤ capacity
+short : (c : tie.Start) → length (sheetOf (lent (c .args .count) (c .args .records .now))) ≤ capacity
 short c =
-    let j = c .args .journal in
-    let array = c .good .0 .1 .1 .1 .0 in
-    sheet-most j (record { valid = c .pre; held = standing-all isHeld j (owned (j .records) (array .0) (array .1 .1)); told = standing-all (tells Full) j (all-told (j .records)) })
+    let rs = c .args .records .now in
+    let j = lent (c .args .count) rs in
+    sheet-most j (record { valid = c .pre .0; held = standing-all isHeld j (c .pre .1); told = standing-all (tells Full) j (all-told rs) })
 
 returns : tie.Need-returns
 returns c = sym (le-leb _ (c .before .args .room) (le-trans (short (c .before)) (c .if1 .taken)))
@@ -40,4 +40,4 @@ returns-2 c =
     ap (λ (n : ℕ). leb n (s .args .room)) (omega (arith, c .before .put-sheet .ensures .place, short s))
 
 pub fits-spec : {M : Type 1} → statement M
-fits-spec = tie.close (tie.spec returns (λ c. search needs) (λ c κs. search needs) returns-2)
+fits-spec = tie.close (tie.spec returns (λ c. search needs) (λ c κs. c .before .before .pre .0) returns-2)

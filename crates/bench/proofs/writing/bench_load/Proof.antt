@@ -1,14 +1,18 @@
--- `bench_load`: the turns are counted down.
+mod Lts
+mod Tie
+-- `bench_load`: the turns are counted down, and the records keep their number.
+use mathlib.Core.Path.{_≡_}
 use Prim.Native.Nat.{_≤_}
 use borrow.Author.Needs.{needs}
+use lib.ListN.{length}
 use Rattle.bench.proofs.writing.bench_load.Statement.{statement}
-use Rattle.bench.proofs.writing.bench_load.Tie as tie
+use Rattle.bench.proofs.writing.bench_load.Proof.Tie as tie
 
 abbrev Inv-loop : tie.InvT-loop
-Inv-loop text times last₀ sum₀ left₀ last sum left = left ≤ times
+Inv-loop count records₀ text times standing₀ sum₀ left₀ records standing sum left = (length records ≡ length records₀) × (left ≤ times)
 
 abbrev μ-loop : tie.MeasureT-loop
-μ-loop text times last₀ sum₀ left₀ last sum left = left
+μ-loop count records₀ text times standing₀ sum₀ left₀ records standing sum left = left
 
 pub bench-load-spec : {M : Type 1} → statement M
 bench-load-spec =
@@ -16,11 +20,11 @@ bench-load-spec =
     (tie.spec
     Inv-loop
     μ-loop
-    (λ c κs. search needs)
     (λ c. search needs)
     (λ c κs. search needs)
     (λ c. search needs)
     (λ c κs. search needs)
+    (λ c. search needs)
     (λ c. search needs)
     (λ c. search needs)
     (λ c. search needs)

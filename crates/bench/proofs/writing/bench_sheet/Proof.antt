@@ -1,16 +1,18 @@
+mod Lts
+mod Tie
 -- `bench_sheet`: the turns are counted down, and the output keeps its length.
 use mathlib.Core.Path.{_≡_}
 use Prim.Native.Nat.{_≤_}
 use borrow.Author.Needs.{needs}
 use lib.ListN.{length}
 use Rattle.bench.proofs.writing.bench_sheet.Statement.{statement}
-use Rattle.bench.proofs.writing.bench_sheet.Tie as tie
+use Rattle.bench.proofs.writing.bench_sheet.Proof.Tie as tie
 
 abbrev Inv-loop : tie.InvT-loop
-Inv-loop code standing times out₀ last sum₀ left₀ out sum left = (length out ≡ length out₀) × (left ≤ times)
+Inv-loop count records out₀ times sum₀ left₀ out sum left = (length out ≡ length out₀) × (left ≤ times)
 
 abbrev μ-loop : tie.MeasureT-loop
-μ-loop code standing times out₀ last sum₀ left₀ out sum left = left
+μ-loop count records out₀ times sum₀ left₀ out sum left = left
 
 pub bench-sheet-spec : {M : Type 1} → statement M
 bench-sheet-spec =
@@ -18,11 +20,9 @@ bench-sheet-spec =
     (tie.spec
     Inv-loop
     μ-loop
-    (λ c κs. search needs)
     (λ c. search needs)
     (λ c κs. search needs)
     (λ c κs. search needs)
-    (λ c. search needs)
     (λ c. search needs)
     (λ c. search needs)
     (λ c. search needs)

@@ -16,7 +16,7 @@ use Rattle.bundle.proofs.Loading.{Loading, loading}
 use Rattle.immediate.specs.Immediate.{changeRefusals, changedOf}
 use Rattle.immediate.specs.declared.outcome.Changed.{Changed}
 use Rattle.immediate.proofs.Laws.{changed-answer, changed-taken}
-use Rattle.journal.specs.Journal.{limit}
+use Rattle.records.specs.Journal.{limit}
 use Rattle.journal.specs.Edit.{roomRefusals, editRefusals}
 use Rattle.journal.specs.Plan.{refusedPlan, editPlanOf}
 use Rattle.journal.proofs.Laws.{refused-is}

@@ -1,6 +1,6 @@
 -- `room_refusal` meets its contract: its tests are the definition's. Assumes nothing.
 use borrow.Author.Tests.{le-leb, lt-leb, not-true, not-false}
-use Rattle.journal.specs.Journal.{limit}
+use Rattle.records.specs.Journal.{limit}
 use Rattle.journal.proofs.plan.room_refusal.Statement.{statement}
 use Rattle.journal.proofs.plan.room_refusal.Tie as tie
 

@@ -1,0 +1,3 @@
+pub mod bench_edit
+pub mod bench_load
+pub mod bench_sheet

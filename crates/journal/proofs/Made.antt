@@ -1,0 +1,3 @@
+pub mod carry_out
+pub mod edit
+pub mod undo

@@ -1,0 +1,2 @@
+pub mod put_line
+pub mod put_sheet

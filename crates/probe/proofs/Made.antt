@@ -1,0 +1,3 @@
+pub mod calls
+pub mod places
+pub mod session

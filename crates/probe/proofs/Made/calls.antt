@@ -1,0 +1,4 @@
+pub mod clear
+pub mod made
+pub mod make
+pub mod show

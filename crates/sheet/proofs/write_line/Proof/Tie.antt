@@ -1,0 +1,248 @@
+-- Made by made/make: not to be edited. Assumes nothing.
+use Rattle.records.proofs.get.Met
+use Rattle.records.proofs.Made.get.Reads
+use Rattle.records.proofs.get.Symbol
+use Rattle.records.proofs.is_valid.Met as Met'
+use Rattle.records.proofs.Made.is_valid.Reads as Reads'
+use Rattle.records.proofs.is_valid.Symbol as Symbol'
+use Rattle.records.proofs.place_before.Met as Met''
+use Rattle.records.proofs.place_before.Reads as Reads''
+use Rattle.records.proofs.place_before.Symbol as Symbol''
+use Rattle.sheet.proofs.numbered.write_numbered.Met as Met'3
+use Rattle.sheet.proofs.numbered.write_numbered.Reads as Reads'3
+use Rattle.sheet.proofs.numbered.write_numbered.Symbol as Symbol'3
+use Rattle.sheet.proofs.write_line.Code
+use Rattle.sheet.proofs.write_line.Key
+use Rattle.sheet.proofs.Made.write_line.Kinds
+use Rattle.sheet.proofs.write_line.Proof.Lts
+use Rattle.sheet.proofs.Made.write_line.Reads as Reads'4
+use Rattle.sheet.proofs.write_line.Statement
+use borrow.Fn.Run
+use borrow.Fn.Written
+use contract.Running
+
+abbrev pub Start : Type 0
+Start = Lts.Start (Reads'.Asked, Reads'.Learnt, Reads''.Asked, Reads''.Learnt, Reads.Asked, Reads.Learnt, Reads'3.Asked, Reads'3.Learnt)
+    Reads'4.Pre Reads'4.Post
+
+abbrev pub After-slice-known : Type 0
+After-slice-known = Lts.After-slice-known (
+  Reads'.Asked,
+  Reads'.Learnt,
+  Reads''.Asked,
+  Reads''.Learnt,
+  Reads.Asked,
+  Reads.Learnt,
+  Reads'3.Asked,
+  Reads'3.Learnt,
+) Reads'4.Pre Reads'4.Post
+
+abbrev pub After-is-valid : Type 0
+After-is-valid = Lts.After-is-valid (
+  Reads'.Asked,
+  Reads'.Learnt,
+  Reads''.Asked,
+  Reads''.Learnt,
+  Reads.Asked,
+  Reads.Learnt,
+  Reads'3.Asked,
+  Reads'3.Learnt,
+) Reads'4.Pre Reads'4.Post
+
+abbrev pub After-place-before : Type 0
+After-place-before = Lts.After-place-before (
+  Reads'.Asked,
+  Reads'.Learnt,
+  Reads''.Asked,
+  Reads''.Learnt,
+  Reads.Asked,
+  Reads.Learnt,
+  Reads'3.Asked,
+  Reads'3.Learnt,
+) Reads'4.Pre Reads'4.Post
+
+abbrev pub After-get : Type 0
+After-get = Lts.After-get (Reads'.Asked, Reads'.Learnt, Reads''.Asked, Reads''.Learnt, Reads.Asked, Reads.Learnt, Reads'3.Asked, Reads'3.Learnt)
+    Reads'4.Pre Reads'4.Post
+
+abbrev pub After-write-numbered-arg : Type 0
+After-write-numbered-arg = Lts.After-write-numbered-arg (
+  Reads'.Asked,
+  Reads'.Learnt,
+  Reads''.Asked,
+  Reads''.Learnt,
+  Reads.Asked,
+  Reads.Learnt,
+  Reads'3.Asked,
+  Reads'3.Learnt,
+) Reads'4.Pre Reads'4.Post
+
+abbrev pub After-write-numbered : Type 0
+After-write-numbered = Lts.After-write-numbered (
+  Reads'.Asked,
+  Reads'.Learnt,
+  Reads''.Asked,
+  Reads''.Learnt,
+  Reads.Asked,
+  Reads.Learnt,
+  Reads'3.Asked,
+  Reads'3.Learnt,
+) Reads'4.Pre Reads'4.Post
+
+abbrev pub After-out : Type 0
+After-out = Lts.After-out (Reads'.Asked, Reads'.Learnt, Reads''.Asked, Reads''.Learnt, Reads.Asked, Reads.Learnt, Reads'3.Asked, Reads'3.Learnt)
+    Reads'4.Pre Reads'4.Post
+
+abbrev pub After-slice-known2 : Type 0
+After-slice-known2 = Lts.After-slice-known2 (
+  Reads'.Asked,
+  Reads'.Learnt,
+  Reads''.Asked,
+  Reads''.Learnt,
+  Reads.Asked,
+  Reads.Learnt,
+  Reads'3.Asked,
+  Reads'3.Learnt,
+) Reads'4.Pre Reads'4.Post
+
+abbrev pub Need-is-valid-requires : Type 0
+Need-is-valid-requires = Lts.Need-is-valid-requires (
+  Reads'.Asked,
+  Reads'.Learnt,
+  Reads''.Asked,
+  Reads''.Learnt,
+  Reads.Asked,
+  Reads.Learnt,
+  Reads'3.Asked,
+  Reads'3.Learnt,
+) Reads'4.Pre Reads'4.Post
+
+abbrev pub Need-place-before-requires : Type 0
+Need-place-before-requires = Lts.Need-place-before-requires (
+  Reads'.Asked,
+  Reads'.Learnt,
+  Reads''.Asked,
+  Reads''.Learnt,
+  Reads.Asked,
+  Reads.Learnt,
+  Reads'3.Asked,
+  Reads'3.Learnt,
+) Reads'4.Pre Reads'4.Post
+
+abbrev pub Need-get-requires : Type 0
+Need-get-requires = Lts.Need-get-requires (
+  Reads'.Asked,
+  Reads'.Learnt,
+  Reads''.Asked,
+  Reads''.Learnt,
+  Reads.Asked,
+  Reads.Learnt,
+  Reads'3.Asked,
+  Reads'3.Learnt,
+) Reads'4.Pre Reads'4.Post
+
+abbrev pub Need-write-numbered-requires : Type 0
+Need-write-numbered-requires = Lts.Need-write-numbered-requires (
+  Reads'.Asked,
+  Reads'.Learnt,
+  Reads''.Asked,
+  Reads''.Learnt,
+  Reads.Asked,
+  Reads.Learnt,
+  Reads'3.Asked,
+  Reads'3.Learnt,
+) Reads'4.Pre Reads'4.Post
+
+abbrev pub Need-same-length : Type 0
+Need-same-length = Lts.Need-same-length (
+  Reads'.Asked,
+  Reads'.Learnt,
+  Reads''.Asked,
+  Reads''.Learnt,
+  Reads.Asked,
+  Reads.Learnt,
+  Reads'3.Asked,
+  Reads'3.Learnt,
+) Reads'4.Pre Reads'4.Post
+
+abbrev pub Need-returns : Type 0
+Need-returns = Lts.Need-returns (
+  Reads'.Asked,
+  Reads'.Learnt,
+  Reads''.Asked,
+  Reads''.Learnt,
+  Reads.Asked,
+  Reads.Learnt,
+  Reads'3.Asked,
+  Reads'3.Learnt,
+) Reads'4.Pre Reads'4.Post
+
+module _ {M : Type 1} where
+  pub spec : (answer : Need-is-valid-requires) → (answer : Need-place-before-requires) → (answer : Need-get-requires) → (answer :
+      Need-write-numbered-requires) → (answer : Need-same-length) → (answer : Need-returns) → Lts.Closed (
+        Reads'.Asked,
+        Reads'.Learnt,
+        Reads''.Asked,
+        Reads''.Learnt,
+        Reads.Asked,
+        Reads.Learnt,
+        Reads'3.Asked,
+        Reads'3.Learnt,
+      ) Reads'4.Pre Reads'4.Post M
+  spec = λ answer answer' answer'' answer'3 answer'4 answer'5. Lts.spec (
+    Reads'.Asked,
+    Reads'.Learnt,
+    Reads''.Asked,
+    Reads''.Learnt,
+    Reads.Asked,
+    Reads.Learnt,
+    Reads'3.Asked,
+    Reads'3.Learnt,
+  ) Reads'4.Pre Reads'4.Post answer answer' answer'' answer'3 answer'4 answer'5
+
+  pub close : Lts.Closed (Reads'.Asked, Reads'.Learnt, Reads''.Asked, Reads''.Learnt, Reads.Asked, Reads.Learnt, Reads'3.Asked, Reads'3.Learnt)
+      Reads'4.Pre Reads'4.Post M → Statement.statement M
+  unfolding Code.routine Running.tablesOf
+  close = λ closed 𝓤 H 𝓜 𝓖 𝓡. Written.close 2 Kinds.ps Kinds.r Reads'4.Ghost Reads'4.requires Reads'4.ensures Reads'4.pre-read Reads'4.Pinned
+      Reads'4.Owned Reads'4.post-read record { M = M; 𝓤 = 𝓤; H = H; 𝓜 = 𝓜; 𝓖 = 𝓖; 𝓡 = 𝓡 } Code.env Key.name Code.function (Code.unfolded 𝓤 H 𝓜 𝓡) (λ
+      κs a g. tt) (λ κs. Reads'4.owns κs record { M = M; 𝓤 = 𝓤; H = H; 𝓜 = 𝓜; 𝓖 = 𝓖; 𝓡 = 𝓡 }) (Reads'4.passes record {
+        M = M;
+        𝓤 = 𝓤;
+        H = H;
+        𝓜 = 𝓜;
+        𝓖 =
+            𝓖;
+        𝓡 = 𝓡;
+      }) λ g. closed 𝓤 H (𝓖 .A) (Running.givenOf 𝓤 H 𝓜 𝓖) (Run.Over 𝓤 H 𝓜 𝓖 𝓡 Code.env) (Reads'.known record {
+        M = M;
+        𝓤 = 𝓤;
+        H = H;
+        𝓜 = 𝓜;
+        𝓖
+            = 𝓖;
+        𝓡 = 𝓡;
+      } Code.env Symbol'.name Symbol'.routine Code.calls-records·is-valid (Met'.met 𝓤 H 𝓜 𝓖 𝓡)) (Reads''.known record {
+        M = M;
+        𝓤 = 𝓤;
+        H =
+            H;
+        𝓜 = 𝓜;
+        𝓖 = 𝓖;
+        𝓡 = 𝓡;
+      } Code.env Symbol''.name Symbol''.routine Code.calls-records·place-before (Met''.met 𝓤 H 𝓜 𝓖 𝓡)) (Reads.known record {
+        M
+            = M;
+        𝓤 = 𝓤;
+        H = H;
+        𝓜 = 𝓜;
+        𝓖 = 𝓖;
+        𝓡 = 𝓡;
+      } Code.env Symbol.name Symbol.routine Code.calls-records·get (Met.met 𝓤 H 𝓜 𝓖 𝓡)) (Reads'3.known record {
+        M = M;
+        𝓤 = 𝓤;
+        H = H;
+        𝓜 = 𝓜;
+        𝓖 = 𝓖;
+        𝓡 = 𝓡;
+      } Code.env Symbol'3.name Symbol'3.routine Code.calls-sheet·numbered·write-numbered (Met'3.met 𝓤 H 𝓜 𝓖
+      𝓡))

@@ -1,0 +1,48 @@
+-- How loading goes: the text is gone through twice, once to look and once to write. What it comes to is said in `Load.antt`. Assumes nothing.
+use Prim.Native.Nat.{ℕ, zero, suc}
+use mathlib.Core.Bool.{cond}
+use mathlib.Core.List.{List, [], _∷_}
+use mathlib.Core.Option.{Option, none, some}
+use lib.Dec.{eqb, leb, ltb}
+use Rattle.answer.specs.Answer.{accepted, badJournal, badSheet, outcome}
+use Rattle.record.specs.Record.{noRecord}
+use Rattle.record.specs.declared.Record.{Record}
+use Rattle.text.specs.Fields.{afterNumber}
+use Rattle.sheet.specs.Load.{lineAt, afterLine, recordsAt, headOf}
+use Rattle.sheet.specs.declared.line.Kind.{Kind}
+use Rattle.sheet.specs.declared.line.Kind.the-variants.{Full, Old}
+use Rattle.sheet.specs.declared.look.Found.{Found}
+use Rattle.sheet.specs.declared.look.Next.{Next}
+
+-- nothing was found
+abbrev pub nothing : ℕ → Found
+nothing answer = record { answer = answer; count = 0; first = 0; kind = Full }
+
+-- what was found, by the records of the lines
+abbrev pub seen : ℕ → ℕ → Kind → Option (List Record) → Found
+seen count first kind (some rs) = record { answer = accepted; count = count; first = first; kind = kind }
+seen count first kind none = nothing badSheet
+
+-- the sheet that a text is, in lines of a kind, for so many places
+unfoldable pub foundAs : ℕ → Kind → List ℕ → Found
+foundAs places kind text =
+    afterNumber (headOf text) (λ count at. cond (leb count places) (seen count at kind (recordsAt kind text at count)) (nothing badSheet)) (nothing badSheet)
+
+-- the one found in full lines, or else in old ones
+abbrev pub orOld : Found → Found → Found
+orOld full old = outcome (full .answer) full old
+
+-- the sheet that a text is, for a slice of so many records where there are to be so many places
+unfoldable pub foundIn : ℕ → ℕ → List ℕ → Found
+foundIn places slice text = cond (eqb slice places) (orOld (foundAs places Full text) (foundAs places Old text)) (nothing badJournal)
+
+-- what comes at a place: the record of the line that stands there and where the next line begins, or nothing past the last
+unfoldable pub nextOf : List ℕ → ℕ → ℕ → Found → Next
+nextOf text at place found =
+    let free : Next = record { one = noRecord; at = at } in
+    cond (ltb place (found .count)) (afterLine (lineAt (found .kind) text at) (λ r next. record { one = r; at = next }) free) free
+
+-- so many places from one on, as they are written
+abbrev pub filled : List ℕ → Found → ℕ → ℕ → ℕ → List Record
+filled text found at place zero = []
+filled text found at place (suc left) = let next = nextOf text at place found in next .one ∷ filled text found (next .at) (suc place) left

@@ -1,0 +1,111 @@
+// A text that may be a sheet: what is found in it, and its records one after the other.
+ghost use mathlib.Core.Path.{_≡_};
+ghost use Rattle.records.specs.Journal.{limit};
+ghost use Rattle.sheet.specs.Load.{headOf};
+ghost use Rattle.sheet.specs.Twice.{nothing, foundAs, foundIn, nextOf};
+use crate::line;
+use crate::line::Kind;
+use crate::line::Line;
+use answer::ACCEPTED;
+use answer::BAD_JOURNAL;
+use answer::BAD_SHEET;
+use record::NONE;
+use record::Record;
+use records::LIMIT;
+use text::NEWLINE;
+use text::Number;
+
+// The answer, and of a sheet the number of its records, the place of the first one's line, and the kind of its lines.
+pub struct Found {
+    pub answer: u8,
+    pub count: u64,
+    pub first: usize,
+    pub kind: Kind,
+}
+
+// A record, and the place where the next one's line begins.
+pub struct Next {
+    pub one: Record,
+    pub at: usize,
+}
+
+fn none(answer: u8) -> Found
+    ensures { λ r. ⌜ r ≡ nothing answer ⌝ }
+{
+    Found {
+        answer,
+        count: 0,
+        first: 0,
+        kind: Kind::Full,
+    }
+}
+
+// The sheet that a text is, in full lines or else in old ones, for a slice of so many records.
+pub fn look(text: &[u8], places: usize) -> Found
+    ensures { λ r. ⌜ r ≡ foundIn limit places (now (text .entry)) ⌝ }
+{
+    if places != LIMIT as usize {
+        return none(BAD_JOURNAL);
+    }
+    let full = look_as(text, Kind::Full);
+    if full.answer == ACCEPTED {
+        return full;
+    }
+    look_as(text, Kind::Old)
+}
+
+// The same where the lines are of one kind.
+fn look_as(text: &[u8], kind: Kind) -> Found
+    ensures { λ r. ⌜ r ≡ foundAs limit kind (now (text .entry)) ⌝ }
+{
+    let head = read_head(text);
+    let Number::Read(count, first) = head else {
+        return none(BAD_SHEET);
+    };
+    if LIMIT < count {
+        return none(BAD_SHEET);
+    }
+    let mut at = first;
+    let mut place = 0;
+    while place < count {
+        let line = line::read_line(text, at, kind);
+        let Line::Read(_, next) = line else {
+            return none(BAD_SHEET);
+        };
+        at = next;
+        place += 1;
+    }
+    if at != text.len() {
+        return none(BAD_SHEET);
+    }
+    Found {
+        answer: ACCEPTED,
+        count,
+        first,
+        kind,
+    }
+}
+
+// The count that the first line gives, and the place after that line.
+fn read_head(text: &[u8]) -> Number
+    ensures { λ r. ⌜ r ≡ headOf (now (text .entry)) ⌝ }
+{
+    if !text::begins(text, b"patches\t") {
+        return Number::Refused;
+    }
+    text::read_field(text, 8, NEWLINE)
+}
+
+// What comes at a place of the journal: the record of the line that stands there, or nothing past the last.
+pub fn next_line(text: &[u8], at: usize, place: usize, found: Found) -> Next
+    ensures { λ r. ⌜ r ≡ nextOf (now (text .entry)) at place found ⌝ }
+{
+    let kind = found.kind;
+    if (place as u64) < found.count {
+        let line = line::read_line(text, at, kind);
+        if let Line::Read(one, next) = line {
+            return Next { one, at: next };
+        }
+    }
+    Next { one: NONE, at }
+}
