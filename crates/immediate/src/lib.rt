@@ -8,6 +8,7 @@ pub use outcome::Target;
 ghost use mathlib.Core.Path.{_≡_};
 ghost use Rattle.bundle.specs.Bundle.{whole};
 ghost use Rattle.operand.specs.Pattern.{patternOf};
+ghost use Rattle.row.specs.Row.{rowOf};
 ghost use Rattle.immediate.specs.Immediate.{valueIn, noImmediate, immediateIn, immediateOf, noChange, changedOf, displacementIn, noTarget, targetIn, targetOf};
 ghost use Rattle.immediate.specs.Sound.{Sound};
 use answer::ACCEPTED;
@@ -72,8 +73,16 @@ pub fn change(bundle: Halves, edit: Edit) -> Changed
     ensures { λ r. ⌜ r ≡ changedOf (whole bundle) edit ⌝ }
 {
     let form = edit.form;
+    change_by(row::row_of(form), bundle, edit)
+}
+
+// The same for who has the row of the edit's form at hand.
+pub fn change_by(row: Row, bundle: Halves, edit: Edit) -> Changed
+    requires { ⌜ row ≡ rowOf (edit .form) ⌝ }
+    ensures { λ r. ⌜ r ≡ changedOf (whole bundle) edit ⌝ }
+{
+    let form = edit.form;
     let value = edit.value;
-    let row = row::row_of(form);
     let answer = fit::read_answer(bundle, edit.slot, form, row);
     if answer != ACCEPTED {
         return unchanged(answer);

@@ -1,5 +1,6 @@
 // Records of edits: what was done to a bundle, and the bundle before and after.
 ghost use mathlib.Core.Path.{_≡_};
+ghost use Rattle.row.specs.Row.{rowOf};
 ghost use Rattle.record.specs.Record.{wholeRecord, isWhole, sameHalves, isFree, told, mayStand};
 ghost use Rattle.record.specs.Record.{passes as Record·passes};
 use answer::ACCEPTED;
@@ -7,6 +8,7 @@ use bundle::Halves;
 use form::Edit;
 use form::Form;
 use form::NO_FORM;
+use row::Row;
 
 // The highest number of a bundle.
 const HIGHEST: u64 = 4095;
@@ -68,12 +70,12 @@ pub fn is_free(place: Record) -> bool
     is_whole(place) & (place.bundle == 0) & same_halves(old, ZERO) & same_halves(new, ZERO)
 }
 
-// The edit that a record tells of.
-fn edit_told(one: Record) -> Edit
+// The edit that a record tells of, by the row of its form.
+fn edit_told(row: Row, one: Record) -> Edit
+    requires { ⌜ row ≡ rowOf (one .form) ⌝ }
     ensures { λ r. ⌜ r ≡ told one ⌝ }
 {
     let form = one.form;
-    let row = row::row_of(form);
     let meaning = row.meaning;
     Edit {
         bundle: one.bundle,
@@ -90,14 +92,13 @@ fn passes(one: Record) -> bool
     if is_whole(one) {
         return true;
     }
+    let form = one.form;
+    let row = row::row_of(form);
     let old = one.old;
-    let changed = immediate::change(old, edit_told(one));
-    if changed.answer != ACCEPTED {
-        return false;
-    }
+    let changed = immediate::change_by(row, old, edit_told(row, one));
     let made = changed.bundle;
     let new = one.new;
-    same_halves(made, new)
+    (changed.answer == ACCEPTED) & same_halves(made, new)
 }
 
 pub fn may_stand(one: Record) -> bool

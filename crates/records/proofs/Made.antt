@@ -1,3 +1,5 @@
+pub mod all_free
+pub mod all_stand
 pub mod free
 pub mod get
 pub mod get_at

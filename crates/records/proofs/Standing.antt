@@ -4,11 +4,12 @@ use mathlib.Core.Path.{_≡_, refl, sym, ap, ap₂, _∙_, subst}
 use mathlib.Core.Bool.{Bool, true, false, _&&_, and-true, and-false, and-assoc}
 use mathlib.Core.List.{List, [], _∷_, _++_, append-assoc, dropLast, getLastD}
 use Prim.Native.Nat.{ℕ, zero, suc, _+_, _-_, _≤_, _<_}
+use native.Mathlib.Numerals.{add-one}
 use native.Mathlib.Omega.{arith}
 use borrow.Author.Tests.{leb-true, eq-eqb}
 use lib.Dec.{T, eqb, leb, leb→le, eqb→eq}
 use lib.ListN.{length, getD, set, take, drop, replicate, length-append, length-replicate, length-drop, take-append-drop}
-use lib.Seq.{set-at, take-append-seam, drop-append-seam, length-take-le}
+use lib.Seq.{set-at, take-suc, take-append-seam, drop-append-seam, length-take-le}
 use mir.Facts.{and-yes, yes-and}
 use Rattle.record.specs.Record.{noRecord, isFree, mayStand}
 use Rattle.record.specs.declared.Record.{Record}
@@ -51,6 +52,11 @@ journal-counts places rs = refl
 pub all-append : (test : Record → Bool) (rs qs : List Record) → all test (rs ++ qs) ≡ all test rs && all test qs
 all-append test [] qs = refl
 all-append test (r ∷ rs) qs = ap (λ (t : Bool). test r && t) (all-append test rs qs) ∙ sym (and-assoc (test r) (all test rs) (all test qs))
+
+-- one record more passes the test
+pub all-more : (test : Record → Bool) (rs : List Record) (i : ℕ) → i < length rs → all test (take (i + 1) rs) ≡ all test (take i rs) && test (getD rs i noRecord)
+all-more test rs i h =
+    rw (add-one, take-suc rs i noRecord h) (all-append test (take i rs) _ ∙ ap (λ (t : Bool). all test (take i rs) && t) (and-true (test (getD rs i noRecord))))
 
 all-free : (n : ℕ) → all isFree (replicate n noRecord) ≡ true
 all-free zero = refl

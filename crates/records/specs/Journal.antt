@@ -48,10 +48,6 @@ shown valid count last = cond valid (record { valid = true; count = count; last 
 unfoldable pub viewOf : ℕ → Journal → View
 viewOf places j = shown (validOf places j) (length (standing j)) (getLastD (standing j) noRecord)
 
--- what a place has to hold, by whether its record stands
-abbrev pub placeValid : Bool → Record → Bool
-placeValid stands r = cond stands (mayStand r) (isFree r)
-
 -- the record at a place
 abbrev pub recordAt : Journal → ℕ → Record
 recordAt j place = getD (j .records) place noRecord

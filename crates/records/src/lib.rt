@@ -1,11 +1,11 @@
 // The journal's records, in a slice that the caller lends: the first `count` places stand, the oldest first, and the others are free.
 ghost use mathlib.Core.Path.{_≡_};
-ghost use mathlib.Core.Bool.{_&&_};
+ghost use mathlib.Core.Bool.{true, _&&_};
 ghost use Prim.Native.Nat.{_-_, _<_};
 ghost use lib.Dec.{T, eqb, leb};
 ghost use lib.ListN.{length, getD, set, replicate};
-ghost use Rattle.record.specs.Record.{noRecord, isHeld};
-ghost use Rattle.records.specs.Journal.{limit, lent, all, placeValid, shown, validOf, viewOf};
+ghost use Rattle.record.specs.Record.{noRecord, isFree, mayStand, isHeld};
+ghost use Rattle.records.specs.Journal.{limit, lent, all, standing, shown, validOf, viewOf};
 use record::NONE;
 use record::Record;
 
@@ -67,14 +67,38 @@ pub fn put(records: &mut [Record], place: u64, one: Record)
     }
 }
 
-fn place_valid(stands: bool, one: Record) -> bool
-    ensures { λ r. ⌜ (r ≡ placeValid stands one) × T (isHeld one) ⌝ }
+fn stands(one: Record) -> bool
+    ensures { λ r. ⌜ (r ≡ mayStand one) × T (isHeld one) ⌝ }
 {
-    if stands {
-        record::may_stand(one)
-    } else {
-        record::is_free(one)
+    record::may_stand(one)
+}
+
+// Whether each of some records may stand.
+fn all_stand(records: &[Record]) -> bool
+    ensures { λ r. ⌜ (r ≡ all mayStand (now (records .entry))) × T (all isHeld (now (records .entry))) ⌝ }
+{
+    let mut stand = true;
+    let mut place = 0;
+    while place < records.len() {
+        let one = get_at(records, place);
+        stand = stand & stands(one);
+        place += 1;
     }
+    stand
+}
+
+// Whether each of some places is free.
+fn all_free(records: &[Record]) -> bool
+    ensures { λ r. ⌜ r ≡ all isFree (now (records .entry)) ⌝ }
+{
+    let mut free = true;
+    let mut place = 0;
+    while place < records.len() {
+        let one = get_at(records, place);
+        free = free & record::is_free(one);
+        place += 1;
+    }
+    free
 }
 
 // Whether there are `LIMIT` places, and the count is at most as many.
@@ -86,16 +110,15 @@ fn is_sized(count: u64, places: usize) -> bool
 
 // Whether it is so, the records that stand may, and the places past the count are free.
 pub fn is_valid(count: u64, records: &[Record]) -> bool
-    ensures { λ r. ⌜ (r ≡ validOf limit (lent count (now (records .entry)))) × T (all isHeld (now (records .entry))) ⌝ }
+    ensures { λ r. ⌜ (r ≡ validOf limit (lent count (now (records .entry)))) × (r ≡ true → T (all isHeld (standing (lent count (now (records .entry)))))) ⌝ }
 {
-    let mut valid = is_sized(count, records.len());
-    let mut place = 0;
-    while place < records.len() {
-        let one = get_at(records, place);
-        valid = valid & place_valid((place as u64) < count, one);
-        place += 1;
+    if !is_sized(count, records.len()) {
+        return false;
     }
-    valid
+    let seam = count as usize;
+    let stand = all_stand(&records[0..seam]);
+    let free = all_free(&records[seam..]);
+    stand & free
 }
 
 // The place before so many.
@@ -120,7 +143,7 @@ fn show(valid: bool, count: u64, last: Record) -> View
 }
 
 pub fn view_of(count: u64, records: &[Record]) -> View
-    ensures { λ r. ⌜ (r ≡ viewOf limit (lent count (now (records .entry)))) × T (all isHeld (now (records .entry))) ⌝ }
+    ensures { λ r. ⌜ r ≡ viewOf limit (lent count (now (records .entry))) ⌝ }
 {
     let valid = is_valid(count, records);
     let last = get(records, place_before(count));

@@ -8,7 +8,7 @@ ghost use mathlib.Core.Bool.{true};
 ghost use lib.Dec.{T, leb};
 ghost use lib.ListN.{length};
 ghost use Rattle.record.specs.Record.{isHeld};
-ghost use Rattle.records.specs.Journal.{limit, lent, all, validOf};
+ghost use Rattle.records.specs.Journal.{limit, lent, all, standing, validOf};
 ghost use Rattle.text.specs.Put.{Put};
 ghost use Rattle.text.specs.Whole.{wroteOf};
 ghost use Rattle.sheet.specs.Sheet.{sheetOf, sheetLine, writeRefusals};
@@ -50,7 +50,7 @@ pub fn write(count: u64, records: &[Record], out: &mut [u8]) -> Written
 
 // Whether the sheet has at most `room` bytes. It is measured only where room may be short.
 fn fits(count: u64, records: &[Record], room: usize) -> bool
-    requires { ⌜ (validOf limit (lent count (now records)) ≡ true) × T (all isHeld (now records)) ⌝ }
+    requires { ⌜ (validOf limit (lent count (now records)) ≡ true) × T (all isHeld (standing (lent count (now records)))) ⌝ }
     ensures { λ r. ⌜ r ≡ leb (length (sheetOf (lent count (now (records .entry))))) room ⌝ }
 {
     if CAPACITY <= room {

@@ -19,7 +19,7 @@ planned : (c : tie.After-edit-plan) → let a = c .before .before .before .befor
     c .edit-plan .result ≡ editPlanOf limit (now (a .code)) (viewOf limit (lent (a .count) (now (a .records)))) (a .edit)
 planned c =
     let a = c .before .before .before .before .before .args in
-    c .edit-plan .ensures ∙ ap (λ (v : View). editPlanOf limit (now (a .code)) v (a .edit)) (c .before .before .view-of .ensures .0)
+    c .edit-plan .ensures ∙ ap (λ (v : View). editPlanOf limit (now (a .code)) v (a .edit)) (c .before .before .view-of .ensures)
 
 carry-out-requires : tie.Need-carry-out-requires
 carry-out-requires c κs =

@@ -18,7 +18,7 @@ planned : (c : tie.After-undo-plan) → let a = c .before .before .before .befor
     c .undo-plan .result ≡ undoPlanOf (now (a .code)) (viewOf limit (lent (a .count) (now (a .records))))
 planned c =
     let a = c .before .before .before .before .before .args in
-    c .undo-plan .ensures ∙ ap (undoPlanOf (now (a .code))) (c .before .before .view-of .ensures .0)
+    c .undo-plan .ensures ∙ ap (undoPlanOf (now (a .code))) (c .before .before .view-of .ensures)
 
 carry-out-requires : tie.Need-carry-out-requires
 carry-out-requires c κs =

@@ -8,9 +8,10 @@ use Rattle.record.proofs.edit_told.Tie as tie
 
 returns : tie.Need-returns
 returns c =
-    let a = c .before .before .before .args in
-    let value = c .operand-for .ensures ∙ ap (λ (row : Row). operandFor (row .meaning) (a .one .value)) (c .before .row-of .ensures) in
+    let s = c .before .before in
+    let a = s .args in
+    let value = c .operand-for .ensures ∙ ap (λ (row : Row). operandFor (row .meaning) (a .one .value)) (s .pre) in
     λ i. record { bundle = a .one .bundle; slot = a .one .slot; form = a .one .form; value = value i }
 
 pub edit-told-spec : {M : Type 1} → statement M
-edit-told-spec = tie.close (tie.spec (λ c κs. search needs) (λ c κs. search needs) returns)
+edit-told-spec = tie.close (tie.spec (λ c κs. search needs) returns)

@@ -16,7 +16,7 @@ returns c =
     let a = v .before .args in
     let j = lent (a .count) (a .records .now) in
     let last = g .get .ensures ∙ ap (recordAt j) (p .place-before .ensures) in
-    (c .show .ensures ∙ (λ i. shown (v .is-valid .ensures .0 i) (j .count) (last i)) ∙ sym (view-shown limit j), v .is-valid .ensures .1)
+    c .show .ensures ∙ (λ i. shown (v .is-valid .ensures .0 i) (j .count) (last i)) ∙ sym (view-shown limit j)
 
 pub view-of-spec : {M : Type 1} → statement M
 view-of-spec = tie.close (tie.spec (λ c κs. search needs) (λ c κs. search needs) (λ c κs. search needs) (λ c κs. search needs) returns)

@@ -11,7 +11,6 @@ use borrow.Author.Needs.{needs}
 use borrow.Author.Tests.{le-leb}
 use lib.Dec.{T, leb}
 use lib.ListN.{length}
-use Rattle.record.specs.Record.{isHeld}
 use Rattle.record.specs.declared.Record.{Record}
 use Rattle.records.specs.Journal.{lent, all}
 use Rattle.records.proofs.Standing.{standing-all}
@@ -29,7 +28,7 @@ short : (c : tie.Start) → length (sheetOf (lent (c .args .count) (c .args .rec
 short c =
     let rs = c .args .records .now in
     let j = lent (c .args .count) rs in
-    sheet-most j (record { valid = c .pre .0; held = standing-all isHeld j (c .pre .1); told = standing-all (tells Full) j (all-told rs) })
+    sheet-most j (record { valid = c .pre .0; held = c .pre .1; told = standing-all (tells Full) j (all-told rs) })
 
 returns : tie.Need-returns
 returns c = sym (le-leb _ (c .before .args .room) (le-trans (short (c .before)) (c .if1 .taken)))

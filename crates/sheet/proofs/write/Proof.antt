@@ -45,7 +45,7 @@ write-spec =
     (tie.spec
     (λ c κs. search needs)
     returns
-    (λ c κs. (is-valid c, c .before .is-valid .ensures .1))
+    (λ c κs. (is-valid c, c .before .is-valid .ensures .1 (not-false _ (c .if1 .left))))
     (λ c κs. is-valid (c .before .before .before))
     (λ c. search needs)
     returns-2

@@ -1,127 +1,126 @@
 -- Made by made/make: not to be edited. Assumes nothing.
-use Rattle.records.proofs.get_at.Met
-use Rattle.records.proofs.Made.get_at.Reads
-use Rattle.records.proofs.get_at.Symbol
-use Rattle.records.proofs.is_sized.Met as Met'
-use Rattle.records.proofs.is_sized.Reads as Reads'
-use Rattle.records.proofs.is_sized.Symbol as Symbol'
+use Rattle.records.proofs.all_free.Met
+use Rattle.records.proofs.Made.all_free.Reads
+use Rattle.records.proofs.all_free.Symbol
+use Rattle.records.proofs.all_stand.Met as Met'
+use Rattle.records.proofs.Made.all_stand.Reads as Reads'
+use Rattle.records.proofs.all_stand.Symbol as Symbol'
+use Rattle.records.proofs.is_sized.Met as Met''
+use Rattle.records.proofs.is_sized.Reads as Reads''
+use Rattle.records.proofs.is_sized.Symbol as Symbol''
 use Rattle.records.proofs.is_valid.Code
 use Rattle.records.proofs.is_valid.Key
 use Rattle.records.proofs.Made.is_valid.Kinds
 use Rattle.records.proofs.is_valid.Proof.Lts
-use Rattle.records.proofs.Made.is_valid.Reads as Reads''
+use Rattle.records.proofs.Made.is_valid.Reads as Reads'3
 use Rattle.records.proofs.is_valid.Statement
-use Rattle.records.proofs.place_valid.Met as Met''
-use Rattle.records.proofs.place_valid.Reads as Reads'3
-use Rattle.records.proofs.place_valid.Symbol as Symbol''
 use borrow.Fn.Run
 use borrow.Fn.Written
 use contract.Running
 
-abbrev pub InvT-loop : Type 1
-InvT-loop = Lts.InvT-loop
+abbrev pub Start : Type 0
+Start = Lts.Start (Reads''.Asked, Reads''.Learnt, Reads'.Asked, Reads'.Learnt, Reads.Asked, Reads.Learnt) Reads'3.Pre Reads'3.Post
 
-abbrev pub MeasureT-loop : Type 0
-MeasureT-loop = Lts.MeasureT-loop
+abbrev pub After-is-sized : Type 0
+After-is-sized = Lts.After-is-sized (Reads''.Asked, Reads''.Learnt, Reads'.Asked, Reads'.Learnt, Reads.Asked, Reads.Learnt) Reads'3.Pre
+    Reads'3.Post
 
-abbrev pub Start : (Inv : InvT-loop) → (μ : MeasureT-loop) → Type 0
-Start = λ Inv μ. Lts.Start (Reads'.Asked, Reads'.Learnt, Reads.Asked, Reads.Learnt, Reads'3.Asked, Reads'3.Learnt) Reads''.Pre Reads''.Post Inv μ
+abbrev pub Then1 : Type 0
+Then1 = Lts.Then1 (Reads''.Asked, Reads''.Learnt, Reads'.Asked, Reads'.Learnt, Reads.Asked, Reads.Learnt) Reads'3.Pre Reads'3.Post
 
-abbrev pub After-is-sized : (Inv : InvT-loop) → (μ : MeasureT-loop) → Type 0
-After-is-sized = λ Inv μ. Lts.After-is-sized (Reads'.Asked, Reads'.Learnt, Reads.Asked, Reads.Learnt, Reads'3.Asked, Reads'3.Learnt) Reads''.Pre
-    Reads''.Post Inv μ
+abbrev pub Else1 : Type 0
+Else1 = Lts.Else1 (Reads''.Asked, Reads''.Learnt, Reads'.Asked, Reads'.Learnt, Reads.Asked, Reads.Learnt) Reads'3.Pre Reads'3.Post
 
-abbrev pub At-loop : (Inv : InvT-loop) → (μ : MeasureT-loop) → Type 0
-At-loop = λ Inv μ. Lts.At-loop (Reads'.Asked, Reads'.Learnt, Reads.Asked, Reads.Learnt, Reads'3.Asked, Reads'3.Learnt) Reads''.Pre Reads''.Post Inv
-    μ
+abbrev pub After-all-stand-arg : Type 0
+After-all-stand-arg = Lts.After-all-stand-arg (Reads''.Asked, Reads''.Learnt, Reads'.Asked, Reads'.Learnt, Reads.Asked, Reads.Learnt) Reads'3.Pre
+    Reads'3.Post
 
-abbrev pub In-loop : (Inv : InvT-loop) → (μ : MeasureT-loop) → Type 0
-In-loop = λ Inv μ. Lts.In-loop (Reads'.Asked, Reads'.Learnt, Reads.Asked, Reads.Learnt, Reads'3.Asked, Reads'3.Learnt) Reads''.Pre Reads''.Post Inv
-    μ
+abbrev pub After-all-stand : Type 0
+After-all-stand = Lts.After-all-stand (Reads''.Asked, Reads''.Learnt, Reads'.Asked, Reads'.Learnt, Reads.Asked, Reads.Learnt) Reads'3.Pre
+    Reads'3.Post
 
-abbrev pub After-loop : (Inv : InvT-loop) → (μ : MeasureT-loop) → Type 0
-After-loop = λ Inv μ. Lts.After-loop (Reads'.Asked, Reads'.Learnt, Reads.Asked, Reads.Learnt, Reads'3.Asked, Reads'3.Learnt) Reads''.Pre
-    Reads''.Post Inv μ
+abbrev pub After-all-free-arg : Type 0
+After-all-free-arg = Lts.After-all-free-arg (Reads''.Asked, Reads''.Learnt, Reads'.Asked, Reads'.Learnt, Reads.Asked, Reads.Learnt) Reads'3.Pre
+    Reads'3.Post
 
-abbrev pub After-get-at : (Inv : InvT-loop) → (μ : MeasureT-loop) → Type 0
-After-get-at = λ Inv μ. Lts.After-get-at (Reads'.Asked, Reads'.Learnt, Reads.Asked, Reads.Learnt, Reads'3.Asked, Reads'3.Learnt) Reads''.Pre
-    Reads''.Post Inv μ
+abbrev pub After-all-free : Type 0
+After-all-free = Lts.After-all-free (Reads''.Asked, Reads''.Learnt, Reads'.Asked, Reads'.Learnt, Reads.Asked, Reads.Learnt) Reads'3.Pre
+    Reads'3.Post
 
-abbrev pub After-place-valid : (Inv : InvT-loop) → (μ : MeasureT-loop) → Type 0
-After-place-valid = λ Inv μ. Lts.After-place-valid (Reads'.Asked, Reads'.Learnt, Reads.Asked, Reads.Learnt, Reads'3.Asked, Reads'3.Learnt)
-    Reads''.Pre Reads''.Post Inv μ
+abbrev pub Need-is-sized-requires : Type 0
+Need-is-sized-requires = Lts.Need-is-sized-requires (Reads''.Asked, Reads''.Learnt, Reads'.Asked, Reads'.Learnt, Reads.Asked, Reads.Learnt)
+    Reads'3.Pre Reads'3.Post
 
-abbrev pub Need-is-sized-requires : (Inv : InvT-loop) → (μ : MeasureT-loop) → Type 0
-Need-is-sized-requires = λ Inv μ. Lts.Need-is-sized-requires (
-  Reads'.Asked,
-  Reads'.Learnt,
-  Reads.Asked,
-  Reads.Learnt,
-  Reads'3.Asked,
-  Reads'3.Learnt,
-) Reads''.Pre Reads''.Post Inv μ
+abbrev pub Need-returns : Type 0
+Need-returns = Lts.Need-returns (Reads''.Asked, Reads''.Learnt, Reads'.Asked, Reads'.Learnt, Reads.Asked, Reads.Learnt) Reads'3.Pre Reads'3.Post
 
-abbrev pub Need-loop-holds : (Inv : InvT-loop) → (μ : MeasureT-loop) → Type 0
-Need-loop-holds = λ Inv μ. Lts.Need-loop-holds (Reads'.Asked, Reads'.Learnt, Reads.Asked, Reads.Learnt, Reads'3.Asked, Reads'3.Learnt) Reads''.Pre
-    Reads''.Post Inv μ
+abbrev pub Need-sub-all-stand : Type 0
+Need-sub-all-stand = Lts.Need-sub-all-stand (Reads''.Asked, Reads''.Learnt, Reads'.Asked, Reads'.Learnt, Reads.Asked, Reads.Learnt) Reads'3.Pre
+    Reads'3.Post
 
-abbrev pub Need-get-at-requires : (Inv : InvT-loop) → (μ : MeasureT-loop) → Type 0
-Need-get-at-requires = λ Inv μ. Lts.Need-get-at-requires (Reads'.Asked, Reads'.Learnt, Reads.Asked, Reads.Learnt, Reads'3.Asked, Reads'3.Learnt)
-    Reads''.Pre Reads''.Post Inv μ
+abbrev pub Need-part-all-stand-start : Type 0
+Need-part-all-stand-start = Lts.Need-part-all-stand-start (Reads''.Asked, Reads''.Learnt, Reads'.Asked, Reads'.Learnt, Reads.Asked, Reads.Learnt)
+    Reads'3.Pre Reads'3.Post
 
-abbrev pub Need-place-valid-requires : (Inv : InvT-loop) → (μ : MeasureT-loop) → Type 0
-Need-place-valid-requires = λ Inv μ. Lts.Need-place-valid-requires (
-  Reads'.Asked,
-  Reads'.Learnt,
-  Reads.Asked,
-  Reads.Learnt,
-  Reads'3.Asked,
-  Reads'3.Learnt,
-) Reads''.Pre Reads''.Post Inv μ
+abbrev pub Need-part-all-stand-end : Type 0
+Need-part-all-stand-end = Lts.Need-part-all-stand-end (Reads''.Asked, Reads''.Learnt, Reads'.Asked, Reads'.Learnt, Reads.Asked, Reads.Learnt)
+    Reads'3.Pre Reads'3.Post
 
-abbrev pub Need-add-place : (Inv : InvT-loop) → (μ : MeasureT-loop) → Type 0
-Need-add-place = λ Inv μ. Lts.Need-add-place (Reads'.Asked, Reads'.Learnt, Reads.Asked, Reads.Learnt, Reads'3.Asked, Reads'3.Learnt) Reads''.Pre
-    Reads''.Post Inv μ
+abbrev pub Need-all-stand-requires : Type 0
+Need-all-stand-requires = Lts.Need-all-stand-requires (Reads''.Asked, Reads''.Learnt, Reads'.Asked, Reads'.Learnt, Reads.Asked, Reads.Learnt)
+    Reads'3.Pre Reads'3.Post
 
-abbrev pub Need-loop-less : (Inv : InvT-loop) → (μ : MeasureT-loop) → Type 0
-Need-loop-less = λ Inv μ. Lts.Need-loop-less (Reads'.Asked, Reads'.Learnt, Reads.Asked, Reads.Learnt, Reads'3.Asked, Reads'3.Learnt) Reads''.Pre
-    Reads''.Post Inv μ
+abbrev pub Need-mul-all-free : Type 0
+Need-mul-all-free = Lts.Need-mul-all-free (Reads''.Asked, Reads''.Learnt, Reads'.Asked, Reads'.Learnt, Reads.Asked, Reads.Learnt) Reads'3.Pre
+    Reads'3.Post
 
-abbrev pub Need-loop-again : (Inv : InvT-loop) → (μ : MeasureT-loop) → Type 0
-Need-loop-again = λ Inv μ. Lts.Need-loop-again (Reads'.Asked, Reads'.Learnt, Reads.Asked, Reads.Learnt, Reads'3.Asked, Reads'3.Learnt) Reads''.Pre
-    Reads''.Post Inv μ
+abbrev pub Need-sub-all-free : Type 0
+Need-sub-all-free = Lts.Need-sub-all-free (Reads''.Asked, Reads''.Learnt, Reads'.Asked, Reads'.Learnt, Reads.Asked, Reads.Learnt) Reads'3.Pre
+    Reads'3.Post
 
-abbrev pub Need-returns : (Inv : InvT-loop) → (μ : MeasureT-loop) → Type 0
-Need-returns = λ Inv μ. Lts.Need-returns (Reads'.Asked, Reads'.Learnt, Reads.Asked, Reads.Learnt, Reads'3.Asked, Reads'3.Learnt) Reads''.Pre
-    Reads''.Post Inv μ
+abbrev pub Need-part-all-free-start : Type 0
+Need-part-all-free-start = Lts.Need-part-all-free-start (Reads''.Asked, Reads''.Learnt, Reads'.Asked, Reads'.Learnt, Reads.Asked, Reads.Learnt)
+    Reads'3.Pre Reads'3.Post
+
+abbrev pub Need-part-all-free-end : Type 0
+Need-part-all-free-end = Lts.Need-part-all-free-end (Reads''.Asked, Reads''.Learnt, Reads'.Asked, Reads'.Learnt, Reads.Asked, Reads.Learnt)
+    Reads'3.Pre Reads'3.Post
+
+abbrev pub Need-all-free-requires : Type 0
+Need-all-free-requires = Lts.Need-all-free-requires (Reads''.Asked, Reads''.Learnt, Reads'.Asked, Reads'.Learnt, Reads.Asked, Reads.Learnt)
+    Reads'3.Pre Reads'3.Post
+
+abbrev pub Need-returns-2 : Type 0
+Need-returns-2 = Lts.Need-returns-2 (Reads''.Asked, Reads''.Learnt, Reads'.Asked, Reads'.Learnt, Reads.Asked, Reads.Learnt) Reads'3.Pre
+    Reads'3.Post
 
 module _ {M : Type 1} where
-  pub spec : (Inv : InvT-loop) → (μ : MeasureT-loop) → (answer : Need-is-sized-requires Inv μ) → (answer : Need-loop-holds Inv μ) → (answer :
-      Need-get-at-requires Inv μ) → (answer : Need-place-valid-requires Inv μ) → (answer : Need-add-place Inv μ) → (answer : Need-loop-less Inv μ) →
-      (answer : Need-loop-again Inv μ) → (answer : Need-returns Inv μ) → Lts.Closed (
+  pub spec : (answer : Need-is-sized-requires) → (answer : Need-returns) → (answer : Need-sub-all-stand) → (answer : Need-part-all-stand-start) →
+      (answer : Need-part-all-stand-end) → (answer : Need-all-stand-requires) → (answer : Need-mul-all-free) → (answer : Need-sub-all-free) → (answer
+      : Need-part-all-free-start) → (answer : Need-part-all-free-end) → (answer : Need-all-free-requires) → (answer : Need-returns-2) → Lts.Closed (
+        Reads''.Asked,
+        Reads''.Learnt,
         Reads'.Asked,
         Reads'.Learnt,
         Reads.Asked,
         Reads.Learnt,
-        Reads'3.Asked,
-        Reads'3.Learnt,
-      ) Reads''.Pre Reads''.Post M
-  spec = λ Inv μ answer answer' answer'' answer'3 answer'4 answer'5 answer'6 answer'7. Lts.spec (
+      ) Reads'3.Pre Reads'3.Post M
+  spec = λ answer answer' answer'' answer'3 answer'4 answer'5 answer'6 answer'7 answer'8 answer'9 answer'10 answer'11. Lts.spec (
+    Reads''.Asked,
+    Reads''.Learnt,
     Reads'.Asked,
     Reads'.Learnt,
     Reads.Asked,
     Reads.Learnt,
-    Reads'3.Asked,
-    Reads'3.Learnt,
-  ) Reads''.Pre Reads''.Post Inv μ answer answer' answer'' answer'3 answer'4 answer'5 answer'6
-      answer'7
+  ) Reads'3.Pre Reads'3.Post answer answer' answer'' answer'3 answer'4
+      answer'5 answer'6 answer'7 answer'8 answer'9 answer'10 answer'11
 
-  pub close : Lts.Closed (Reads'.Asked, Reads'.Learnt, Reads.Asked, Reads.Learnt, Reads'3.Asked, Reads'3.Learnt) Reads''.Pre Reads''.Post M →
+  pub close : Lts.Closed (Reads''.Asked, Reads''.Learnt, Reads'.Asked, Reads'.Learnt, Reads.Asked, Reads.Learnt) Reads'3.Pre Reads'3.Post M →
       Statement.statement M
   unfolding Code.routine Running.tablesOf
-  close = λ closed 𝓤 H 𝓜 𝓖 𝓡. Written.close 1 Kinds.ps Kinds.r Reads''.Ghost Reads''.requires Reads''.ensures Reads''.pre-read Reads''.Pinned
-      Reads''.Owned Reads''.post-read record { M = M; 𝓤 = 𝓤; H = H; 𝓜 = 𝓜; 𝓖 = 𝓖; 𝓡 = 𝓡 } Code.env Key.name Code.function (Code.unfolded 𝓤 H 𝓜 𝓡) (λ
-      κs a g. tt) (λ κs. Reads''.owns κs record { M = M; 𝓤 = 𝓤; H = H; 𝓜 = 𝓜; 𝓖 = 𝓖; 𝓡 = 𝓡 }) (Reads''.passes record {
+  close = λ closed 𝓤 H 𝓜 𝓖 𝓡. Written.close 1 Kinds.ps Kinds.r Reads'3.Ghost Reads'3.requires Reads'3.ensures Reads'3.pre-read Reads'3.Pinned
+      Reads'3.Owned Reads'3.post-read record { M = M; 𝓤 = 𝓤; H = H; 𝓜 = 𝓜; 𝓖 = 𝓖; 𝓡 = 𝓡 } Code.env Key.name Code.function (Code.unfolded 𝓤 H 𝓜 𝓡) (λ
+      κs a g. tt) (λ κs. Reads'3.owns κs record { M = M; 𝓤 = 𝓤; H = H; 𝓜 = 𝓜; 𝓖 = 𝓖; 𝓡 = 𝓡 }) (Reads'3.passes record {
         M = M;
         𝓤 = 𝓤;
         H = H;
@@ -129,7 +128,7 @@ module _ {M : Type 1} where
         𝓖 =
             𝓖;
         𝓡 = 𝓡;
-      }) λ g. closed 𝓤 H (𝓖 .A) (Running.givenOf 𝓤 H 𝓜 𝓖) (Run.Over 𝓤 H 𝓜 𝓖 𝓡 Code.env) (Reads'.known record {
+      }) λ g. closed 𝓤 H (𝓖 .A) (Running.givenOf 𝓤 H 𝓜 𝓖) (Run.Over 𝓤 H 𝓜 𝓖 𝓡 Code.env) (Reads''.known record {
         M = M;
         𝓤 = 𝓤;
         H = H;
@@ -137,19 +136,20 @@ module _ {M : Type 1} where
         𝓖
             = 𝓖;
         𝓡 = 𝓡;
-      } Code.env Symbol'.name Symbol'.routine Code.calls-records·is-sized (Met'.met 𝓤 H 𝓜 𝓖 𝓡)) (Reads.known record {
+      } Code.env Symbol''.name Symbol''.routine Code.calls-records·is-sized (Met''.met 𝓤 H 𝓜 𝓖 𝓡)) (Reads'.known record {
         M = M;
         𝓤 = 𝓤;
+        H =
+            H;
+        𝓜 = 𝓜;
+        𝓖 = 𝓖;
+        𝓡 = 𝓡;
+      } Code.env Symbol'.name Symbol'.routine Code.calls-records·all-stand (Met'.met 𝓤 H 𝓜 𝓖 𝓡)) (Reads.known record {
+        M = M;
+        𝓤
+            = 𝓤;
         H = H;
         𝓜 = 𝓜;
         𝓖 = 𝓖;
         𝓡 = 𝓡;
-      } Code.env Symbol.name Symbol.routine Code.calls-records·get-at (Met.met 𝓤 H 𝓜 𝓖 𝓡)) (Reads'3.known record {
-        M = M;
-        𝓤 = 𝓤;
-        H
-            = H;
-        𝓜 = 𝓜;
-        𝓖 = 𝓖;
-        𝓡 = 𝓡;
-      } Code.env Symbol''.name Symbol''.routine Code.calls-records·place-valid (Met''.met 𝓤 H 𝓜 𝓖 𝓡))
+      } Code.env Symbol.name Symbol.routine Code.calls-records·all-free (Met.met 𝓤 H 𝓜 𝓖 𝓡))

@@ -1,17 +1,17 @@
--- `place_valid` meets its contract: its test is the definition's, and the numbers of a record that is handed over are of 64 bits.
+-- `stands` meets its contract: its test is the definition's, and the numbers of a record that is handed over are of 64 bits.
 -- Assumes nothing.
 use Prim.Native.Nat.{_^_}
 use borrow.Author.Needs.{needs}
 use borrow.Author.Tests.{lt-ltb}
 use lib.Dec.{T}
 use Rattle.record.specs.Record.{isHeld}
-use Rattle.records.proofs.place_valid.Statement.{statement}
-use Rattle.records.proofs.place_valid.Tie as tie
+use Rattle.records.proofs.stands.Statement.{statement}
+use Rattle.records.proofs.stands.Tie as tie
 
 held : (c : tie.Start) → T (isHeld (c .args .one))
 held c =
     let r = c .args .one in
-    let numbers = c .good .1 .0 .1 .1 in
+    let numbers = c .good .0 .1 .1 in
     let form = numbers .1 .1 .0 .1 .1 in
     let value = numbers .1 .1 .1 in
     let old = value .1 .0 .1 .1 in
@@ -27,11 +27,5 @@ held c =
       lt-ltb (r .new .high) (2 ^ 64) (new .1 .0 .1),
     ) tt
 
-returns : tie.Need-returns
-returns c = (rw (c .before .if1 .taken) (c .may-stand .ensures), held (c .before .before))
-
-returns-2 : tie.Need-returns-2
-returns-2 c = (rw (c .before .if1 .left) (c .is-free .ensures), held (c .before .before))
-
-pub place-valid-spec : {M : Type 1} → statement M
-place-valid-spec = tie.close (tie.spec (λ c κs. search needs) (λ c κs. search needs) returns returns-2)
+pub stands-spec : {M : Type 1} → statement M
+stands-spec = tie.close (tie.spec (λ c κs. search needs) (λ c. (c .may-stand .ensures, held (c .before))))
