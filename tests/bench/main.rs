@@ -6,7 +6,7 @@
 mod model;
 
 use model::immediate::Value;
-use model::journal::{self, halves, Record, NONE, PLACES};
+use model::journal::{self, halves, Counts, Record, NONE, PLACES};
 use model::random::Random;
 use model::table::{self, Family};
 use model::{load, sheet, Model};
@@ -33,9 +33,39 @@ extern "C" {
     fn bench_listing(text: *const u8, length: usize, out: *mut u8, room: usize) -> u64;
     fn bench_report(image: *const u8, length: usize, times: u64) -> u64;
     fn bench_write(code: *mut u8, length: usize, slot: u64, family: u64, number: u64, signed: u64, values: *const u64, count: usize) -> u64;
-    fn bench_edit(code: *mut u8, length: usize, count: u64, records: *mut Record, places: usize, times: u64) -> u64;
-    fn bench_sheet(count: u64, records: *mut Record, places: usize, out: *mut u8, room: usize, times: u64) -> u64;
-    fn bench_load(count: u64, records: *mut Record, places: usize, text: *const u8, length: usize, times: u64) -> u64;
+    fn bench_edit(
+        code: *mut u8,
+        length: usize,
+        parties: u64,
+        lower: u64,
+        upper: u64,
+        records: *mut Record,
+        places: usize,
+        party: u64,
+        times: u64,
+    ) -> u64;
+    fn bench_sheet(
+        parties: u64,
+        lower: u64,
+        upper: u64,
+        records: *mut Record,
+        places: usize,
+        party: u64,
+        out: *mut u8,
+        room: usize,
+        times: u64,
+    ) -> u64;
+    fn bench_load(
+        parties: u64,
+        lower: u64,
+        upper: u64,
+        records: *mut Record,
+        places: usize,
+        party: u64,
+        text: *const u8,
+        length: usize,
+        times: u64,
+    ) -> u64;
 }
 
 const RUNS: usize = 25;
@@ -147,37 +177,52 @@ fn immediates(random: &mut Random, model: &Model) {
         };
         let record = |n: usize| {
             let (old, new) = (halves(load(&code, n)), halves(load(&first, n)));
-            Record { bundle: n as u64, slot, family: asked(), number, value: values[n], old, new }
+            Record { party: 0, bundle: n as u64, slot, family: asked(), number, value: values[n], old, new }
         };
         let tests = || (0..BUNDLES).filter(|n| model.may_stand(&record(*n))).count() as u64;
         line(&format!("record tested, {form}"), BUNDLES, "plain Rust", ours, tests);
     }
 }
 
-/// So many records, in a slice of them: slot 2, B1, of the first bundles set to 16.
-fn filled(model: &Model, code: &mut [u8], count: u64) -> Vec<Record> {
+fn one_party(count: u64) -> Counts {
+    Counts { lower: count, ..Counts::opened(1) }
+}
+
+/// So many records of each party, in a slice of them: slot 2, B1, of the first bundles set to 16.
+fn filled(model: &Model, code: &mut [u8], counts: Counts) -> Vec<Record> {
     let mut records = vec![NONE; PLACES];
-    for n in 0..count {
-        let edited = model.edit(code, n, &mut records, n, 2, b'B' as u64, 1, Value::Signed(16));
-        assert!(edited == (0, n + 1));
+    let mut made = Counts::opened(counts.parties);
+    for party in 0..counts.parties {
+        for n in 0..counts.of(party) {
+            let edited = model.edit(code, made, &mut records, party, n, 2, b'B' as u64, 1, Value::Signed(16));
+            made = made.with(party, n + 1);
+            assert!(edited == (0, made));
+        }
     }
     records
 }
 
+/// An edit of the last party, and its undo, with so many standing then.
 fn edits(random: &mut Random, model: &Model) {
-    for (standing, what, times) in [(1, "1", 2000), (64, "64", 2000), (1024, "1,024", 200)] {
-        let count = standing - 1;
+    let two = Counts { parties: 2, lower: 512, upper: 512 };
+    let standing = [(one_party(1), "1", 2000), (one_party(64), "64", 2000), (one_party(1024), "1,024", 200), (two, "512 and 512", 200)];
+    for (standing, what, times) in standing {
+        let party = standing.parties - 1;
+        let counts = standing.with(party, standing.of(party) - 1);
         let mut code = code_of(random, 16);
-        let mut records = filled(model, &mut code, count);
+        let mut records = filled(model, &mut code, counts);
         let (mut mine, mut lent) = (code.clone(), records.clone());
-        let ours = || unsafe { bench_edit(mine.as_mut_ptr(), mine.len(), count, lent.as_mut_ptr(), lent.len(), times) };
+        let Counts { parties, lower, upper } = counts;
+        let ours = || unsafe {
+            bench_edit(mine.as_mut_ptr(), mine.len(), parties, lower, upper, lent.as_mut_ptr(), lent.len(), party, times)
+        };
         let theirs = || {
-            let mut last = (0, count);
+            let mut last = (0, counts);
             let mut sum = 0;
             for _ in 0..times {
-                last = model.edit(&mut code, last.1, &mut records, 63, 2, b'B' as u64, 1, Value::Signed(32));
+                last = model.edit(&mut code, last.1, &mut records, party, 63, 2, b'B' as u64, 1, Value::Signed(32));
                 sum += last.0 as u64;
-                last = model.undo(&mut code, last.1, &mut records);
+                last = model.undo(&mut code, last.1, &mut records, party);
                 sum += last.0 as u64;
             }
             sum
@@ -196,15 +241,15 @@ fn old_sheet(records: &[Record]) -> String {
 
 fn sheets(random: &mut Random, model: &Model) {
     for (count, what, times) in [(64, "64", 200), (1024, "1,024", 20)] {
-        let records = filled(model, &mut code_of(random, 16), count);
+        let records = filled(model, &mut code_of(random, 16), one_party(count));
         let mut lent = records.clone();
         let (mut first, mut second) = (vec![0; sheet::LONGEST], vec![0; sheet::LONGEST]);
-        let ours = || unsafe { bench_sheet(count, lent.as_mut_ptr(), lent.len(), first.as_mut_ptr(), first.len(), times) };
+        let ours = || unsafe { bench_sheet(1, count, 0, lent.as_mut_ptr(), lent.len(), 0, first.as_mut_ptr(), first.len(), times) };
         let mut length = 0;
         let theirs = || {
             let mut sum = 0;
             for _ in 0..times {
-                length = model.write_sheet(count, &records, &mut second).1;
+                length = model.write_sheet(one_party(count), &records, 0, &mut second).1;
                 sum += length as u64;
             }
             sum
@@ -217,20 +262,25 @@ fn sheets(random: &mut Random, model: &Model) {
     }
 }
 
+/// Each time from a fresh journal, since loading tests the one that it changes.
 fn loads(model: &Model, what: &str, times: u64, text: &[u8]) {
     let (mut lent, mut records) = (vec![NONE; PLACES], vec![NONE; PLACES]);
-    let ours = || unsafe { bench_load(0, lent.as_mut_ptr(), lent.len(), text.as_ptr(), text.len(), times) };
+    let ours = || {
+        lent.fill(NONE);
+        unsafe { bench_load(1, 0, 0, lent.as_mut_ptr(), lent.len(), 0, text.as_ptr(), text.len(), times) }
+    };
     let theirs = || {
-        let mut last = (0, 0);
+        records.fill(NONE);
+        let mut last = (0, Counts::opened(1));
         let mut sum = 0;
         for _ in 0..times {
-            last = model.load_sheet(last.1, &mut records, text);
+            last = model.load_sheet(last.1, &mut records, 0, text);
             sum += last.0 as u64;
         }
         sum
     };
     line(&format!("sheet of {what} loaded"), times as usize, "plain Rust", ours, theirs);
-    assert!(lent == records, "the records differ");
+    assert!(lent == records && lent[0] != NONE, "the records differ, or none was loaded");
 }
 
 fn listing(random: &mut Random, model: &Model) {

@@ -2,10 +2,11 @@
 
 Each function takes a `Talk`, which keeps the lines with what the model answers to them.
 """
+import contextlib
 import itertools
 
 from model import (
-    FITTING, FORMS, HUGE, NUMBERS, PLACES, ROWS, UNITS, WORD, Bundle, FREE, Model, header, joined, old_fields, operand, report_of, sheet)
+    FITTING, FORMS, HUGE, NONE, NUMBERS, PLACES, ROWS, UNITS, WORD, Bundle, Model, header, joined, old_fields, operand, report_of, sheet)
 from standing import Standing
 
 LENGTHS = (0, 1, 15, 16, 17, 31, 32, 33, 48, 100, 65520, 65535, 65536, 65537, 65552, 65600)
@@ -13,13 +14,21 @@ EDGES = (0, 1, 2, 15, 16, 31, 32, 255, 256, 4094, 4095, 4096, 65535, 65536, 1 <<
          (1 << 59) - 1, (1 << 60) - 1, 1 << 60, (1 << 60) + 1, 1 << 63, HUGE - 16, HUGE - 1)
 LETTERS = [ord(letter) for letter in FORMS]
 
+# lines that have a party's number as their first field
+CALLS = "edit", "undo", "sheet", "sheetline", "load"
+
+# how many parties a journal is for, and which of them calls
+SIDES = (1, 0), (2, 0), (2, 1)
+
 
 class Talk:
-    """Lines and answers, with the refusals that applied to each kind of call, alone and in pairs."""
+    """Lines and answers, with the refusals that applied to each kind of call, alone and in pairs; those on a journal of one party and of two
+    apart. Journals are for so many parties, and calls are those of one of them."""
 
     def __init__(self, random):
         self.random, self.model = random, Model()
         self.lines, self.answers, self.seen = [], [], {}
+        self.parties, self.party = 1, 0
 
     def __call__(self, line):
         line = line if isinstance(line, bytes) else line.encode()
@@ -28,9 +37,34 @@ class Talk:
         self.answers.append(answer)
         if self.model.reasons:
             applying = [number for number, applies in self.model.reasons if applies]
-            seen = self.seen.setdefault(line.split(b" ")[0].decode(), set())
+            seen = self.seen.setdefault(self.kind(line.split(b" ")[0].decode()), set())
             seen.update([(0, 0)] if not applying else itertools.combinations_with_replacement(applying, 2))
         return answer
+
+    def kind(self, name):
+        return f"{name} of {self.model.parties}" if name in CALLS else name
+
+    def side(self, parties, party):
+        self.parties, self.party = parties, party
+
+    def any_side(self):
+        self.side(*self.random.choice((SIDES[0], *SIDES)))
+
+    def call(self, line):
+        """A call of the party's, which has its number; any other line as it is."""
+        name, *rest = line.split(" ", 1)
+        return self(" ".join([name, str(self.party), *rest]) if name in CALLS else line)
+
+    def room(self):
+        """How many places the party has."""
+        return PLACES // self.parties
+
+    def own(self):
+        """The party's part of the model's journal."""
+        return self.model.parts[self.party]
+
+    def standing(self):
+        return self.model.standing(self.party)
 
     def fill(self, length):
         """A code of that length with random bytes, its tags as they come."""
@@ -52,8 +86,9 @@ class Talk:
 
 SAMPLES = (
     "code 40", "put 0 00ff10", "put 3 -", "get 0 4", "sum", "find 0", "cut 1", "join 20 16 1 2 3", "operands 77 49 0 0",
-    "immediate 0 2 66 1", "target 0 2 66 1 16", "journal 3", "journal 3 70", "place 2 1 2 B1 3 4 5 6 7", "records", "edit 0 2 66 1 I-16",
-    "undo", "sheet 100", "sheetline 1 100", "load 70617463686573093020", "report", "clear", "clear " + " ".join(map(str, range(NUMBERS))),
+    "immediate 0 2 66 1", "target 0 2 66 1 16", "open 2", "journal 1 3 0", "journal 2 3 4 70", "place 2 1 2 B1 3 4 5 6 7 1", "records",
+    "edit 0 0 2 66 1 I-16", "undo 1", "sheet 0 100", "sheetline 0 1 100", "load 0 70617463686573093020", "report", "clear",
+    "clear " + " ".join(map(str, range(NUMBERS))),
 )
 
 
@@ -183,7 +218,7 @@ def reports(talk):
             talk(f"code {len(image)}")
             talk(f"put 0 {image.hex() or '-'}")
             talk("report")
-    talk("journal 3")
+    talk("journal 2 3 1")
     talk("report")
     talk("records")
 
@@ -339,7 +374,7 @@ Talk.random_code, Talk.random_place = random_code, random_place
 # ---- the journal
 
 # lengths of a slice that are wrong
-OTHER_LENGTHS = 0, 1, 63, 64, 65, 512, 1023, 1025, 1026, 2047, 2048
+OTHER_LENGTHS = 0, 1, 63, 64, 65, 511, 512, 513, 1023, 1025, 1026, 2047, 2048
 
 
 def shown(talk, n=None):
@@ -352,20 +387,51 @@ def shown(talk, n=None):
 
 
 def with_records(talk, line):
-    talk(line)
+    talk.call(line)
     talk("records")
 
 
-def put_record(talk, i, one):
-    return talk(f"place {i} {' '.join(map(str, one))}")
+def put_record(talk, i, one, party=None):
+    """Sets the party's place i; the record has that party, or another that is given."""
+    return talk(f"place {talk.party * talk.room() + i} {' '.join(map(str, one))} {talk.party if party is None else party}")
 
 
-def put_journal(talk, records, fields=None):
-    """A journal with those records, and with other fields of `journal` where they are given."""
-    talk(f"journal {fields or len(records)}")
+def blank(talk, count, length=PLACES):
+    """A journal with that count, of records that are zero but for their party, and some records of the other party where there are two."""
+    others = any_records(talk.random, talk.random.choice((0, 0, 1, 3))) if talk.parties == 2 else []
+    loads = talk.party == 1 and length == PLACES and count <= talk.room()
+    counts = (0 if loads else count), len(others)
+    talk(f"journal {talk.parties} {counts[talk.party]} {counts[1 - talk.party]}" + (f" {length}" if length != PLACES else ""))
+    with as_party(talk, 1 - talk.party):
+        put_records(talk, others)
+    if loads and count:
+        load(talk, sheet([NONE] * count))
+
+
+@contextlib.contextmanager
+def as_party(talk, party):
+    own, talk.party = talk.party, party
+    yield
+    talk.party = own
+
+
+def each_side(talk, *counts):
+    """Each side in turn, with each of these counts, all of its places but one, and all."""
+    for side in SIDES:
+        talk.side(*side)
+        yield from (*counts, talk.room() - 1, talk.room())
+
+
+def put_records(talk, records):
     for i, one in enumerate(records):
-        if one != FREE:
+        if one != NONE:
             put_record(talk, i, one)
+
+
+def put_journal(talk, records, count=None, length=PLACES):
+    """A journal with those records, and with another count and length where they are given."""
+    blank(talk, len(records) if count is None else count, length)
+    put_records(talk, records)
 
 
 def halves(number):
@@ -414,6 +480,12 @@ def changed(one):
             yield *one[:i], other, *one[i + 1:]
 
 
+def changed_place(one, party):
+    """The record with one of its nine numbers changed, or with another party."""
+    yield from ((other, party) for other in changed(one))
+    yield from ((one, other) for other in (0, 1, 2, 3, party + 2, party + 256, party + (1 << 32), 1 << 63, HUGE - 1))
+
+
 def value_for(random, family, number):
     row = ROWS.get(f"{chr(family)}{number}") if family < 128 else None
     if row is None or random.random() < 0.08:
@@ -427,29 +499,30 @@ def value_for(random, family, number):
 def row_edits(talk):
     """Each row's ends and just outside, in every slot that it fits, with the neighbouring bits at random."""
     for name, tag, slot in slots_of_rows():
+        talk.any_side()
         talk("code 48")
-        talk("journal 0")
+        put_journal(talk, [])
         for value in operands_of(ROWS[name]):
             talk.bundle(1, tag)
-            talk(f"edit 1 {slot} {ord(name[0])} {name[1:]} {value}")
+            talk.call(f"edit 1 {slot} {ord(name[0])} {name[1:]} {value}")
             talk("get 0 48")
             talk(f"immediate 1 {slot} {ord(name[0])} {name[1:]}")
             if talk.random.random() < 0.5:
-                talk("undo")
-            if talk.model.count > 40:
-                talk("journal 0")
+                talk.call("undo")
+            if talk.own().count > 40:
+                put_journal(talk, [])
         shown(talk)
 
 
 def begun(talk, length, bundles):
-    """A random code with an empty journal and so many bundles that will be edited, and its standing edits."""
+    """A random code with a journal in which the party has no record and so many bundles that will be edited, and its standing edits."""
     random = talk.random
     talk.fill(length)
     busy = [random.randrange(length // 16) for _ in range(bundles)]
     for n in busy:
         talk.bundle(n, random.choice(list(UNITS)))
-    talk("journal 0")
-    return busy, Standing(talk.model.code)
+    put_journal(talk, [])
+    return busy, Standing(talk.model.code, talk.room())
 
 
 def undo_all(talk, standing):
@@ -459,9 +532,10 @@ def undo_all(talk, standing):
 
 
 def runs(talk, count, calls):
-    """Runs from an empty journal, with nothing else writing the code: demand 3 is worked out beside the model."""
+    """Runs from a journal with no record of the party's, and nothing else writing the code: demand 3 is worked out beside the model."""
     random = talk.random
     for _ in range(count):
+        talk.any_side()
         lengths = (16, 17, 47, 48, 160, 160, 160, 320, 320, 1000, 65520, 65535, 65536) if random.random() < 0.1 else (48, 80, 160, 170)
         busy, standing = begun(talk, random.choice(lengths), random.choice((1, 2, 5)))
         undoing = random.choice((0.1, 0.3, 0.5))
@@ -470,11 +544,12 @@ def runs(talk, count, calls):
         undo_all(talk, standing)
 
 
-def long_runs(talk, count):
+def long_runs(talk):
     """Runs up to the limit, for a while about it with every record shown, and back."""
-    for _ in range(count):
+    for side in SIDES[0], talk.random.choice(SIDES[1:]):
+        talk.side(*side)
         busy, standing = begun(talk, 320, 12)
-        while talk.model.count < PLACES - 2:
+        while talk.own().count < talk.room() - 2:
             step(talk, standing, busy, 0.02)
         for _ in range(30):
             step(talk, standing, busy, 0.3)
@@ -496,46 +571,55 @@ def step(talk, standing, busy, undoing):
     if random.random() < 0.15:
         n, slot, (family, number) = random.choice((n, talk.any_number())), random.choice((slot, 3, HUGE - 1)), forms(random)
     value = value_for(random, family, number)
-    taken = talk(f"edit {n} {slot} {family} {number} {value}") == "edit 0"
+    taken = talk.call(f"edit {n} {slot} {family} {number} {value}") == "edit 0"
     same(talk, standing, taken, standing.edit(n, slot, family, number, *operand(value)), n)
 
 
 def undo(talk, standing):
     n = standing.edits[-1][0] if standing.edits else None
-    taken = talk("undo") == "undo 0"
+    taken = talk.call("undo") == "undo 0"
     same(talk, standing, taken, standing.undo(), n)
 
 
 def same(talk, standing, taken, predicted, n):
     assert taken == predicted, f"demand 3 predicts another answer to {talk.lines[-1]}"
     assert talk.model.code == standing.code, f"demand 3 gives another code after {talk.lines[-1]}"
-    told = [one[:4] for one in talk.model.standing()]
+    told = [one[:4] for one in talk.standing()]
     assert told == standing.told(), f"demand 3 gives other records after {talk.lines[-1]}"
     shown(talk, n)
 
 
 def full(talk):
-    """The 1,025th edit is refused by 7; after an undo it is taken."""
-    talk("code 16")
-    talk("put 0 30000000004000000000800000000080")
-    talk("journal 0")
-    for i in range(PLACES + 2):
-        talk(f"edit 0 2 66 1 I{16 * i}")
-        shown(talk, 0)
-    for _ in range(2):
-        talk("undo")
-        talk("edit 0 2 66 1 I-16")
-        talk("edit 0 2 66 1 I-32")
-        talk("records")
-    for _ in range(PLACES + 2):
-        talk("undo")
-        shown(talk, 0)
+    """The edit after the last place is refused by 7; after an undo it is taken. The other party's calls are taken, whatever stands of this."""
+    for side in SIDES:
+        talk.side(*side)
+        talk("code 16")
+        talk("put 0 30000000004000000000800000000080")
+        put_journal(talk, [])
+        for i in range(talk.room() + 2):
+            talk.call(f"edit 0 2 66 1 I{16 * i}")
+            shown(talk, 0)
+        for _ in range(2):
+            for line in ("undo", "edit 0 2 66 1 I-16", "edit 0 2 66 1 I-32"):
+                talk.call(line)
+            with as_party(talk, 1 - talk.party):
+                others_calls(talk)
+        for _ in range(talk.room() + 2):
+            talk.call("undo")
+            shown(talk, 0)
+
+
+def others_calls(talk):
+    """Calls of a party beside a full part; in a journal for one party it is an unknown one."""
+    load(talk, sheet([EXAMPLE]))
+    for line in ("edit 0 2 66 1 I16", "edit 0 2 66 1 I32", f"sheet {LONGEST}", "undo", "undo"):
+        with_records(talk, line)
 
 
 def some_journal(random, code, count):
     """Records for the first places, whose bundles the code has: all of a small journal, and of a large one some; the others are zero."""
     chosen = {0, count // 2, count - 1, *random.sample(range(count), min(count, 20))} if count > 64 else range(count)
-    return [any_record(random, i % 64, number_at(code, i % 64)) if i in chosen else FREE for i in range(count)]
+    return [any_record(random, i % 64, number_at(code, i % 64)) if i in chosen else NONE for i in range(count)]
 
 
 def number_at(code, n):
@@ -558,15 +642,15 @@ REFUSED = (
 def refused_calls(talk):
     """Edits and undos that are refused for each reason beside few records and many, all of them shown."""
     random = talk.random
-    for count in (0, 1, 2, 64, 65, 700, PLACES - 1, PLACES):
+    for count in each_side(talk, 0, 1, 2, 64, 65, 400):
         branches(talk)
         talk.bundle(5, 6)
         put_journal(talk, [any_record(random, 63 - i % 64, with_tag(random, 16)) for i in range(count)])
         for line in REFUSED:
             with_records(talk, line)
         branches(talk)
-        for i in (max(count, 1) - 1, min(count, PLACES - 1)):
-            n, slot, *rest = talk.model.places[i]
+        for i in (max(count, 1) - 1, min(count, talk.room() - 1)):
+            n, slot, *rest = talk.model.places[talk.own().first + i][0]
             for one in ((64, slot, *rest), (4096, slot, *rest), (n, 3, *rest), (n, slot, *rest)):
                 put_record(talk, i, one)
                 for line in ("edit 0 2 66 1 I16", "undo", "undo"):
@@ -574,19 +658,24 @@ def refused_calls(talk):
 
 
 def slices(talk, calls):
-    """Calls on slices of every wrong length, and of the right one, whose records can stand."""
+    """Calls on slices of every wrong length (of two parties some), and of the right one, whose records can stand."""
     for length in (2048, 2049, 4096, (1 << 32) + PLACES, HUGE - 1):
-        talk(f"journal 7 {length}")
-        put_record(talk, 2047, EXAMPLE)
+        talk(f"journal 1 7 0 {length}")
+        talk(f"place 2047 {' '.join(map(str, EXAMPLE))} 0")
         talk("records")
-    for length, count in itertools.product((*OTHER_LENGTHS, PLACES), (0, 1, 2, 64, 1023, 1024, 1025, 2048, HUGE - 1)):
-        branches(talk)
-        put_journal(talk, some_journal(talk.random, talk.model.code, min(count, length)), f"{count} {length}")
-        for line in calls:
-            with_records(talk, line)
-        for i in (max(length, 1) - 1, length):
-            put_record(talk, i, EXAMPLE)
-        talk("records")
+    for side in SIDES:
+        talk.side(*side)
+        room = talk.room()
+        lengths = OTHER_LENGTHS if talk.parties == 1 else (1023, 1025, *talk.random.sample(OTHER_LENGTHS, 2))
+        counts = 0, 1, 2, 64, room - 1, room, room + 1, 2 * room, HUGE - 1
+        for length, count in itertools.product((*lengths, PLACES), counts):
+            branches(talk)
+            put_journal(talk, some_journal(talk.random, talk.model.code, min(count, length, room)), count, length)
+            for line in calls:
+                with_records(talk, line)
+            for i in (max(length, 1) - 1, length):
+                put_record(talk, i - talk.party * room, EXAMPLE)
+            talk("records")
 
 
 def refusals(talk, count):
@@ -596,13 +685,15 @@ def refusals(talk, count):
         talk.random_code()
         if random.random() < 0.4:
             any_journal(talk)
+        if random.random() < 0.1:
+            talk.party ^= 1
         if random.random() < 0.3:
-            talk("undo")
+            talk.call("undo")
         else:
             n, slot, family, number = talk.random_place()
-            talk(f"edit {n} {slot} {family} {number} {value_for(random, family, number)}")
+            talk.call(f"edit {n} {slot} {family} {number} {value_for(random, family, number)}")
         if random.random() < 0.5:
-            talk("undo")
+            talk.call("undo")
         if random.random() < 0.2 and len(talk.model.code) >= 16:
             talk(f"put {16 * random.randrange(len(talk.model.code) // 16)} {random.randbytes(1).hex()}")
         shown(talk)
@@ -611,24 +702,35 @@ def refusals(talk, count):
 def any_journal(talk):
     """A journal that fits the code or doesn't, valid or not; now and then the slice has another length. Of a large one most places are zero."""
     random, code = talk.random, talk.model.code
-    few, many = (0, 1, 2, 3, 20, 63, 64, 65), (PLACES - 1, PLACES, PLACES + 1, 2 * PLACES, 1 << 32, HUGE - 1)
+    talk.any_side()
+    room = talk.room()
+    few, many = (0, 1, 2, 3, 20, 63, 64, 65), (room - 1, room, room + 1, 2 * room, 1 << 32, HUGE - 1)
     count = random.choice(few if random.random() < 0.7 else many)
     length = random.choice(OTHER_LENGTHS) if random.random() < 0.1 else PLACES
-    talk(f"journal {count} {length}" if length != PLACES else f"journal {count}")
-    inside, stand = max(1, len(code) // 16), min(count, length)
+    blank(talk, count, length)
+    inside, stand = max(1, len(code) // 16), min(count, length, room)
     for i in range(stand) if stand < 66 else {stand - 1, *random.sample(range(stand), 20)}:
         n = random.choice((random.randrange(inside), random.randrange(4096)))
         new = with_tag(random, random.randrange(32))
         if random.random() < 0.6 and 16 * n + 16 <= len(code):
             new = number_at(code, n)
         put_record(talk, i, any_record(random, n, new))
-    if random.random() < 0.25 and stand > 0:
+    if random.random() < 0.2:
+        talk.party ^= talk.parties - 1
+    spoil_places(talk)
+
+
+def spoil_places(talk):
+    """Now and then a record of the party's part is wrong in a number, or a place after those that stand isn't free."""
+    random, first, stand = talk.random, talk.own().first, min(talk.own().count, talk.room())
+    if random.random() < 0.25 and 0 < stand and first + stand <= len(talk.model.places):
         i = random.choice((stand - 1, random.randrange(stand)))
-        one = talk.model.places[i]
+        one, party = talk.model.places[first + i]
         far = random.choice((4096, 4097, 1 << 60, HUGE - 1)), *one[1:]
-        put_record(talk, i, random.choice((far, random.choice(list(changed(one))))))
-    if random.random() < 0.25 and stand < length:
-        put_record(talk, random.choice((stand, length - 1)), random.choice(list(changed(FREE))))
+        put_record(talk, i, *random.choice(((far, party), random.choice(list(changed_place(one, party))))))
+    if random.random() < 0.25 and stand < talk.room():
+        i = random.choice((stand, talk.room() - 1))
+        put_record(talk, i, *random.choice(list(changed_place(NONE, 0))))
 
 
 def names(talk):
@@ -637,37 +739,39 @@ def names(talk):
     bad = b"", b"01", b"00", b"-1", b"+1", b"1x", b"A", b"-", str(HUGE).encode(), str(10 * HUGE).encode(), b"9" * 40
     letters = [bytes([byte]) for byte in range(256) if byte != 10]
     for form in [letter + b"1" for letter in letters] + [b"A" + letter for letter in letters] + [b"1" + letter for letter in letters]:
-        talk(b"place 3 0 0 %s 0 0 0 0 0" % form)
+        talk(b"place 3 0 0 %s 0 0 0 0 0 0" % form)
         talk("records")
     for letter, rest in itertools.product((b"A", b"M", b"X", b"Q", b"Z", b"@", b"[", b"a", b"", b"-"), number + bad):
         for count in (0, 1):
-            talk(f"journal {count}")
-            talk(b"place 0 0 0 %s%s 0 0 0 0 0" % (letter, rest))
+            talk(f"journal 1 {count} 0")
+            talk(b"place 0 0 0 %s%s 0 0 0 0 0 0" % (letter, rest))
             talk("records")
-            talk("undo")
+            talk("undo 0")
 
 
 def wrong_in_one(talk, calls):
-    """Calls on journals that are wrong in one number of one place, standing or free, or are by chance not."""
+    """Calls on journals that are wrong in one number of one place, standing or free, or are by chance not; of two parties either one's."""
     random = talk.random
-    for count in (0, 1, 2, 5, 64, PLACES - 1, PLACES):
+    for count in each_side(talk, 0, 1, 2, 5, 64):
+        room = talk.room()
         branches(talk)
         records = some_journal(random, talk.model.code, count)
-        for i in {0, count // 2, max(0, count - 1), min(count, PLACES - 1), PLACES - 1}:
-            some = list(changed(records[i] if i < count else FREE))
-            for one in some if count < 64 else random.sample(some, 12):
+        for i in {0, count // 2, max(0, count - 1), min(count, room - 1), room - 1}:
+            some = list(changed_place(*((records[i], talk.party) if i < count else (NONE, 0))))
+            for one, party in some if count < 64 and talk.parties == 1 else random.sample(some, 12 // talk.parties):
                 put_journal(talk, records)
-                put_record(talk, i, one)
-                for line in calls:
-                    talk(line)
-                    shown(talk, 63)
+                put_record(talk, i, one, party)
+                with as_party(talk, random.randrange(talk.parties)):
+                    for line in calls:
+                        talk.call(line)
+                        shown(talk, 63)
 
 
 def belonging(talk):
     """Records of every form with a row, in slots that it fits: what passes, and what is wrong in one number or in several."""
     random = talk.random
     for name, tag, slot in slots_of_rows():
-        if name[0] == "X" or random.random() < 0.3:
+        if name[0] == "X" or random.random() < 0.25:
             one = field_record(random, 0, with_tag(random, tag), name, slot)
             yield one
             yield from random.sample(list(changed(one)), 16)
@@ -699,9 +803,10 @@ def tested(talk):
     """A journal of one such record, and an undo of it."""
     talk("code 16")
     for one in belonging(talk):
+        talk.any_side()
         put_journal(talk, [one])
         talk(f"put 0 {joined(*one[6:]).hex()}")
-        talk("undo")
+        talk.call("undo")
         shown(talk, 0)
 
 
@@ -714,8 +819,8 @@ def journals(talk):
     refused_calls(talk)
     slices(talk, ("edit 0 2 66 1 I-16", "edit 0 2 66 1 I8", "edit 0 2 66 4 I16", "edit 64 2 66 1 I16", "undo"))
     runs(talk, 100, 250)
-    long_runs(talk, 2)
-    refusals(talk, 20000)
+    long_runs(talk)
+    refusals(talk, 16000)
 
 
 # ---- sheets
@@ -731,17 +836,17 @@ def small_sheets():
 
 
 def load(talk, data):
-    return talk(f"load {data.hex() or '-'}")
+    return talk.call(f"load {data.hex() or '-'}")
 
 
 def damaged(talk):
     """Texts that are no sheets, or are by chance; after each kind of damage the journal is shown."""
     random = talk.random
     for text in small_sheets():
-        talk(f"journal {PLACES + 1}")
-        load(talk, text)
-        assert talk.model.count < PLACES, "a small sheet is none"
         for at in range(len(text)):
+            talk.any_side()
+            put_journal(talk, [EXAMPLE] * 3)
+            assert load(talk, text) == "load 0", "a small sheet is none"
             for byte in range(256):
                 load(talk, text[:at] + bytes([byte]) + text[at + 1:])
             load(talk, text[:at] + text[at + 1:])
@@ -755,7 +860,8 @@ def damaged(talk):
                      head + b"-\n", head + b"1\n", head + b"0\n" + record, head + b"1\n" + record, head + b"1\n" + record[:-1],
                      head + b"2\n" + record, head + b"1\n" + record * 2, b"Patches\t0\n", b"patches 0\n", b"patches\t0\t\n",
                      b"\n" + head + b"0\n", b"\xef\xbb\xbf" + head + b"0\n", head + b"\xd9\xa0\n"):
-            talk(f"journal {PLACES + 1}")
+            talk.any_side()
+            put_journal(talk, [EXAMPLE] * 3)
             load(talk, text)
             talk("records")
         for field in range(record.count(b"\t") + 1):
@@ -765,7 +871,9 @@ def damaged(talk):
                 fields[field] = value.encode()
                 load(talk, head + b"1\n" + b"\t".join(fields) + b"\n")
                 talk("records")
-        for count in (0, 1, 2, 64, 65, 1023, 1024, 1025, 2048):
+        for count in (0, 1, 2, 64, 65, 512, 513, 1023, 1024, 1025, 2048):
+            talk.any_side()
+            put_journal(talk, [])
             for said in (count - 1, count, count + 1, HUGE + count):
                 load(talk, head + str(said).encode() + b"\n" + record * count)
                 talk("records")
@@ -785,6 +893,8 @@ def mixed(talk):
     for count, most in itertools.product((5, 64, PLACES), (False, True)):
         ways += [[(i == odd) != most for i in range(count)] for odd in (0, 1, count // 2, count - 1, count)]
     for kinds in ways:
+        talk.any_side()
+        put_journal(talk, [])
         load(talk, sheet([old_fields(one) if old else one for one, old in zip(records, kinds)]))
         talk("records")
     for fields in itertools.chain((EXAMPLE[:count] for count in range(8)), (EXAMPLE + more for more in ((0,), (0,) * 8))):
@@ -799,22 +909,25 @@ def whole_lines(talk):
     for slot, value in itertools.product((0, 1, 2, 3, 256, 1 << 32, HUGE - 1), (0, 1, 16, 256, 1 << 32, 1 << 63, HUGE - 1)):
         for old, new in ((0, 0), (0, 1), (random.getrandbits(128), random.getrandbits(128))):
             one = random.randrange(4096), slot, "-", value, *halves(old), *halves(new)
+            talk.any_side()
+            put_journal(talk, [])
             load(talk, sheet([one]))
             put_journal(talk, [one])
-            talk("sheet 130")
+            talk.call("sheet 130")
 
 
 def told(talk):
     """Lines whose form, slot, value and halves belong together, or don't, alone and behind one that does; what is refused by 13 as a line
     makes a journal that is refused by 11."""
     for one in belonging(talk):
-        talk("journal 0")
+        talk.any_side()
+        put_journal(talk, [])
         load(talk, sheet([one]))
         talk("records")
-        load(talk, sheet([EXAMPLE, one]))
+        bad = load(talk, sheet([EXAMPLE, one])) == "load 13"
         put_journal(talk, [one])
-        answer = talk("sheet 200")
-        assert answer.startswith("sheet 11") == (talk.answers[-4] == "load 13"), "loading and validity aren't one test"
+        answer = talk.call("sheet 200")
+        assert answer.startswith("sheet 11") == bad, "loading and validity aren't one test"
 
 
 LONGEST = 118797
@@ -822,15 +935,16 @@ LONGEST = 118797
 
 def longest(talk):
     """The longest sheet of each kind: 1,024 lines of 116 bytes, and of 89."""
+    talk.side(1, 0)
     ones = (1 << 128) - 32 | 8
     one = field_record(talk.random, 4095, ones, "M20", 0)
     put_journal(talk, [one] * PLACES)
     assert len(sheet([one] * PLACES)) == LONGEST
     for length in (LONGEST - 1, LONGEST, LONGEST + 1, 130000, 130001, 0):
-        talk(f"sheet {length}")
+        talk.call(f"sheet {length}")
     talk("records")
     for lines in ([one] * PLACES, [old_fields(one)] * PLACES):
-        talk("journal 0")
+        talk("open 1")
         load(talk, sheet(lines))
         talk("records")
 
@@ -841,11 +955,11 @@ def written(talk):
     for _ in range(1000):
         talk.random_code()
         any_journal(talk)
-        text = sheet(talk.model.standing())
+        text = sheet(talk.standing())
         for length in {0, len(text) - 1, len(text), len(text) + 1, random.randrange(8000)}:
-            talk(f"sheet {length}")
-        for i in (0, 1, random.randrange(PLACES), talk.model.count):
-            talk(f"sheetline {i} {random.choice((0, 8, 9, 10, 17, 18, 100, 116, 200, random.randrange(202)))}")
+            talk.call(f"sheet {length}")
+        for i in (0, 1, random.randrange(PLACES), talk.own().count):
+            talk.call(f"sheetline {i} {random.choice((0, 8, 9, 10, 17, 18, 100, 116, 200, random.randrange(202)))}")
         if random.random() < 0.5:
             any_journal(talk)
         load(talk, text)
@@ -859,28 +973,31 @@ def any_records(random, count):
 def large(talk):
     """Sheets of both kinds of lines, of few and of many, in place of other records; then written again, and line by line."""
     random = talk.random
-    for count in (0, 1, 2, 5, 64, 65, 700, PLACES - 1, PLACES, PLACES + 1, 1500):
+    for side, count in itertools.product(SIDES, (0, 1, 2, 5, 64, 65, 511, 512, 513, 700, PLACES - 1, PLACES, PLACES + 1, 1500)):
+        talk.side(*side)
         records = any_records(random, count)
+        wanted = "load 13" if count > PLACES else "load 7" if count > talk.room() else "load 0"
         for lines in (records, list(map(old_fields, records))):
-            put_journal(talk, any_records(random, random.choice((0, 3, 64, 700, PLACES))))
-            assert load(talk, sheet(lines)) == ("load 0" if count <= PLACES else "load 13")
+            put_journal(talk, any_records(random, random.choice((0, 3, 64, 400, talk.room()))))
+            assert load(talk, sheet(lines)) == wanted
             talk("records")
-        line_by_line(talk)
+        if count in (1, 5, 64, talk.room()):
+            line_by_line(talk)
 
 
 def line_by_line(talk):
     """The sheet of a valid journal and each of its lines, into outputs too short, just long enough and longer; and lines past the last."""
-    random, count = talk.random, talk.model.count
-    whole = talk(f"sheet {LONGEST}").split(" ")[3]
+    random, count = talk.random, talk.own().count
+    whole = talk.call(f"sheet {LONGEST}").split(" ")[3]
     together = ""
     for i, line in enumerate(bytes.fromhex(whole).splitlines(keepends=True)):
         for length in (0, len(line) - 1, random.randrange(len(line), 202), len(line)):
-            said = talk(f"sheetline {i} {length}")
+            said = talk.call(f"sheetline {i} {length}")
         together += said.split(" ")[3]
     assert together == whole, "the lines aren't the sheet"
     for i in (count + 1, count + 2, PLACES + 1, 2 * PLACES, 1 << 32, HUGE - 1):
         for length in (0, 1, 200):
-            talk(f"sheetline {i} {length}")
+            talk.call(f"sheetline {i} {length}")
 
 
 def faults(lines):
@@ -902,7 +1019,9 @@ def refused_loads(talk):
     random = talk.random
     for count in (1, 2, 64, PLACES):
         records = any_records(random, count)
-        for lines, before in itertools.product((records, list(map(old_fields, records))), (0, 1, PLACES)):
+        for lines, before in itertools.product((records, list(map(old_fields, records))), (0, 1, None)):
+            talk.any_side()
+            before = talk.room() if before is None else before
             put_journal(talk, any_records(random, before))
             for text in (*faults(lines), sheet(lines)):
                 with_records(talk, f"load {text.hex()}")
@@ -911,35 +1030,185 @@ def refused_loads(talk):
 def again(talk):
     """Loads the sheet, written as a whole or line by line."""
     if talk.random.random() < 0.5:
-        text = talk(f"sheet {LONGEST}").split(" ")[3]
+        text = talk.call(f"sheet {LONGEST}").split(" ")[3]
     else:
-        text = "".join(talk(f"sheetline {i} 116").split(" ")[3] for i in range(talk.model.count + 1))
-    talk(f"load {text}")
+        text = "".join(talk.call(f"sheetline {i} 116").split(" ")[3] for i in range(talk.own().count + 1))
+    talk.call(f"load {text}")
     shown(talk)
 
 
 def again_old(talk, standing):
     """Loads an old tool's sheet of the same records."""
-    load(talk, sheet(list(map(old_fields, talk.model.standing()))))
+    load(talk, sheet(list(map(old_fields, talk.standing()))))
     standing.whole = len(standing.edits)
     shown(talk)
 
 
-def sheets_in_runs(talk, count, calls, most):
-    """Demand 3 with the sheet written and loaded between the calls of a run, from so many edits on."""
-    random = talk.random
+def sheets_in_runs(talk, count, calls, free=None):
+    """Demand 3 with the sheet written and loaded between the calls of a run, from a fresh journal, or one with so many places free."""
     for _ in range(count):
+        talk.any_side()
         busy, standing = begun(talk, 160, 10)
-        while talk.model.count < most:
+        while free is not None and talk.own().count < talk.room() - free:
             step(talk, standing, busy, 0.02)
         for _ in range(calls):
-            kind = random.random()
-            if kind < 0.2:
-                again(talk)
-            elif kind < 0.22:
-                again_old(talk, standing)
-            step(talk, standing, busy, 0.3)
+            step_or_sheet(talk, standing, busy)
         undo_all(talk, standing)
+
+
+def step_or_sheet(talk, standing, busy):
+    """An edit or undo, and before it, now and then, the sheet written and loaded."""
+    kind = talk.random.random()
+    if kind < 0.2:
+        again(talk)
+    elif kind < 0.22:
+        again_old(talk, standing)
+    step(talk, standing, busy, 0.3)
+
+
+# ---- parties
+
+ANY_PARTY = 0, 1, 2, 3, 4, 255, 256, 257, 258, (1 << 32) + 1, (1 << 32) + 2, 1 << 63, HUGE - 1
+
+EVERY_CALL = (
+    "edit 0 2 66 1 I16", "edit 0 2 66 1 I8", "edit 64 2 66 1 I16", "sheet 200", "sheet 0", "sheetline 0 200", "sheetline 1 200", "undo", "undo",
+    *(f"load {text.hex()}" for text in (sheet([EXAMPLE])[:-1], sheet([EXAMPLE]), sheet([old_fields(EXAMPLE)] * 2), sheet([]))),
+)
+
+
+def zero_of_1(talk, i):
+    """Party 1's place i has the record that is zero but for its party."""
+    talk.side(2, 1)
+    put_record(talk, i, NONE)
+
+
+def unknown(talk):
+    """Calls of any party on journals for any number of parties: fresh ones, and ones with a record of party 0, of party 1, or of both."""
+    branches(talk)
+    for parties, party in itertools.product(ANY_PARTY, repeat=2):
+        for counts in ("0 0", "1 0", "0 1", "1 1"):
+            talk(f"journal {parties} {counts}" if counts != "0 0" else f"open {parties}")
+            if counts[-1] == "1":
+                zero_of_1(talk, 0)
+            talk.side(parties, party)
+            for line in EVERY_CALL:
+                with_records(talk, line)
+            if parties < 4:
+                with_records(talk, f"load {sheet([NONE] * 513).hex()}")
+
+
+SOME_COUNTS = 0, 1, 2, 511, 512, 513, 1023, 1024, 1025, HUGE - 1
+
+
+def some_counts(talk):
+    """Counts of both parties, in range and out of it, with their records and without."""
+    branches(talk)
+    for lower, upper in sorted({*itertools.product(SOME_COUNTS, (0, 1, 2)), *itertools.product((0, 512), SOME_COUNTS)}):
+        for parties, filled in ((1, 0), (2, 0), (2, min(upper, PLACES // 2))):
+            talk(f"journal {parties} {lower} {upper}")
+            for i in range(filled):
+                zero_of_1(talk, i)
+            for line in ("edit 0 2 66 1 I16", "undo", f"sheet {LONGEST}", "sheetline 1 100", f"load {sheet([EXAMPLE]).hex()}"):
+                talk.side(parties, talk.random.randrange(2))
+                with_records(talk, line)
+
+
+def put_code(talk, code):
+    if len(code) != len(talk.model.code):
+        talk(f"code {len(code)}")
+    talk(f"put 0 {code.hex()}")
+
+
+class Mixed:
+    """A party of a mixed run: its code, which it alone writes, its standing edits, and its lines with what was answered."""
+
+    def __init__(self, talk, party):
+        self.party, self.said = party, []
+        talk.side(2, party)
+        self.busy, self.standing = begun(talk, talk.random.choice((16, 32, 48, 50, 160)), 3)
+        self.code = self.standing.first
+
+    def turn(self, talk, does):
+        """A turn of the party's, over its code."""
+        talk.side(2, self.party)
+        put_code(talk, self.code)
+        before = len(talk.lines)
+        does(talk, self)
+        self.code = bytes(talk.model.code)
+        shown(talk)
+        new = zip(talk.lines[before:], talk.answers[before:])
+        self.said += [(line, answer) for line, answer in new if line != b"records"]
+
+    def alone(self, talk):
+        """The same lines in a journal that was opened for two, with none of the other party's: they are answered the same."""
+        talk.side(2, self.party)
+        talk("open 2")
+        put_code(talk, self.standing.first)
+        for line, answer in self.said:
+            assert talk(line) == answer, f"alone, another answer to {line}"
+            if talk.random.random() < 0.02:
+                talk("records")
+        talk("records")
+
+
+def stepped(talk, side):
+    step_or_sheet(talk, side.standing, side.busy)
+
+
+def climbed(talk, side):
+    step(talk, side.standing, side.busy, 0.02)
+
+
+def undone(talk, side):
+    undo_all(talk, side.standing)
+
+
+def wandered(talk, side):
+    """Any call, with sheets of others, texts that are none, and the code written by hand; with no standing edits worked out."""
+    random = talk.random
+    kind = random.random()
+    if kind < 0.4:
+        n, slot, family, number = talk.random_place()
+        talk.call(f"edit {n} {slot} {family} {number} {value_for(random, family, number)}")
+    elif kind < 0.65:
+        talk.call("undo")
+    elif kind < 0.75:
+        talk.call(f"sheet {random.choice((0, 9, 10, 1000, LONGEST))}")
+    elif kind < 0.8:
+        talk.call(f"sheetline {random.randrange(5)} {random.randrange(202)}")
+    elif kind < 0.85 and len(talk.model.code) >= 16:
+        talk.bundle(random.randrange(len(talk.model.code) // 16), 16)
+    else:
+        count = random.choice((0, 1, 2, 5) if random.random() < 0.9 else (511, 512, 513, PLACES, PLACES + 1))
+        lines = any_records(random, count)
+        text = sheet(random.choice((lines, list(map(old_fields, lines)))))
+        load(talk, text[:len(text) - (random.random() < 0.2)])
+
+
+def written_out(talk, side):
+    talk.call(f"sheet {LONGEST}")
+
+
+def mixings(talk):
+    """Two parties' calls, mixed, each party over its own code; then each party's alone, which are to be answered the same. Of runs with
+    nothing but edits, undos and own sheets, demand 3 is worked out for each party."""
+    for _ in range(30):
+        mixing(talk, [(stepped, 100), (undone, 4)])
+        mixing(talk, [(wandered, 100)])
+    mixing(talk, [(climbed, 1700), (stepped, 40), (undone, 4)])
+
+
+def mixing(talk, phases):
+    sides = [Mixed(talk, party) for party in (0, 1)]
+    talk("open 2")
+    for does, turns in phases:
+        for _ in range(turns):
+            talk.random.choice(sides).turn(talk, does)
+    for side in sides:
+        side.turn(talk, written_out)
+    talk("records")
+    for side in sides:
+        side.alone(talk)
 
 
 def sheets(talk):
@@ -951,12 +1220,15 @@ def sheets(talk):
     told(talk)
     calls = f"sheet {LONGEST}", "sheetline 0 200", "sheetline 1 200", f"sheetline {HUGE - 1} 0"
     wrong_in_one(talk, (*calls, "undo", f"sheet {LONGEST}"))
-    texts = sheet([EXAMPLE])[:-1], sheet([FREE] * 2 * PLACES), sheet([FREE] * PLACES), sheet([EXAMPLE])
+    texts = sheet([EXAMPLE])[:-1], sheet([NONE] * 2 * PLACES), sheet([NONE] * PLACES), sheet([EXAMPLE])
     slices(talk, (*calls, "sheet 0", "sheetline 0 0", *(f"load {text.hex()}" for text in texts)))
     large(talk)
     refused_loads(talk)
-    sheets_in_runs(talk, 60, 60, 0)
-    sheets_in_runs(talk, 2, 30, PLACES - 5)
+    sheets_in_runs(talk, 60, 60)
+    sheets_in_runs(talk, 2, 30, 5)
+    unknown(talk)
+    some_counts(talk)
+    mixings(talk)
 
 
 # ---- stages, by the crate that brings them
@@ -965,24 +1237,28 @@ STAGES = {
     "bundle": (("code", "put", "get", "sum", "find", "cut", "join"), bundles),
     "readers": (("operands",), refused_operands),
     "immediate": (("immediate", "target"), immediates),
-    "journal": (("journal", "place", "records", "edit", "undo"), journals),
+    "journal": (("open", "journal", "place", "records", "edit", "undo"), journals),
     "sheet": (("sheet", "sheetline", "load"), sheets),
     "tally": (("report", "clear"), reports),
 }
 
-# every pair of refusals (in 01's order) that can apply together; not among them: 1 with 2 and with 9, 8 with 1 and with 9
+# every pair of refusals (in 01's order) that can apply together; not among them: 1 with 2 and with 9, 8 with 1 and with 9, 13 with 7; and a
+# sheet is never too long for a journal of one party
 TOGETHER = {
     "find": "10 1", "cut": "10 1 2", "join": "4 2 12", "operands": "3 4", "immediate": "10 1 2 3 5", "target": "10 1 2 3 5 6",
-    "edit": "10 1 2 3 5 6 11 7", "undo": "10 11 8 1 9", "sheet": "11 12", "sheetline": "11 12", "load": "11 13",
+    **{f"edit of {parties}": "10 1 2 3 5 6 11 7" for parties in (1, 2)},
+    **{f"undo of {parties}": "10 11 8 1 9" for parties in (1, 2)},
+    **{f"{call} of {parties}": "11 12" for parties in (1, 2) for call in ("sheet", "sheetline")},
+    "load of 1": "11 13", "load of 2": "11 13 7",
     "report": "10 6",
 }
-APART = {(1, 2), (1, 9), (8, 1), (8, 9)}
+APART = {(1, 2), (1, 9), (8, 1), (8, 9), (13, 7)}
 
 
 def unseen(seen, known):
     """The refusals and pairs of them that the lines so far don't have."""
     for call, numbers in TOGETHER.items():
-        if call in known:
+        if call.split(" ")[0] in known:
             wanted = {(0, 0), *itertools.combinations_with_replacement(map(int, numbers.split()), 2)} - APART
             for pair in sorted(wanted - seen.get(call, set())):
                 yield f"{call} {pair[0]} {pair[1]}"

@@ -133,9 +133,11 @@ def operand(text):
     return (found["kind"], int(found["register"])) if int(found["register"]) < 256 else None
 
 
-# ---- records: bundle, slot, form (as in `M48`, or `-` for a whole bundle), value's pattern, old low, old high, new low, new high
+# ---- records: bundle, slot, form (as in `M48`, or `-` for a whole bundle), value's pattern, old low, old high, new low, new high; a place of
+# a journal has a record and a party
 
-FREE = (0, 0, "-", 0, 0, 0, 0, 0)
+NONE = (0, 0, "-", 0, 0, 0, 0, 0)
+FREE = NONE, 0
 
 
 def joined(low, high):
@@ -273,13 +275,43 @@ def report_of(image):
     return [tags.count(tag) for tag in range(32)] + [len(tags), reserved, stops, len(image) % 16]
 
 
+class Part:
+    """A party's part of a journal: its first place, how many there are, and its count. It keeps which of its places aren't free, and which can't
+    stand."""
+
+    def __init__(self, party, first, places, count):
+        self.party, self.first, self.places, self.count = party, first, places, count
+        # a free place has party 0, and of party 1 can't stand
+        self.used, self.unfit = set(), set(range(first, first + places) if party else ())
+
+    def has(self, i):
+        return self.first <= i < self.first + self.places
+
+    def end(self):
+        """The place after the records that stand."""
+        return self.first + self.count
+
+    def put(self, i, one, party):
+        self.used.discard(i)
+        self.unfit.discard(i)
+        if (one, party) != FREE:
+            self.used.add(i)
+        if not may_stand(one) or party != self.party:
+            self.unfit.add(i)
+
+    def valid(self):
+        """Whether what stands can stand, and every other place is free."""
+        end = self.end()
+        return self.count <= self.places and min(self.unfit, default=end) >= end and max(self.used, default=-1) < end
+
+
 class Model:
     """The state of `probe`: a code, a journal and a report. `reasons` has what applied to the last call."""
 
     def __init__(self):
         self.code, self.hash = bytearray(), 0
         self.report = [0] * NUMBERS
-        self.on_journal(b"0")
+        self.on_open(b"1")
         self.reasons = []
 
     def answer(self, line):
@@ -409,47 +441,63 @@ class Model:
     # the journal
 
     def valid(self):
-        """Whether the slice has its length, what stands can stand, and every other place is free."""
-        stand = all(i >= self.count for i in self.unfit)
-        return len(self.places) == PLACES and self.count <= PLACES and stand and max(self.shown, default=-1) < self.count
+        """Whether the slice has its length, the journal is for one party or two, and each part is valid."""
+        return len(self.places) == PLACES and self.parties in (1, 2) and all(part.valid() for part in self.parts)
 
-    def place(self, i, one):
-        """Sets a place, and keeps how each that isn't free is shown and which of them can't stand."""
-        self.places[i] = one
+    def part_of(self, party):
+        """The party's part, or nothing where the party is unknown."""
+        return self.parts[party] if self.parties in (1, 2) and party < self.parties else None
+
+    def place(self, i, one, party):
+        """Sets a place, and keeps how each that isn't free is shown."""
+        self.places[i] = one, party
         self.shown.pop(i, None)
-        self.unfit.discard(i)
-        if one != FREE:
-            self.shown[i] = f" {i}:" + ":".join(map(str, one))
-        if not may_stand(one):
-            self.unfit.add(i)
+        if (one, party) != FREE:
+            self.shown[i] = f" {i}:" + ":".join(map(str, one)) + f":{party}"
+        for part in self.parts:
+            if part.has(i):
+                part.put(i, one, party)
 
-    def standing(self):
-        return self.places[:self.count]
+    def standing(self, party):
+        """The party's records that stand."""
+        part = self.part_of(party)
+        return [one for one, _ in self.places[part.first:part.first + min(part.count, part.places)]] if part else []
 
     def halves(self, n):
         given = self.code[16 * n:16 * n + 16]
         return int.from_bytes(given[:8], "little"), int.from_bytes(given[8:], "little")
 
-    def on_journal(self, count, length=b"%d" % PLACES):
-        count, length = number(count), number(length)
+    def on_open(self, parties):
+        return self.on_journal(parties, b"0", b"0")
+
+    def on_journal(self, parties, lower, upper, length=b"%d" % PLACES):
+        parties, lower, upper, length = number(parties), number(lower), number(upper), number(length)
         if length > 2 * PLACES:
             raise Unread
-        self.count, self.places, self.shown, self.unfit = count, [FREE] * length, {}, set()
+        half = PLACES // 2 if parties == 2 else PLACES
+        self.parties, self.parts = parties, [Part(0, 0, half, lower), Part(1, half, PLACES - half, upper)]
+        self.places, self.shown = [FREE] * length, {}
         return "ok"
 
-    def on_place(self, i, bundle, slot, name, value, old_low, old_high, new_low, new_high):
+    def on_place(self, i, bundle, slot, name, value, old_low, old_high, new_low, new_high, party):
         halves = map(number, (old_low, old_high, new_low, new_high))
-        i, one = number(i), (number(bundle), number(slot), form(name), number(value), *halves)
+        i, one, party = number(i), (number(bundle), number(slot), form(name), number(value), *halves), number(party)
         if i >= len(self.places):
             raise Unread
-        self.place(i, one)
+        self.place(i, one, party)
         return "ok"
 
     def on_records(self):
-        return f"records {self.count}" + "".join(self.shown[i] for i in sorted(self.shown))
+        counts = " ".join(str(part.count) for part in self.parts)
+        return f"records {self.parties} {counts}" + "".join(self.shown[i] for i in sorted(self.shown))
 
-    def on_edit(self, n, slot, family, form, value):
-        n, slot, family, form = number(n), number(slot), number(family), number(form)
+    def of_journal(self, party):
+        """What is refused of a journal, before it is asked what stands, and the party's part."""
+        part = self.part_of(party)
+        return (11, part is None or not self.valid()), part
+
+    def on_edit(self, party, n, slot, family, form, value):
+        party, n, slot, family, form = number(party), number(n), number(slot), number(family), number(form)
         value = operand(value.decode("ascii"))
         if value is None:
             raise Unread
@@ -457,55 +505,64 @@ class Model:
         row = row_of(family, form)
         reasons, bundle = self.of_slot(n, slot, family, form, row)
         wrong = kind not in "IU" or bool(row and (kind != row.kind() or not row.takes(value)))
-        answer = self.refused(reasons + [(6, wrong), (11, not self.valid()), (7, self.count == PLACES)])
+        invalid, part = self.of_journal(party)
+        answer = self.refused(reasons + [(6, wrong), invalid, (7, part and part.count == part.places)])
         if not answer:
             old = self.halves(n)
             self.write(16 * n, bundle.with_value(slot, row, value))
-            self.place(self.count, (n, slot, f"{chr(family)}{form}", value % HUGE, *old, *self.halves(n)))
-            self.count += 1
+            self.place(part.end(), (n, slot, f"{chr(family)}{form}", value % HUGE, *old, *self.halves(n)), party)
+            part.count += 1
         return f"edit {answer}"
 
-    def on_undo(self):
-        last = self.places[self.count - 1] if 0 < self.count <= len(self.places) else None
+    def on_undo(self, party):
+        party = number(party)
+        invalid, part = self.of_journal(party)
+        there = part and 0 < part.count <= part.places and part.end() <= len(self.places)
+        last = self.places[part.end() - 1][0] if there else None
         n = last and last[0]
         inside = last and 16 * n + 16 <= len(self.code)
         answer = self.refused([
-            (10, len(self.code) > MOST), (11, not self.valid()), (8, self.count == 0),
+            (10, len(self.code) > MOST), invalid, (8, part and part.count == 0),
             (1, last and not inside), (9, inside and self.halves(n) != last[6:])])
         if not answer:
-            self.count -= 1
+            part.count -= 1
             self.write(16 * n, joined(*last[4:6]))
-            self.place(self.count, FREE)
+            self.place(part.end(), *FREE)
         return f"undo {answer}"
 
     # sheets
 
-    def put_out(self, name, wanted, length):
-        answer = self.refused([(11, not self.valid()), (12, length < len(wanted))])
+    def put_out(self, name, party, wanted, length):
+        invalid, _ = self.of_journal(party)
+        answer = self.refused([invalid, (12, length < len(wanted))])
         wanted = b"" if answer else wanted
         return f"{name} {answer} {len(wanted)} {text(wanted)} {length - len(wanted)}"
 
-    def on_sheet(self, length):
-        length = number(length)
+    def on_sheet(self, party, length):
+        party, length = number(party), number(length)
         if length > 130000:
             raise Unread
-        return self.put_out("sheet", sheet(self.standing()), length)
+        return self.put_out("sheet", party, sheet(self.standing(party)), length)
 
-    def on_sheetline(self, i, length):
+    def on_sheetline(self, party, i, length):
         """Past the last line there is none: an empty text."""
-        i, length = number(i), number(length)
+        party, i, length = number(party), number(i), number(length)
         if length > 200:
             raise Unread
-        wanted = header(self.count) if i == 0 else b"".join(map(line, self.standing()[i - 1:i]))
-        return self.put_out("sheetline", wanted, length)
+        records = self.standing(party)
+        wanted = header(len(records)) if i == 0 else b"".join(map(line, records[i - 1:i]))
+        return self.put_out("sheetline", party, wanted, length)
 
-    def on_load(self, given):
-        records = loaded(data(given))
-        answer = self.refused([(11, len(self.places) != PLACES), (13, records is None)])
+    def on_load(self, party, given):
+        party, records = number(party), loaded(data(given))
+        invalid, part = self.of_journal(party)
+        answer = self.refused([invalid, (13, records is None), (7, part and records is not None and len(records) > part.places)])
         if not answer:
-            self.on_journal(b"%d" % len(records))
-            for i, one in enumerate(records):
-                self.place(i, one)
+            for i in list(part.used):
+                self.place(i, *FREE)
+            for i, one in enumerate(records, part.first):
+                self.place(i, one, party)
+            part.count = len(records)
         return f"load {answer}"
 
 

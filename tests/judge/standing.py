@@ -2,7 +2,7 @@
 
 After every call the code is the first code with the standing edits made in order.
 """
-from model import HUGE, MOST, PLACES, ROWS, bundle_at, row_of, taken
+from model import HUGE, MOST, ROWS, bundle_at, row_of, taken
 
 
 def made(data, edit):
@@ -12,10 +12,11 @@ def made(data, edit):
 
 
 class Standing:
-    """The edits that stand. Of the first `whole` of them an old sheet was loaded, which doesn't tell them."""
+    """The edits that stand, for which there are so many places. Of the first `whole` of them an old sheet was loaded, which doesn't tell
+    them."""
 
-    def __init__(self, code):
-        self.first, self.code, self.edits, self.whole = bytes(code), bytearray(code), [], 0
+    def __init__(self, code, places):
+        self.first, self.code, self.edits, self.whole, self.places = bytes(code), bytearray(code), [], 0, places
 
     def acceptable(self, n, slot, family, form, kind, value):
         """Whether the code as it stands takes the edit."""
@@ -24,7 +25,7 @@ class Standing:
             len(self.code) <= MOST and bundle and row and kind == row.kind() and taken(bundle, slot, chr(family), row, value))
 
     def edit(self, n, slot, family, form, kind, value):
-        if not self.acceptable(n, slot, family, form, kind, value) or len(self.edits) == PLACES:
+        if not self.acceptable(n, slot, family, form, kind, value) or len(self.edits) == self.places:
             return False
         self.edits.append((n, slot, f"{chr(family)}{form}", value))
         self.code[16 * n:16 * n + 16] = made(self.code[16 * n:16 * n + 16], self.edits[-1])

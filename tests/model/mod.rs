@@ -1,6 +1,7 @@
 //! Document 01 in plain Rust: cut, immediates, targets, the journal, sheets, the listing, and the report, with all refusals. Bundles are
-//! numbers of 128 bits, and a journal is a count and a slice of records that is lent. Written from the paper, with its forms, units, stops and
-//! rows from ../table, and not from the Rattle. The replayer's stand-in compares with it, and the benchmark times it beside the library.
+//! numbers of 128 bits, and a journal is its parties' counts and a slice of records that is lent. Written from the paper, with its forms,
+//! units, stops and rows from ../table, and not from the Rattle. The replayer's stand-in compares with it, and the benchmark times it beside
+//! the library.
 
 pub mod immediate;
 pub mod journal;

@@ -1,6 +1,6 @@
-//! Sheets, written as a whole or line by line, and loaded.
+//! Sheets of a party's records, written as a whole or line by line, and loaded.
 
-use super::journal::{Halves, Record, NONE, PLACES};
+use super::journal::{part, part_mut, Counts, Halves, Record, NONE, PLACES};
 use super::text::Text;
 use super::Model;
 
@@ -8,69 +8,82 @@ pub const LONGEST: usize = 118797;
 
 impl Model {
     /// The answer and the sheet's length.
-    pub fn write_sheet(&self, count: u64, records: &[Record], out: &mut [u8]) -> (u8, usize) {
-        self.written(count, records, out, LONGEST, |text| {
-            put_header(text, count);
-            records[..count as usize].iter().for_each(|one| put(text, one));
+    pub fn write_sheet(&self, counts: Counts, records: &[Record], party: u64, out: &mut [u8]) -> (u8, usize) {
+        self.written(counts, records, party, out, LONGEST, |text, standing| {
+            put_header(text, standing.len());
+            standing.iter().for_each(|one| put(text, one));
         })
     }
 
     /// The answer and the length of a line of the sheet: the first is the header, and past the last all are empty.
-    pub fn write_line(&self, count: u64, records: &[Record], line: u64, out: &mut [u8]) -> (u8, usize) {
-        self.written(count, records, out, LONGEST_LINE, |text| match line {
-            0 => put_header(text, count),
-            _ if line <= count => put(text, &records[line as usize - 1]),
+    pub fn write_line(&self, counts: Counts, records: &[Record], party: u64, line: u64, out: &mut [u8]) -> (u8, usize) {
+        self.written(counts, records, party, out, LONGEST_LINE, |text, standing| match line {
+            0 => put_header(text, standing.len()),
+            _ if line <= standing.len() as u64 => put(text, &standing[line as usize - 1]),
             _ => (),
         })
     }
 
-    /// The answer and the length of a text, which is written where it has room; it is at most so long.
-    fn written(&self, count: u64, records: &[Record], out: &mut [u8], longest: usize, put: impl Fn(&mut Text)) -> (u8, usize) {
-        if !self.valid(count, records) {
+    /// The answer and the length of a text of the party's records, which is written where it has room; it is at most so long.
+    fn written(
+        &self,
+        counts: Counts,
+        records: &[Record],
+        party: u64,
+        out: &mut [u8],
+        longest: usize,
+        put: impl Fn(&mut Text, &[Record]),
+    ) -> (u8, usize) {
+        if !self.valid(counts, records, party) {
             return (11, 0);
         }
+        let standing = &part(counts, party, records)[..counts.of(party) as usize];
         if out.len() < longest {
             let mut lost = Text { out: &mut [], length: 0 };
-            put(&mut lost);
+            put(&mut lost, standing);
             if out.len() < lost.length {
                 return (12, 0);
             }
         }
         let mut text = Text { out, length: 0 };
-        put(&mut text);
+        put(&mut text, standing);
         (0, text.length)
     }
 
-    /// The answer and the count.
-    pub fn load_sheet(&self, count: u64, records: &mut [Record], text: &[u8]) -> (u8, u64) {
-        if records.len() != PLACES {
-            return (11, count);
+    /// The answer and the counts: the sheet's records take the place of the party's.
+    pub fn load_sheet(&self, counts: Counts, records: &mut [Record], party: u64, text: &[u8]) -> (u8, Counts) {
+        if !self.valid(counts, records, party) {
+            return (11, counts);
         }
-        match header(text) {
-            Some((said, lines)) if self.loaded(records, said, lines, full) || self.loaded(records, said, lines, old) => (0, said),
-            _ => (13, count),
+        let Some((said, lines)) = header(text) else { return (13, counts) };
+        let places = part_mut(counts, party, records);
+        match self.loaded(places, party, said, lines, full).or_else(|| self.loaded(places, party, said, lines, old)) {
+            None => (13, counts),
+            Some(false) => (7, counts),
+            Some(true) => (0, counts.with(party, said)),
         }
     }
 
     /// Loads so many lines of one kind, with no copy of the records: the lines are looked at first, and no record is written where they aren't
-    /// such.
-    fn loaded(&self, records: &mut [Record], count: u64, lines: &[u8], line: impl Fn(&mut &[u8]) -> Option<Record>) -> bool {
+    /// such. Whether there are places for all of them, or nothing where they aren't such.
+    fn loaded(&self, places: &mut [Record], party: u64, count: u64, lines: &[u8], line: impl Fn(&mut &[u8]) -> Option<Record>) -> Option<bool> {
         let mut text = lines;
         let good = (0..count).all(|_| line(&mut text).is_some_and(|one| self.may_stand(&one))) && text.is_empty();
-        if good {
+        let room = count <= places.len() as u64;
+        if good && room {
             text = lines;
-            records[..count as usize].fill_with(|| line(&mut text).unwrap());
-            records[count as usize..].fill(NONE);
+            places[..count as usize].fill_with(|| Record { party, ..line(&mut text).unwrap() });
+            places[count as usize..].fill(NONE);
         }
-        good
+        good.then_some(room)
     }
 }
 
 const LONGEST_LINE: usize = 116;
 
-fn put_header(text: &mut Text, count: u64) {
+fn put_header(text: &mut Text, count: usize) {
     text.put(b"patches\t");
-    text.field(count, b'\n');
+    text.field(count as u64, b'\n');
 }
 
 fn put(text: &mut Text, one: &Record) {
@@ -127,15 +140,15 @@ fn form(text: &mut &[u8]) -> Option<(u64, u64)> {
     Some((*family as u64, number(text, b'\t')?))
 }
 
-/// A line of eight fields.
+/// A line of eight fields, which doesn't say the party.
 fn full(text: &mut &[u8]) -> Option<Record> {
     let (bundle, slot) = (number(text, b'\t')?, number(text, b'\t')?);
     let (family, number_of) = form(text)?;
     let value = number(text, b'\t')?;
-    Some(Record { bundle, slot, family, number: number_of, value, old: halves(text, b'\t')?, new: halves(text, b'\n')? })
+    Some(Record { party: 0, bundle, slot, family, number: number_of, value, old: halves(text, b'\t')?, new: halves(text, b'\n')? })
 }
 
 /// A line of five fields, as sheets had them before records told of edits.
 fn old(text: &mut &[u8]) -> Option<Record> {
-    Some(Record::whole(number(text, b'\t')?, halves(text, b'\t')?, halves(text, b'\n')?))
+    Some(Record::whole(0, number(text, b'\t')?, halves(text, b'\t')?, halves(text, b'\n')?))
 }

@@ -73,6 +73,7 @@ pub extern "C" fn bench_record(
         let old = before.halves;
         let new = after.halves;
         let one = Record {
+            party: 0,
             bundle: n as u64,
             slot,
             form,
@@ -80,7 +81,7 @@ pub extern "C" fn bench_record(
             old,
             new,
         };
-        sum = plus(sum, record::may_stand(one) as u64);
+        sum = plus(sum, record::may_stand(0, one) as u64);
         n += 1;
     }
     sum

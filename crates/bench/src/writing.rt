@@ -6,6 +6,7 @@ use form::Edit;
 use form::Form;
 use operand::Operand;
 use record::Record;
+use records::Counts;
 
 // An immediate's value for a row with a sign, or without.
 fn value_of(signed: u64, pattern: u64) -> Operand {
@@ -63,49 +64,81 @@ fn branch(bundle: u64, to: i64) -> Edit {
     }
 }
 
-// So many edits, each undone, after those that stand.
+// So many edits of a party, each undone, after those that stand.
 #[no_mangle]
 pub extern "C" fn bench_edit(
     code: &mut [u8],
-    count: u64,
+    parties: u64,
+    lower: u64,
+    upper: u64,
     records: &mut [Record],
+    party: u64,
     times: u64,
 ) -> u64 {
-    let mut standing = count;
+    let mut counts = Counts {
+        parties,
+        lower,
+        upper,
+    };
     let mut sum = 0;
     let mut left = times;
     while 0 < left {
-        let edited = journal::edit(code, standing, records, branch(63, 32));
-        let undone = journal::undo(code, edited.count, records);
-        standing = undone.count;
+        let edited = journal::edit(code, counts, records, party, branch(63, 32));
+        let undone = journal::undo(code, edited.counts, records, party);
+        counts = undone.counts;
         sum = plus(sum, plus(edited.answer as u64, undone.answer as u64));
         left -= 1;
     }
     sum
 }
 
-// The sheet of a journal, written so many times.
+// The sheet of a party's journal, written so many times.
 #[no_mangle]
-pub extern "C" fn bench_sheet(count: u64, records: &[Record], out: &mut [u8], times: u64) -> u64 {
+pub extern "C" fn bench_sheet(
+    parties: u64,
+    lower: u64,
+    upper: u64,
+    records: &[Record],
+    party: u64,
+    out: &mut [u8],
+    times: u64,
+) -> u64 {
+    let counts = Counts {
+        parties,
+        lower,
+        upper,
+    };
     let mut sum = 0;
     let mut left = times;
     while 0 < left {
-        let written = sheet::write(count, records, out);
+        let written = sheet::write(counts, records, party, out);
         sum = plus(sum, written.length as u64);
         left -= 1;
     }
     sum
 }
 
-// A sheet, loaded so many times.
+// A sheet, loaded for a party so many times.
 #[no_mangle]
-pub extern "C" fn bench_load(count: u64, records: &mut [Record], text: &[u8], times: u64) -> u64 {
-    let mut standing = count;
+pub extern "C" fn bench_load(
+    parties: u64,
+    lower: u64,
+    upper: u64,
+    records: &mut [Record],
+    party: u64,
+    text: &[u8],
+    times: u64,
+) -> u64 {
+    let mut counts = Counts {
+        parties,
+        lower,
+        upper,
+    };
     let mut sum = 0;
     let mut left = times;
     while 0 < left {
-        let loaded = sheet::load(standing, records, text);
-        standing = loaded.count;
+        let loaded = sheet::load(counts, records, party, text);
+        counts = loaded.counts;
         sum = plus(sum, loaded.answer as u64);
         left -= 1;
     }

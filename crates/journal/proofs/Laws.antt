@@ -47,6 +47,13 @@ module _ (code : List ℕ) (plan : Plan) (a : ℕ) where
   abbrev Decided : Plan
   Decided = outcome a plan (refusedPlan a)
 
+  decided-taken : Decided .answer ≡ accepted → a ≡ accepted
+  decided-taken = go (eqb a accepted) refl
+    where
+      go : (t : Bool) → eqb a accepted ≡ t → cond t plan (refusedPlan a) .answer ≡ accepted → a ≡ accepted
+      go true e q = eqb-true a accepted e
+      go false e q = q
+
   -- its bundle is in the code where it is accepted
   decided-found : (a ≡ accepted → findAnswer code (plan .bundle) ≡ accepted) → Decided .answer ≡ accepted → findAnswer code (Decided .bundle) ≡ accepted
   decided-found f = go (eqb a accepted) refl
@@ -82,25 +89,32 @@ module _ (code : List ℕ) (e : Edit) (taken : first (codeRefusals code e) ≡ a
   taken-lt b = changed-lt (numberAt code (e .bundle)) e taken-changes (number-at-lt code (e .bundle) taken-found b)
 
 -- an edit's plan carried out is the edit
-module _ (places : ℕ) (code : List ℕ) (e : Edit) where
-  pub edit-found : (view : View) → editPlanOf places code view e .answer ≡ accepted → findAnswer code (editPlanOf places code view e .bundle) ≡ accepted
+module _ (party places : ℕ) (code : List ℕ) (e : Edit) where
+  pub edit-found : (view : View) → editPlanOf party places code view e .answer ≡ accepted → findAnswer code (editPlanOf party places code view e .bundle) ≡ accepted
   unfolding editPlanOf
   edit-found view =
       decided-found code _ (first (editRefusals places code view e)) (λ a. taken-found code e (parts-accept (codeRefusals code e) (roomRefusals places view) tt a .0))
 
-  pub edit-carried : Bytes code → (j : Journal) → carriedOut code j (editPlanOf places code (viewOf places j) e) ≡ editOf places code j e
+  -- a plan that is accepted goes by a valid journal
+  pub edit-shown : (view : View) → editPlanOf party places code view e .answer ≡ accepted → view .valid ≡ true
+  unfolding editPlanOf
+  edit-shown view q =
+      let a = decided-taken code _ (first (editRefusals places code view e)) q in
+      not-false _ (none-applies (roomRefusals places view) tt (parts-accept (codeRefusals code e) (roomRefusals places view) tt a .1) .0)
+
+  pub edit-carried : Bytes code → (j : Journal) → carriedOut code j (editPlanOf party places code (viewOf party places j) e) ≡ editOf party places code j e
   unfolding editPlanOf editOf made
   edit-carried b j =
-      decided-carried code _ (first (editRefusals places code (viewOf places j) e)) j _ _ refl
+      decided-carried code _ (first (editRefusals places code (viewOf party places j) e)) j _ _ refl
       (λ a.
-      let p = parts-accept (codeRefusals code e) (roomRefusals places (viewOf places j)) tt a in
-      let n = none-applies (roomRefusals places (viewOf places j)) tt (p .1) in (
-        view-pushes places j (not-false _ (n .0)) (recordOf code e) (leb-false places (viewOf places j .count) (n .1 .0)),
+      let p = parts-accept (codeRefusals code e) (roomRefusals places (viewOf party places j)) tt a in
+      let n = none-applies (roomRefusals places (viewOf party places j)) tt (p .1) in (
+        view-pushes party places j (not-false _ (n .0)) (recordOf party code e) (leb-false places (viewOf party places j .count) (n .1 .0)),
         ap (rewritten code (e .bundle)) (whole-halves _ (taken-lt code e (p .0) b)),
       ))
 
 -- an undo's plan carried out is the undo
-module _ (places : ℕ) (code : List ℕ) where
+module _ (party places : ℕ) (code : List ℕ) where
   pub undo-found : (view : View) → undoPlanOf code view .answer ≡ accepted → findAnswer code (undoPlanOf code view .bundle) ≡ accepted
   unfolding undoPlanOf
   undo-found view =
@@ -109,8 +123,12 @@ module _ (places : ℕ) (code : List ℕ) where
       let n = none-applies (undoRefusals code view) tt e in
       found-when code (view .last .bundle) (record { short = ltb-false _ _ (n .0); within = ltb-false _ _ (n .1 .1 .1 .0) }))
 
-  pub undo-carried : (j : Journal) → carriedOut code j (undoPlanOf code (viewOf places j)) ≡ undoOf places code j
+  pub undo-shown : (view : View) → undoPlanOf code view .answer ≡ accepted → view .valid ≡ true
+  unfolding undoPlanOf
+  undo-shown view q = not-false _ (none-applies (undoRefusals code view) tt (decided-taken code _ (first (undoRefusals code view)) q) .1 .0)
+
+  pub undo-carried : (j : Journal) → carriedOut code j (undoPlanOf code (viewOf party places j)) ≡ undoOf party places code j
   unfolding undoPlanOf undoOf
   undo-carried j =
-      decided-carried code _ (first (undoRefusals code (viewOf places j))) j _ _ refl
-      (λ e. (view-pops places j (not-false _ (none-applies (undoRefusals code (viewOf places j)) tt e .1 .0)), refl))
+      decided-carried code _ (first (undoRefusals code (viewOf party places j))) j _ _ refl
+      (λ e. (view-pops party places j (not-false _ (none-applies (undoRefusals code (viewOf party places j)) tt e .1 .0)), refl))

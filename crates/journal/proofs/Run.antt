@@ -7,7 +7,7 @@ use Prim.Native.Nat.{ℕ, zero, suc, _+_, _*_, _≤_, _<_, _^_, zero-le}
 use native.Mathlib.Decide.{ℕ-discrete}
 use native.Mathlib.Numerals.{add-one}
 use native.Mathlib.Omega.{arith}
-use borrow.Author.Tests.{le-ltb, le-leb, leb-false, eqb-true, eqb-false}
+use borrow.Author.Tests.{eq-eqb, le-ltb, le-leb, leb-false, eqb-true, eqb-false}
 use lib.Dec.{leb, eqb, eqb·suc-zero}
 use lib.ListN.{length, take, drop, length-append}
 use lib.Seq.{drop-drop, drop-length}
@@ -34,22 +34,22 @@ use Rattle.journal.proofs.Rewritten.{rewritten-before, rewritten-past, 
 use Rattle.records.proofs.Standing.{journal-stands, journal-valid, journal-shows, all-append, drop-last-snoc, last-snoc}
 
 -- the code takes the edit
-abbrev Fits : List ℕ → Edit → Type 0
+abbrev pub Fits : List ℕ → Edit → Type 0
 Fits code e = first (codeRefusals code e) ≡ accepted
 
 -- the number that an edit makes of its bundle
-abbrev newNumber : List ℕ → Edit → ℕ
+abbrev pub newNumber : List ℕ → Edit → ℕ
 newNumber code e = changedNumber (numberAt code (e .bundle)) e
 
 -- one edit that the code takes
 module _ (code : List ℕ) (e : Edit) (fits : Fits code e) where
-  in-code : Lies code (e .bundle)
+  pub in-code : Lies code (e .bundle)
   in-code = lies code (e .bundle) (taken-found code e fits)
 
-  low : e .bundle ≤ highest
+  pub low : e .bundle ≤ highest
   low = omega (arith, in-code .short, in-code .within)
 
-  made-length : length (made code e) ≡ length code
+  pub made-length : length (made code e) ≡ length code
   unfolding made
   made-length = rewritten-length code (e .bundle) in-code (newNumber code e)
 
@@ -57,11 +57,11 @@ module _ (code : List ℕ) (e : Edit) (fits : Fits code e) where
   made-lies = record { short = subst (λ (n : ℕ). n ≤ longestCode) (sym made-length) (in-code .short); within = subst (λ (n : ℕ). 16 * e .bundle + 16 ≤ n) (sym made-length) (in-code .within) }
 
   module _ (b : Bytes code) where
-    made-bytes : Bytes (made code e)
+    pub made-bytes : Bytes (made code e)
     unfolding made
     made-bytes = rewritten-bytes code (e .bundle) in-code b (newNumber code e)
 
-    made-number : numberAt (made code e) (e .bundle) ≡ newNumber code e
+    pub made-number : numberAt (made code e) (e .bundle) ≡ newNumber code e
     unfolding made
     made-number =
         rewritten-number code (e .bundle) in-code (newNumber code e)
@@ -86,11 +86,12 @@ module _ (code : List ℕ) (e : Edit) (fits : Fits code e) where
         }
 
 -- what holds of the record of every edit that a bundle takes
-abbrev pub OfEdits : (Record → Bool) → Type 0
-OfEdits test = (n : ℕ) (e : Edit) → n < 2 ^ 128 → e .bundle ≤ highest → first (changeRefusals n e) ≡ accepted → test (editRecord n e) ≡ true
+abbrev pub OfEdits : ℕ → (Record → Bool) → Type 0
+OfEdits party test = (n : ℕ) (e : Edit) → n < 2 ^ 128 → e .bundle ≤ highest → first (changeRefusals n e) ≡ accepted → test (editRecord party n e) ≡ true
 
-edits-stand : OfEdits mayStand
-edits-stand n e h low taken = ap₂ (λ (t u : Bool). t && u) (le-leb (e .bundle) highest low) (edit-passes n e taken h)
+pub edits-stand : (party : ℕ) → OfEdits party (mayStand party)
+edits-stand party n e h low taken =
+    (λ i. le-leb (e .bundle) highest low i && (edit-passes n e taken party h i && eq-eqb party party refl i))
 
 -- the code takes each of the edits after those before it, and there is room for each
 abbrev Stands : ℕ → List ℕ → List Edit → Type 0
@@ -98,57 +99,57 @@ Stands places code [] = Unit {0}
 Stands places code (e ∷ es) = Fits (madeAll code es) e × (length es < places) × Stands places code es
 
 -- calls with a valid journal of some records
-module _ (places : ℕ) (code : List ℕ) (rs : List Record) (valid : validOf places (journalOf places rs) ≡ true) where
-  shown : viewOf places (journalOf places rs) ≡ record { valid = true; count = length rs; last = getLastD rs noRecord }
-  shown = journal-shows places rs valid
+module _ (party places : ℕ) (code : List ℕ) (rs : List Record) (valid : validOf party places (journalOf places rs) ≡ true) where
+  shown : viewOf party places (journalOf places rs) ≡ record { valid = true; count = length rs; last = getLastD rs noRecord }
+  shown = journal-shows party places rs valid
 
   -- an edit
   module _ (e : Edit) where
-    edit-of : (a : ℕ) → first (codeRefusals code e ++ (full, leb places (length rs)) ∷ []) ≡ a
-        → editOf places code (journalOf places rs) e
+    pub edit-of : (a : ℕ) → first (codeRefusals code e ++ (full, leb places (length rs)) ∷ []) ≡ a
+        → editOf party places code (journalOf places rs) e
         ≡ outcome a
-        (record { answer = accepted; journal = journalOf places (rs ++ (recordOf code e ∷ [])); code = made code e })
+        (record { answer = accepted; journal = journalOf places (rs ++ (recordOf party code e ∷ [])); code = made code e })
         (record { answer = a; journal = journalOf places rs; code = code })
     unfolding editOf made
     edit-of a q = rw (shown, journal-stands, first-past (codeRefusals code e) (roomRefusals places (record { valid = true; count = length rs; last = getLastD rs noRecord })) ((full, leb places (length rs)) ∷ []) refl, q)
 
   -- undoing a last record
   pub undo-of : (last : Record) (a : ℕ) → getLastD rs noRecord ≡ last → first (undoRefusals code (record { valid = true; count = length rs; last = last })) ≡ a
-      → undoOf places code (journalOf places rs)
+      → undoOf party places code (journalOf places rs)
       ≡ outcome a (record { answer = accepted; journal = journalOf places (dropLast rs); code = rewritten code (last .bundle) (whole (last .old)) }) (record { answer = a; journal = journalOf places rs; code = code })
   unfolding undoOf
   undo-of last a e q = rw (shown, journal-stands, e, q)
 
-module _ (places : ℕ) (code : List ℕ) (b : Bytes code) (short : length code ≤ longestCode) where
+module _ (party places : ℕ) (code : List ℕ) (b : Bytes code) (short : length code ≤ longestCode) where
   all-bytes : (es : List Edit) → Stands places code es → Bytes (madeAll code es)
   all-bytes [] s = b
   all-bytes (e ∷ es) s = made-bytes (madeAll code es) e (s .0) (all-bytes es (s .2))
 
-  all-records : (test : Record → Bool) → OfEdits test → (es : List Edit) → Stands places code es → all test (recordsOf code es) ≡ true
+  all-records : (test : Record → Bool) → OfEdits party test → (es : List Edit) → Stands places code es → all test (recordsOf party code es) ≡ true
   all-records test holds [] s = refl
   all-records test holds (e ∷ es) s =
       let fits = s .0 in
       let one =
       holds (numberAt (madeAll code es) (e .bundle)) e (number-at-lt (madeAll code es) (e .bundle) (taken-found (madeAll code es) e fits) (all-bytes es (s .2)))
       (low (madeAll code es) e fits) (taken-changes (madeAll code es) e fits) in
-      all-append test (recordsOf code es) _ ∙ ap₂ (λ (t u : Bool). t && (u && true)) (all-records test holds es (s .2)) one
+      all-append test (recordsOf party code es) _ ∙ ap₂ (λ (t u : Bool). t && (u && true)) (all-records test holds es (s .2)) one
 
   at-most : (es : List Edit) → Stands places code es → length es ≤ places
   at-most [] s = zero-le
   at-most (e ∷ es) s = s .1
 
-  records-length : (es : List Edit) → length (recordsOf code es) ≡ length es
+  records-length : (es : List Edit) → length (recordsOf party code es) ≡ length es
   records-length [] = refl
-  records-length (e ∷ es) = length-append (recordsOf code es) _ ∙ omega (arith, records-length es)
+  records-length (e ∷ es) = length-append (recordsOf party code es) _ ∙ omega (arith, records-length es)
 
-  valid : (es : List Edit) → Stands places code es → validOf places (journalOf places (recordsOf code es)) ≡ true
+  valid : (es : List Edit) → Stands places code es → validOf party places (journalOf places (recordsOf party code es)) ≡ true
   valid es s =
-      journal-valid places (recordsOf code es)
-      ∙ ap₂ (λ (t u : Bool). t && u) (le-leb (length (recordsOf code es)) places (omega (arith, records-length es, at-most es s))) (all-records mayStand edits-stand es s)
+      journal-valid party places (recordsOf party code es)
+      ∙ ap₂ (λ (t u : Bool). t && u) (le-leb (length (recordsOf party code es)) places (omega (arith, records-length es, at-most es s))) (all-records (mayStand party) (edits-stand party) es s)
 
   -- what there is while edits stand, after a call with this answer
   abbrev Standing : ℕ → List Edit → Outcome
-  Standing a es = record { answer = a; journal = journalOf places (recordsOf code es); code = madeAll code es }
+  Standing a es = record { answer = a; journal = journalOf places (recordsOf party code es); code = madeAll code es }
 
   now-stands : (a : ℕ) (es ds : List Edit) → outcome a (Standing accepted es) (Standing a ds) ≡ Standing a (outcome a es ds)
   now-stands a es ds = go (eqb a accepted) refl
@@ -166,9 +167,9 @@ module _ (places : ℕ) (code : List ℕ) (b : Bytes code) (short : length code 
           let p = parts-accept (codeRefusals (madeAll code es) e) ((full, leb places (length es)) ∷ []) tt a in
           (p .0, leb-false places (length es) (none-applies ((full, leb places (length es)) ∷ []) tt (p .1) .0))
 
-      edit-as-expected : editOf places (madeAll code es) (journalOf places (recordsOf code es)) e ≡ expected places code es (edit e)
+      edit-as-expected : editOf party places (madeAll code es) (journalOf places (recordsOf party code es)) e ≡ expected party places code es (edit e)
       edit-as-expected =
-          edit-of places (madeAll code es) (recordsOf code es) (valid es s) e (answerTo places code es (edit e)) (ap (λ (n : ℕ). first (codeRefusals (madeAll code es) e ++ (full, leb places n) ∷ [])) (records-length es))
+          edit-of party places (madeAll code es) (recordsOf party code es) (valid es s) e (answerTo places code es (edit e)) (ap (λ (n : ℕ). first (codeRefusals (madeAll code es) e ++ (full, leb places n) ∷ [])) (records-length es))
           ∙ now-stands (answerTo places code es (edit e)) (e ∷ es) es
 
       edit-stands : Stands places code (after places code es (edit e))
@@ -188,19 +189,19 @@ module _ (places : ℕ) (code : List ℕ) (b : Bytes code) (short : length code 
 
   -- the last record is of a bundle that stands as it says
   last-stands : (e : Edit) (es : List Edit) → Stands places code (e ∷ es)
-      → first (undoRefusals (madeAll code (e ∷ es)) (record { valid = true; count = length (recordsOf code (e ∷ es)); last = recordOf (madeAll code es) e })) ≡ accepted
+      → first (undoRefusals (madeAll code (e ∷ es)) (record { valid = true; count = length (recordsOf party code (e ∷ es)); last = recordOf party (madeAll code es) e })) ≡ accepted
   last-stands e es s =
       let l = made-lies (madeAll code es) e (s .0) in
       let new = ap (λ (n : ℕ). sameHalves (halvesOf n) (halvesOf (newNumber (madeAll code es) e))) (made-number (madeAll code es) e (s .0) (all-bytes es (s .2))) ∙ same-halves (halvesOf (newNumber (madeAll code es) e)) in
       rw (le-ltb longestCode _ (l .short), records-length (e ∷ es), eqb·suc-zero (length es), le-ltb _ (16 * e .bundle + 16) (l .within), new)
 
-  undo-as-expected : (es : List Edit) → Stands places code es → undoOf places (madeAll code es) (journalOf places (recordsOf code es)) ≡ expected places code es undo
-  undo-as-expected [] s = undo-of places code [] (valid [] tt) (getLastD [] noRecord) empty refl (rw (le-ltb longestCode (length code) short))
+  undo-as-expected : (es : List Edit) → Stands places code es → undoOf party places (madeAll code es) (journalOf places (recordsOf party code es)) ≡ expected party places code es undo
+  undo-as-expected [] s = undo-of party places code [] (valid [] tt) (getLastD [] noRecord) empty refl (rw (le-ltb longestCode (length code) short))
   undo-as-expected (e ∷ es) s =
       let now-standing = sym (undo-after (e ∷ es)) in
-      let journal = ap (journalOf places) (drop-last-snoc (recordsOf code es) _) ∙ ap (λ (ds : List Edit). journalOf places (recordsOf code ds)) now-standing in
+      let journal = ap (journalOf places) (drop-last-snoc (recordsOf party code es) _) ∙ ap (λ (ds : List Edit). journalOf places (recordsOf party code ds)) now-standing in
       let restored = unmade (madeAll code es) e (s .0) (all-bytes es (s .2)) ∙ ap (madeAll code) now-standing in
-      undo-of places (madeAll code (e ∷ es)) (recordsOf code (e ∷ es)) (valid (e ∷ es) s) _ accepted (last-snoc (recordsOf code es) _) (last-stands e es s)
+      undo-of party places (madeAll code (e ∷ es)) (recordsOf party code (e ∷ es)) (valid (e ∷ es) s) _ accepted (last-snoc (recordsOf party code es) _) (last-stands e es s)
       ∙ (λ i. record { answer = sym (undo-answer e es) i; journal = journal i; code = restored i })
 
   undo-stands : (es : List Edit) → Stands places code es → Stands places code (after places code es undo)
@@ -211,24 +212,24 @@ module _ (places : ℕ) (code : List ℕ) (b : Bytes code) (short : length code 
   call-stands es s (edit e) = edit-stands es s e
   call-stands es s undo = undo-stands es s
 
-  as-expected : (es : List Edit) → Stands places code es → (o : Outcome) → o .code ≡ madeAll code es → o .journal ≡ journalOf places (recordsOf code es) → (call : Call) → step places o call ≡ expected places code es call
+  as-expected : (es : List Edit) → Stands places code es → (o : Outcome) → o .code ≡ madeAll code es → o .journal ≡ journalOf places (recordsOf party code es) → (call : Call) → step party places o call ≡ expected party places code es call
   as-expected es s o c j (edit e) =
-      ap₂ (λ (code : List ℕ) (journal : Journal). editOf places code journal e) c j ∙ edit-as-expected es s e
-  as-expected es s o c j undo = ap₂ (undoOf places) c j ∙ undo-as-expected es s
+      ap₂ (λ (code : List ℕ) (journal : Journal). editOf party places code journal e) c j ∙ edit-as-expected es s e
+  as-expected es s o c j undo = ap₂ (undoOf party places) c j ∙ undo-as-expected es s
 
   all-stand : (calls : List Call) → Stands places code (standingEdits places code calls)
   all-stand [] = tt
   all-stand (call ∷ calls) = call-stands (standingEdits places code calls) (all-stand calls) call
 
-  reached : (calls : List Call) → (run places code calls .code ≡ madeAll code (standingEdits places code calls)) × (run places code calls .journal ≡ journalOf places (recordsOf code (standingEdits places code calls)))
+  reached : (calls : List Call) → (run party places code calls .code ≡ madeAll code (standingEdits places code calls)) × (run party places code calls .journal ≡ journalOf places (recordsOf party code (standingEdits places code calls)))
   reached [] = (refl, refl)
   reached (call ∷ calls) =
       let r = reached calls in
-      let x = as-expected (standingEdits places code calls) (all-stand calls) (run places code calls) (r .0) (r .1) call in
+      let x = as-expected (standingEdits places code calls) (all-stand calls) (run party places code calls) (r .0) (r .1) call in
       (ap (λ (o : Outcome). o .code) x, ap (λ (o : Outcome). o .journal) x)
 
-  next : (calls : List Call) (call : Call) → run places code (call ∷ calls) ≡ expected places code (standingEdits places code calls) call
-  next calls = let r = reached calls in as-expected (standingEdits places code calls) (all-stand calls) (run places code calls) (r .0) (r .1)
+  next : (calls : List Call) (call : Call) → run party places code (call ∷ calls) ≡ expected party places code (standingEdits places code calls) call
+  next calls = let r = reached calls in as-expected (standingEdits places code calls) (all-stand calls) (run party places code calls) (r .0) (r .1)
 
   -- so many undos leave so many edits fewer
   undos-drop : (n : ℕ) (calls : List Call) → standingEdits places code (thenUndo n calls) ≡ drop n (standingEdits places code calls)
@@ -243,7 +244,7 @@ module _ (places : ℕ) (code : List ℕ) (b : Bytes code) (short : length code 
   none-left [] d = refl
   none-left (e ∷ es) d = absurd (d (undo-answer e es))
 
-  pub holds : (calls : List Call) → Holds places code calls
+  pub holds : (calls : List Call) → Holds party places code calls
   holds calls =
       record {
         code-is = reached calls .0;
@@ -255,7 +256,7 @@ module _ (places : ℕ) (code : List ℕ) (b : Bytes code) (short : length code 
         refused-keeps = λ call d.
             let same = refuses (answerTo places code es call) (taken es call) es (λ a. d (answer call ∙ a)) in (
               ap (λ (o : Outcome). o .code) (next calls call) ∙ ap (madeAll code) same ∙ sym (reached calls .0),
-              ap (λ (o : Outcome). o .journal) (next calls call) ∙ ap (λ (ds : List Edit). journalOf places (recordsOf code ds)) same ∙ sym (reached calls .1),
+              ap (λ (o : Outcome). o .journal) (next calls call) ∙ ap (λ (ds : List Edit). journalOf places (recordsOf party code ds)) same ∙ sym (reached calls .1),
             );
         undo-refused = λ d. none-left es (λ a. d (answer undo ∙ a));
         undone =
@@ -265,18 +266,18 @@ module _ (places : ℕ) (code : List ℕ) (b : Bytes code) (short : length code 
       es : List Edit
       es = standingEdits places code calls
 
-      answer : (call : Call) → run places code (call ∷ calls) .answer ≡ answerTo places code (standingEdits places code calls) call
+      answer : (call : Call) → run party places code (call ∷ calls) .answer ≡ answerTo places code (standingEdits places code calls) call
       answer call = ap (λ (o : Outcome). o .answer) (next calls call)
 
   -- a run's journal is valid
-  pub run-valid : (calls : List Call) → validOf places (run places code calls .journal) ≡ true
-  run-valid calls = ap (validOf places) (reached calls .1) ∙ valid (standingEdits places code calls) (all-stand calls)
+  pub run-valid : (calls : List Call) → validOf party places (run party places code calls .journal) ≡ true
+  run-valid calls = ap (validOf party places) (reached calls .1) ∙ valid (standingEdits places code calls) (all-stand calls)
 
   -- and what holds of every edit's record holds of those that stand in it
-  pub run-all : (test : Record → Bool) → OfEdits test → (calls : List Call) → all test (standing (run places code calls .journal)) ≡ true
+  pub run-all : (test : Record → Bool) → OfEdits party test → (calls : List Call) → all test (standing (run party places code calls .journal)) ≡ true
   run-all test of-edits calls =
       ap (λ (j : Journal). all test (standing j)) (reached calls .1)
-      ∙ ap (all test) (journal-stands places (recordsOf code (standingEdits places code calls)))
+      ∙ ap (all test) (journal-stands places (recordsOf party code (standingEdits places code calls)))
       ∙ all-records test of-edits (standingEdits places code calls) (all-stand calls)
 
 pub demand-3 : Demand3

@@ -1,16 +1,17 @@
--- Two outcomes that the contract of `edit` or `undo` allows for one input are equal: each contract is an equation with one definition.
--- Assumes nothing.
-use mathlib.Core.Path.{_≡_}
+-- What the contract of `edit` or `undo` allows for one input is one answer, with the same counts, records and code: each contract is an
+-- equation with one definition, and a shared journal says what its counts and records are. Assumes nothing.
+use mathlib.Core.Path.{_≡_, sym, ap, _∙_}
 use mathlib.Core.List.{List}
 use Prim.Native.Nat.{ℕ}
-use Rattle.answer.proofs.Laws.{one-outcome}
-use Rattle.form.specs.declared.Edit.{Edit}
-use Rattle.records.specs.Journal.{Journal}
-use Rattle.journal.specs.Edit.{Outcome, editOf, undoOf}
+use Rattle.record.specs.declared.Record.{Record}
+use Rattle.records.proofs.Sharing.{sharing-decides}
+use Rattle.journal.specs.Edit.{SharedOutcome, outcomeOf}
+use Rattle.journal.specs.declared.Edited.{Edited}
 
-pub edit-unique : (places : ℕ) (code : List ℕ) (journal : Journal) (e : Edit) {r s : Outcome}
-    → r ≡ editOf places code journal e → s ≡ editOf places code journal e → r ≡ s
-edit-unique places code journal e = one-outcome
-
-pub undo-unique : (places : ℕ) (code : List ℕ) (journal : Journal) {r s : Outcome} → r ≡ undoOf places code journal → s ≡ undoOf places code journal → r ≡ s
-undo-unique places code journal = one-outcome
+pub outcome-unique : {o : SharedOutcome} (r s : Edited) (rs qs : List Record) (code other : List ℕ)
+    → outcomeOf r rs code ≡ o → outcomeOf s qs other ≡ o → (r ≡ s) × (rs ≡ qs) × (code ≡ other)
+outcome-unique r s rs qs code other e f =
+    let same = e ∙ sym f in
+    let answer = ap (λ (o : SharedOutcome). o .answer) same in
+    let kept = sharing-decides (r .counts) (s .counts) rs qs (ap (λ (o : SharedOutcome). o .journal) same) in
+    ((λ i. record { answer = answer i; counts = kept .0 i }), kept .1, ap (λ (o : SharedOutcome). o .code) same)

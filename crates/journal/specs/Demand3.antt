@@ -1,6 +1,6 @@
--- Demand 3: after any run of edits and undos the code is the first code with exactly the standing edits made in order.
--- It is about `editOf` and `undoOf`, with which the contracts of `edit` and `undo` equate all that the two functions do: between
--- this statement and the code stand those two contracts and nothing else. Assumes nothing.
+-- Demand 3: after any run of a party's edits and undos the code is the first code with exactly the standing edits made in order.
+-- It is about `editOf` and `undoOf`, by which the contracts of `edit` and `undo` say all that the two functions do with a party's journal:
+-- between this statement and the code stand those two contracts and nothing else. Assumes nothing.
 use Prim.Native.Nat.{ℕ, _+_, _*_, _≤_, _<_, _^_}
 use mathlib.Core.Path.{_≡_}
 use mathlib.Core.List.{List, [], _∷_, _++_}
@@ -21,15 +21,15 @@ pub data Call : Type 0 where
   edit : Edit → Call
   undo : Call
 
--- one call with a journal of so many places, given the code and the journal that the last handed back
-abbrev pub step : ℕ → Outcome → Call → Outcome
-step places s (edit e) = editOf places (s .code) (s .journal) e
-step places s undo = undoOf places (s .code) (s .journal)
+-- one call with a party's journal of so many places, given the code and the journal that the last handed back
+abbrev pub step : ℕ → ℕ → Outcome → Call → Outcome
+step party places s (edit e) = editOf party places (s .code) (s .journal) e
+step party places s undo = undoOf party places (s .code) (s .journal)
 
 -- a run from a first code and an empty journal; the last call stands first, so what is said of every run is said of every prefix
-abbrev pub run : ℕ → List ℕ → List Call → Outcome
-run places code [] = record { answer = accepted; journal = journalOf places []; code = code }
-run places code (call ∷ calls) = step places (run places code calls) call
+abbrev pub run : ℕ → ℕ → List ℕ → List Call → Outcome
+run party places code [] = record { answer = accepted; journal = journalOf places []; code = code }
+run party places code (call ∷ calls) = step party places (run party places code calls) call
 
 -- the code with edits made in order; the last stands first
 abbrev pub madeAll : List ℕ → List Edit → List ℕ
@@ -57,16 +57,16 @@ standingEdits places code [] = []
 standingEdits places code (call ∷ calls) = after places code (standingEdits places code calls) call
 
 -- the standing edits' records, the oldest first
-abbrev pub recordsOf : List ℕ → List Edit → List Record
-recordsOf code [] = []
-recordsOf code (e ∷ es) = recordsOf code es ++ (recordOf (madeAll code es) e ∷ [])
+abbrev pub recordsOf : ℕ → List ℕ → List Edit → List Record
+recordsOf party code [] = []
+recordsOf party code (e ∷ es) = recordsOf party code es ++ (recordOf party (madeAll code es) e ∷ [])
 
 -- what there is after a call
-abbrev pub expected : ℕ → List ℕ → List Edit → Call → Outcome
-expected places code es call =
+abbrev pub expected : ℕ → ℕ → List ℕ → List Edit → Call → Outcome
+expected party places code es call =
     record {
       answer = answerTo places code es call;
-      journal = journalOf places (recordsOf code (after places code es call));
+      journal = journalOf places (recordsOf party code (after places code es call));
       code = madeAll code (after places code es call);
     }
 
@@ -82,16 +82,16 @@ abbrev pub thenUndo : ℕ → List Call → List Call
 thenUndo n calls = replicate n undo ++ calls
 
 -- what demand 3 says after a run
-pub record Holds (places : ℕ) (code : List ℕ) (calls : List Call) : Type 0 where
-  pub code-is : run places code calls .code ≡ madeAll code (standingEdits places code calls)
-  pub journal-is : run places code calls .journal ≡ journalOf places (recordsOf code (standingEdits places code calls))
-  pub next-is : (call : Call) → run places code (call ∷ calls) ≡ expected places code (standingEdits places code calls) call
-  pub edits-only : (e : Edit) → run places code (edit e ∷ calls) .answer ≡ accepted → SetsOnlyItsBits (run places code calls .code) e
-  pub refused-keeps : (call : Call) → (run places code (call ∷ calls) .answer ≡ accepted → ⊥)
-      → (run places code (call ∷ calls) .code ≡ run places code calls .code) × (run places code (call ∷ calls) .journal ≡ run places code calls .journal)
-  pub undo-refused : (run places code (undo ∷ calls) .answer ≡ accepted → ⊥) → standingEdits places code calls ≡ []
-  pub undone : run places code (thenUndo (length (standingEdits places code calls)) calls) .code ≡ code
+pub record Holds (party places : ℕ) (code : List ℕ) (calls : List Call) : Type 0 where
+  pub code-is : run party places code calls .code ≡ madeAll code (standingEdits places code calls)
+  pub journal-is : run party places code calls .journal ≡ journalOf places (recordsOf party code (standingEdits places code calls))
+  pub next-is : (call : Call) → run party places code (call ∷ calls) ≡ expected party places code (standingEdits places code calls) call
+  pub edits-only : (e : Edit) → run party places code (edit e ∷ calls) .answer ≡ accepted → SetsOnlyItsBits (run party places code calls .code) e
+  pub refused-keeps : (call : Call) → (run party places code (call ∷ calls) .answer ≡ accepted → ⊥)
+      → (run party places code (call ∷ calls) .code ≡ run party places code calls .code) × (run party places code (call ∷ calls) .journal ≡ run party places code calls .journal)
+  pub undo-refused : (run party places code (undo ∷ calls) .answer ≡ accepted → ⊥) → standingEdits places code calls ≡ []
+  pub undone : run party places code (thenUndo (length (standingEdits places code calls)) calls) .code ≡ code
 
--- of every number of places, every code of at most `longestCode` bytes and every run
+-- of every party, every number of places, every code of at most `longestCode` bytes and every run
 abbrev pub Demand3 : Type 0
-Demand3 = (places : ℕ) (code : List ℕ) → ((i : ℕ) → getD code i 0 < 2 ^ 8) → length code ≤ longestCode → (calls : List Call) → Holds places code calls
+Demand3 = (party places : ℕ) (code : List ℕ) → ((i : ℕ) → getD code i 0 < 2 ^ 8) → length code ≤ longestCode → (calls : List Call) → Holds party places code calls

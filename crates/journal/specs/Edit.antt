@@ -1,4 +1,4 @@
--- The calls `edit` and `undo`. Assumes nothing.
+-- The calls `edit` and `undo`: what each comes to with one party's journal, and then with a journal that parties share. Assumes nothing.
 use Prim.Native.Nat.{ℕ, _+_, _*_}
 use mathlib.Core.Bool.{not}
 use mathlib.Core.List.{List, [], _∷_, _++_, dropLast}
@@ -11,7 +11,8 @@ use Rattle.form.specs.declared.Edit.{Edit}
 use Rattle.immediate.specs.Immediate.{changeRefusals, changedNumber}
 use Rattle.record.specs.Record.{editRecord, sameHalves}
 use Rattle.record.specs.declared.Record.{Record}
-use Rattle.records.specs.Journal.{Journal, lent, standing, journalOf, viewOf}
+use Rattle.records.specs.Journal.{Journal, standing, journalOf, viewOf}
+use Rattle.records.specs.Shared.{Shared, sharing, placesOf, servedOf, afterBy}
 use Rattle.records.specs.declared.View.{View}
 use Rattle.journal.specs.declared.Edited.{Edited}
 
@@ -33,10 +34,6 @@ pub record Outcome : Type 0 where
   pub journal : Journal
   pub code : List ℕ
 
--- what a call hands back, with the records and the code that it leaves
-abbrev pub outcomeOf : Edited → List Record → List ℕ → Outcome
-outcomeOf r records code = record { answer = r .answer; journal = lent (r .count) records; code = code }
-
 -- when none of so many places is left for a record, by what the journal shows
 abbrev pub roomRefusals : ℕ → View → List Refusal
 roomRefusals places view = (badJournal, not (view .valid)) ∷ (full, leb places (view .count)) ∷ []
@@ -45,16 +42,16 @@ roomRefusals places view = (badJournal, not (view .valid)) ∷ (full, leb places
 abbrev pub editRefusals : ℕ → List ℕ → View → Edit → List Refusal
 editRefusals places code view e = codeRefusals code e ++ roomRefusals places view
 
--- the record of an edit
-abbrev pub recordOf : List ℕ → Edit → Record
-recordOf code e = editRecord (numberAt code (e .bundle)) e
+-- the record of a party's edit
+abbrev pub recordOf : ℕ → List ℕ → Edit → Record
+recordOf party code e = editRecord party (numberAt code (e .bundle)) e
 
--- what `edit` comes to with a journal of so many places: one record more
-unfoldable pub editOf : ℕ → List ℕ → Journal → Edit → Outcome
-editOf places code journal e =
-    let answer = first (editRefusals places code (viewOf places journal) e) in
+-- what a party's edit comes to with its journal of so many places: one record more
+unfoldable pub editOf : ℕ → ℕ → List ℕ → Journal → Edit → Outcome
+editOf party places code journal e =
+    let answer = first (editRefusals places code (viewOf party places journal) e) in
     outcome answer
-    (record { answer = accepted; journal = journalOf places (standing journal ++ (recordOf code e ∷ [])); code = made code e })
+    (record { answer = accepted; journal = journalOf places (standing journal ++ (recordOf party code e ∷ [])); code = made code e })
     (record { answer = answer; journal = journal; code = code })
 
 -- when undoing is refused, by what the journal shows
@@ -68,12 +65,34 @@ undoRefusals code view =
     ∷ (stale, not (sameHalves (halvesOf (numberAt code (last .bundle))) (last .new)))
     ∷ []
 
--- what `undo` comes to: the last record's old bundle, and one record less
-unfoldable pub undoOf : ℕ → List ℕ → Journal → Outcome
-undoOf places code journal =
-    let view = viewOf places journal in
+-- what undoing comes to: the last record's old bundle, and one record less
+unfoldable pub undoOf : ℕ → ℕ → List ℕ → Journal → Outcome
+undoOf party places code journal =
+    let view = viewOf party places journal in
     let last = view .last in
     let answer = first (undoRefusals code view) in
     outcome answer
     (record { answer = accepted; journal = journalOf places (dropLast (standing journal)); code = rewritten code (last .bundle) (whole (last .old)) })
     (record { answer = answer; journal = journal; code = code })
+
+-- what a call answers, the shared journal and the code after it
+pub record SharedOutcome : Type 0 where
+  pub answer : ℕ
+  pub journal : Shared
+  pub code : List ℕ
+
+-- what a call hands back, with the records and the code that it leaves
+abbrev pub outcomeOf : Edited → List Record → List ℕ → SharedOutcome
+outcomeOf r records code = record { answer = r .answer; journal = sharing (r .counts) records; code = code }
+
+-- what a party's call comes to, by what it comes to with that party's journal
+abbrev pub byParty : Shared → ℕ → Outcome → SharedOutcome
+byParty s party o = record { answer = o .answer; journal = afterBy s party (o .answer) (o .journal); code = o .code }
+
+-- what `edit` comes to
+abbrev pub editBy : List ℕ → Shared → ℕ → Edit → SharedOutcome
+editBy code s party e = byParty s party (editOf party (placesOf (s .parties) party) code (servedOf s party) e)
+
+-- what `undo` comes to
+abbrev pub undoBy : List ℕ → Shared → ℕ → SharedOutcome
+undoBy code s party = byParty s party (undoOf party (placesOf (s .parties) party) code (servedOf s party))

@@ -15,11 +15,11 @@ use Rattle.journal.specs.declared.plan.Plan.{Plan}
 abbrev pub refusedPlan : ℕ → Plan
 refusedPlan answer = record { answer = answer; bundle = 0; halves = halvesOf 0; place = 0; kept = noRecord; count = 0 }
 
--- an edit keeps its record at the first free one of so many places
-unfoldable pub editPlanOf : ℕ → List ℕ → View → Edit → Plan
-editPlanOf places code view e =
+-- a party's edit keeps its record at the first free one of so many places
+unfoldable pub editPlanOf : ℕ → ℕ → List ℕ → View → Edit → Plan
+editPlanOf party places code view e =
     let answer = first (editRefusals places code view e) in
-    let r = recordOf code e in
+    let r = recordOf party code e in
     outcome answer (record { answer = accepted; bundle = e .bundle; halves = r .new; place = view .count; kept = r; count = view .count + 1 }) (refusedPlan answer)
 
 -- an undo frees the last record's place

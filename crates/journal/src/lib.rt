@@ -1,59 +1,77 @@
-// Edits of one immediate each, the journal of those that stand, and undoing the last.
+// Edits of one immediate each, the journals of those that stand, a party's each, and undoing a party's last.
 mod plan;
 
 ghost use mathlib.Core.Path.{_≡_};
+ghost use mathlib.Core.Bool.{true};
 ghost use Rattle.answer.specs.Answer.{accepted};
 ghost use Rattle.bundle.specs.Bundle.{findAnswer, whole};
-ghost use Rattle.records.specs.Journal.{limit, lent};
-ghost use Rattle.journal.specs.Edit.{outcomeOf, rewritten, editOf, undoOf};
+ghost use Rattle.records.specs.Shared.{sharing, serves, servedOf, ownView};
+ghost use Rattle.journal.specs.Edit.{outcomeOf, byParty, rewritten, editBy, undoBy};
 ghost use Rattle.journal.specs.Plan.{carriedOut};
 use answer::ACCEPTED;
 use bundle::Halves;
 use form::Edit;
 use plan::Plan;
 use record::Record;
+use records::Counts;
+use records::Own;
 
-// What a call answers, and how many records stand after it.
+// What a call answers, and how many records of each party stand after it.
 pub struct Edited {
     pub answer: u8,
-    pub count: u64,
+    pub counts: Counts,
 }
 
-// Makes an edit, and records its bundle before and after.
-pub fn edit(code: &mut [u8], count: u64, records: &mut [Record], edit: Edit) -> Edited
-    ensures { λ r. ⌜ outcomeOf r (now (records .exit)) (now (code .exit)) ≡ editOf limit (now (code .entry)) (lent count (now (records .entry))) edit ⌝ }
+// Makes a party's edit, and records its bundle before and after.
+pub fn edit(
+    code: &mut [u8],
+    counts: Counts,
+    records: &mut [Record],
+    party: u64,
+    edit: Edit,
+) -> Edited
+    ensures { λ r. ⌜ outcomeOf r (now (records .exit)) (now (code .exit)) ≡ editBy (now (code .entry)) (sharing counts (now (records .entry))) party edit ⌝ }
 {
-    let view = records::view_of(count, records);
-    let plan = plan::edit_plan(code, view, edit);
-    carry_out(code, count, records, plan)
+    let own = records::own_of(counts, records, party);
+    let view = own.view;
+    let plan = plan::edit_plan(code, party, own.places, view, edit);
+    carry_out(code, counts, records, party, own, plan)
 }
 
-// Writes the last record's old bundle, and frees its place.
-pub fn undo(code: &mut [u8], count: u64, records: &mut [Record]) -> Edited
-    ensures { λ r. ⌜ outcomeOf r (now (records .exit)) (now (code .exit)) ≡ undoOf limit (now (code .entry)) (lent count (now (records .entry))) ⌝ }
+// Writes the old bundle of a party's last record, and frees its place.
+pub fn undo(code: &mut [u8], counts: Counts, records: &mut [Record], party: u64) -> Edited
+    ensures { λ r. ⌜ outcomeOf r (now (records .exit)) (now (code .exit)) ≡ undoBy (now (code .entry)) (sharing counts (now (records .entry))) party ⌝ }
 {
-    let view = records::view_of(count, records);
+    let own = records::own_of(counts, records, party);
+    let view = own.view;
     let plan = plan::undo_plan(code, view);
-    carry_out(code, count, records, plan)
+    carry_out(code, counts, records, party, own, plan)
 }
 
-// Writes a plan's bundle and keeps its record, where it was accepted.
-fn carry_out(code: &mut [u8], count: u64, records: &mut [Record], plan: Plan) -> Edited
-    requires { ⌜ (plan .answer ≡ accepted → findAnswer (now code) (plan .bundle) ≡ accepted) ⌝ }
-    ensures { λ r. ⌜ outcomeOf r (now (records .exit)) (now (code .exit)) ≡ carriedOut (now (code .entry)) (lent count (now (records .entry))) plan ⌝ }
+// Writes a plan's bundle and keeps its record in the party's part of the slice, where it was accepted.
+fn carry_out(
+    code: &mut [u8],
+    counts: Counts,
+    records: &mut [Record],
+    party: u64,
+    own: Own,
+    plan: Plan,
+) -> Edited
+    requires { ⌜ (own ≡ ownView (sharing counts (now records)) party) × (plan .answer ≡ accepted → (serves (sharing counts (now records)) party ≡ true) × (findAnswer (now code) (plan .bundle) ≡ accepted)) ⌝ }
+    ensures { λ r. ⌜ outcomeOf r (now (records .exit)) (now (code .exit)) ≡ byParty (sharing counts (now (records .entry))) party (carriedOut (now (code .entry)) (servedOf (sharing counts (now (records .entry))) party) plan) ⌝ }
 {
     let answer = plan.answer;
     if answer != ACCEPTED {
-        return Edited { answer, count };
+        return Edited { answer, counts };
     }
+    let first = own.first as usize;
+    let end = (own.first + own.places) as usize;
     let kept = plan.kept;
-    records::put(records, plan.place, kept);
+    records::put(&mut records[first..end], plan.place, kept);
     let halves = plan.halves;
     rewrite(code, plan.bundle, halves);
-    Edited {
-        answer,
-        count: plan.count,
-    }
+    let counts = records::with_count(counts, party, plan.count);
+    Edited { answer, counts }
 }
 
 // Lends a bundle's sixteen bytes on to be written.

@@ -2,7 +2,6 @@
 ghost use mathlib.Core.Path.{_≡_};
 ghost use Rattle.answer.specs.Answer.{first};
 ghost use Rattle.journal.specs.Edit.{roomRefusals, undoRefusals};
-ghost use Rattle.records.specs.Journal.{limit};
 ghost use Rattle.journal.specs.Plan.{refusedPlan, editPlanOf, undoPlanOf};
 use answer::ACCEPTED;
 use answer::BAD_JOURNAL;
@@ -15,7 +14,6 @@ use bundle::Halves;
 use form::Edit;
 use record::NONE;
 use record::Record;
-use records::LIMIT;
 use records::View;
 
 // The answer, the bundle to write, the record to keep and its place, and how many records stand then.
@@ -41,9 +39,9 @@ fn refused(answer: u8) -> Plan
     }
 }
 
-// An edit keeps its record at the first free place.
-pub fn edit_plan(code: &[u8], view: View, edit: Edit) -> Plan
-    ensures { λ r. ⌜ r ≡ editPlanOf limit (now (code .entry)) view edit ⌝ }
+// A party's edit keeps its record at the first free one of so many places.
+pub fn edit_plan(code: &[u8], party: u64, places: u64, view: View, edit: Edit) -> Plan
+    ensures { λ r. ⌜ r ≡ editPlanOf party places (now (code .entry)) view edit ⌝ }
 {
     let bundle = edit.bundle;
     let loaded = bundle::load(code, bundle);
@@ -58,7 +56,7 @@ pub fn edit_plan(code: &[u8], view: View, edit: Edit) -> Plan
         return refused(unfit);
     }
     let count = view.count;
-    let answer = room_refusal(view);
+    let answer = room_refusal(places, view);
     if answer != ACCEPTED {
         return refused(answer);
     }
@@ -71,6 +69,7 @@ pub fn edit_plan(code: &[u8], view: View, edit: Edit) -> Plan
         halves: new,
         place: count,
         kept: Record {
+            party,
             bundle,
             slot: edit.slot,
             form,
@@ -82,14 +81,14 @@ pub fn edit_plan(code: &[u8], view: View, edit: Edit) -> Plan
     }
 }
 
-// Why no record can be added.
-fn room_refusal(view: View) -> u8
-    ensures { λ r. ⌜ r ≡ first (roomRefusals limit view) ⌝ }
+// Why no record can be added to those at so many places.
+fn room_refusal(places: u64, view: View) -> u8
+    ensures { λ r. ⌜ r ≡ first (roomRefusals places view) ⌝ }
 {
     if !view.valid {
         return BAD_JOURNAL;
     }
-    if LIMIT <= view.count {
+    if places <= view.count {
         return FULL;
     }
     ACCEPTED

@@ -4,18 +4,19 @@ use crate::kept;
 use form::Edit;
 use record::NONE;
 use record::Record;
+use records::Counts;
 
-// What a line calls for.
+// What a line calls for; where a party does, its number comes first.
 pub enum Call {
     None,
-    Journal(u64, u64),
+    Journal(Counts, u64),
     Place(u64, Record),
     Records,
-    Edit(Edit),
-    Undo,
-    Sheet,
-    Line(u64),
-    Load,
+    Edit(u64, Edit),
+    Undo(u64),
+    Sheet(u64),
+    Line(u64, u64),
+    Load(u64),
 }
 
 // Makes a call on the parts that the code, the journal and what is lent have.
@@ -45,14 +46,14 @@ pub fn make(
     kept: &mut [u64],
     records: &mut [Record],
 ) {
-    let count = kept::get(kept, kept::COUNT);
+    let counts = kept::counts(kept);
     match call {
         Call::None => {
             return;
         }
-        Call::Journal(count, places) => {
+        Call::Journal(counts, places) => {
             clear(records);
-            kept::set_journal(kept, count, places);
+            kept::set_journal(kept, counts, places);
         }
         Call::Place(i, one) => {
             records::put(records, i, one);
@@ -61,24 +62,24 @@ pub fn make(
             let length = show(records, lent);
             kept::set(kept, kept::WRITTEN, length as u64);
         }
-        Call::Edit(edit) => {
-            let edited = journal::edit(code, count, records, edit);
+        Call::Edit(party, edit) => {
+            let edited = journal::edit(code, counts, records, party, edit);
             kept::keep(kept, edited);
         }
-        Call::Undo => {
-            let undone = journal::undo(code, count, records);
+        Call::Undo(party) => {
+            let undone = journal::undo(code, counts, records, party);
             kept::keep(kept, undone);
         }
-        Call::Sheet => {
-            let written = sheet::write(count, records, lent);
+        Call::Sheet(party) => {
+            let written = sheet::write(counts, records, party, lent);
             kept::keep_written(kept, written);
         }
-        Call::Line(i) => {
-            let written = sheet::write_line(i, count, records, lent);
+        Call::Line(party, i) => {
+            let written = sheet::write_line(i, counts, records, party, lent);
             kept::keep_written(kept, written);
         }
-        Call::Load => {
-            let loaded = sheet::load(count, records, lent);
+        Call::Load(party) => {
+            let loaded = sheet::load(counts, records, party, lent);
             kept::keep(kept, loaded);
         }
     }

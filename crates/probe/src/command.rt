@@ -39,12 +39,12 @@ struct Line {
 // No answer ends there, since each starts with a word: the line doesn't read.
 pub const UNREAD: usize = 0;
 
-const NAMES: [u8; 122] =
-    *b"code get sum find cut join operands immediate target put report clear records undo edit load journal place sheet sheetline";
+const NAMES: [u8; 127] =
+    *b"code get sum find cut join operands immediate target put report clear records undo edit load open journal place sheet sheetline";
 
 // The words that the answers start with.
-const WORDS: [u8; 110] =
-    *b"ok bytes sum find cut join operands immediate target ok report ok records undo edit load ok ok sheet sheetline";
+const WORDS: [u8; 113] =
+    *b"ok bytes sum find cut join operands immediate target ok report ok records undo edit load ok ok ok sheet sheetline";
 
 // Places in both lists.
 const CODE: u64 = 0;
@@ -79,13 +79,15 @@ const EDIT: u64 = 14;
 
 const LOAD: u64 = 15;
 
-const JOURNAL: u64 = 16;
+const OPEN: u64 = 16;
 
-const PLACE: u64 = 17;
+const JOURNAL: u64 = 17;
 
-const SHEET: u64 = 18;
+const PLACE: u64 = 18;
 
-const SHEETLINE: u64 = 19;
+const SHEET: u64 = 19;
+
+const SHEETLINE: u64 = 20;
 
 // Answers a line on a code, in its room, from `at` on. Where it calls for the records, only its word is written.
 pub fn answer(
@@ -132,11 +134,11 @@ fn count(command: u64) -> usize
     ensures { λ r. ⌜ r ≤ 6 ⌝ }
 {
     match command {
-        SUM | REPORT | CLEAR | RECORDS | UNDO | LOAD => 0,
-        GET | SHEETLINE => 2,
-        PLACE => 3,
-        OPERANDS | IMMEDIATE | EDIT => 4,
-        JOIN | TARGET => 5,
+        SUM | REPORT | CLEAR | RECORDS => 0,
+        GET | SHEET => 2,
+        JOURNAL | PLACE | SHEETLINE => 3,
+        OPERANDS | IMMEDIATE => 4,
+        JOIN | TARGET | EDIT => 5,
         _ => 1,
     }
 }
@@ -157,13 +159,14 @@ fn word(out: &mut [u8], at: usize, command: u64) -> usize {
 fn asked(command: u64, of: Six, rest: &[u8], lent: &mut [u8], kept: &mut [u64]) -> Call {
     match command {
         RECORDS => recorded::asked(kept),
-        UNDO => Call::Undo,
+        UNDO => Call::Undo(of.0),
         EDIT => edit::asked(of, rest),
-        LOAD => load::asked(rest, lent, kept),
-        JOURNAL => journals::asked(of.0, rest),
+        LOAD => load::asked(of.0, rest, lent, kept),
+        OPEN => journals::open_asked(of.0),
+        JOURNAL => journals::asked(of, rest),
         PLACE => place::asked(of, rest, kept),
-        SHEET => sheets::asked(of.0, lent, kept),
-        SHEETLINE => sheets::line_asked(of.0, of.1, lent, kept),
+        SHEET => sheets::asked(of.0, of.1, lent, kept),
+        SHEETLINE => sheets::line_asked(of, lent, kept),
         _ => Call::None,
     }
 }

@@ -1,48 +1,55 @@
 // What is kept between the lines, a number at each of these places.
 ghost use Prim.Native.Nat.{_≤_};
 use journal::Edited;
+use records::Counts;
 use tally::NUMBERS;
 use text::Written;
 
 // The most places that a journal has here.
 pub const MOST_PLACES: usize = 2048;
 
-// The journal's count, and how many places it has.
-pub const COUNT: usize = 0;
+// The journal's counts, and how many places it has.
+const PARTIES: usize = 0;
 
-pub const PLACES: usize = 1;
+const LOWER: usize = 1;
+
+const UPPER: usize = 2;
+
+pub const PLACES: usize = 3;
 
 // The code's length.
-pub const LENGTH: usize = 2;
+pub const LENGTH: usize = 4;
 
 // How many bytes of input are held, and where those begin that are not answered yet.
-pub const HELD: usize = 3;
+pub const HELD: usize = 5;
 
-pub const FROM: usize = 4;
+pub const FROM: usize = 6;
 
 // Whether the start of the line at hand is gone, since there was no room for it.
-pub const CUT: usize = 5;
+pub const CUT: usize = 7;
 
 // Whether the input has ended.
-pub const OVER: usize = 6;
+pub const OVER: usize = 8;
 
 // How many bytes of output are not written yet.
-pub const AT: usize = 7;
+pub const AT: usize = 9;
 
 // The command that calls for the records, or 0, and how much room it is lent.
-pub const COMMAND: usize = 8;
+pub const COMMAND: usize = 10;
 
-pub const LENT: usize = 9;
+pub const LENT: usize = 11;
 
 // What it answered, and how many bytes it wrote.
-pub const ANSWER: usize = 10;
+pub const ANSWER: usize = 12;
 
-pub const WRITTEN: usize = 11;
+pub const WRITTEN: usize = 13;
 
-const REPORT: usize = 12;
+const REPORT: usize = 14;
 
+// At first the journal is one opened for one party.
 pub fn first() -> [u64; REPORT + NUMBERS] {
     let mut kept = [0; REPORT + NUMBERS];
+    kept[PARTIES] = 1;
     kept[PLACES] = records::LIMIT;
     kept
 }
@@ -65,15 +72,29 @@ pub fn set(kept: &mut [u64], i: usize, n: u64) {
     }
 }
 
-pub fn set_journal(kept: &mut [u64], count: u64, places: u64) {
-    set(kept, COUNT, count);
+pub fn counts(kept: &[u64]) -> Counts {
+    Counts {
+        parties: get(kept, PARTIES),
+        lower: get(kept, LOWER),
+        upper: get(kept, UPPER),
+    }
+}
+
+fn set_counts(kept: &mut [u64], counts: Counts) {
+    set(kept, PARTIES, counts.parties);
+    set(kept, LOWER, counts.lower);
+    set(kept, UPPER, counts.upper);
+}
+
+pub fn set_journal(kept: &mut [u64], counts: Counts, places: u64) {
+    set_counts(kept, counts);
     set(kept, PLACES, places);
 }
 
 // Keeps what an edit, an undo or a load gave.
 pub fn keep(kept: &mut [u64], edited: Edited) {
     set(kept, ANSWER, edited.answer as u64);
-    set(kept, COUNT, edited.count);
+    set_counts(kept, edited.counts);
 }
 
 // Keeps what writing a sheet or its line gave.

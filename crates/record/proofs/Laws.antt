@@ -5,7 +5,7 @@ use mathlib.Core.Bool.{Bool, true, false, _&&_, _||_, or-true}
 use mathlib.Core.Logic.{_⊎_, inl, inr}
 use Prim.Native.Nat.{ℕ, _≤_, _<_, _^_}
 use borrow.Author.Tests.{eq-eqb}
-use lib.Dec.{T, eqb, eqb→eq}
+use lib.Dec.{T, eqb, leb, eqb→eq}
 use mir.Facts.{and-yes}
 use Rattle.answer.specs.Answer.{accepted, first}
 use Rattle.bundle.specs.Bundle.{halvesOf, whole}
@@ -21,7 +21,7 @@ use Rattle.row.proofs.Lettered.{row-lettered}
 use Rattle.immediate.specs.Immediate.{changeRefusals, changedNumber, changedOf}
 use Rattle.immediate.specs.declared.outcome.Changed.{Changed}
 use Rattle.immediate.proofs.Laws.{Stands, stands, changed-answer, changed-taken, change-read, change-sound, change-raw}
-use Rattle.record.specs.Record.{editRecord, wholeRecord, isWhole, sameHalves, noRecord, noHalves, isFree, told, gives, passes}
+use Rattle.record.specs.Record.{highest, editRecord, wholeRecord, isWhole, sameHalves, noRecord, noHalves, isFree, told, gives, passes, mayStand}
 use Rattle.record.specs.declared.Record.{Record}
 
 -- the same halves, both ways
@@ -36,12 +36,13 @@ halves-same a b t =
     λ i. record { low = low i; high = high i }
 
 -- a record of a whole bundle is the one of its bundles
-pub whole-is : (r : Record) → T (isWhole r) → r ≡ wholeRecord (r .bundle) (r .old) (r .new)
+pub whole-is : (r : Record) → T (isWhole r) → r ≡ wholeRecord (r .party) (r .bundle) (r .old) (r .new)
 whole-is r t =
     let a = and-yes (eqb (r .slot) 0 && (eqb (r .form .family) 0 && eqb (r .form .number) 0)) (eqb (r .value) 0) t in
     let b = and-yes (eqb (r .slot) 0) (eqb (r .form .family) 0 && eqb (r .form .number) 0) (a .0) in
     let c = and-yes (eqb (r .form .family) 0) (eqb (r .form .number) 0) (b .1) in
     λ i. record {
+      party = r .party;
       bundle = r .bundle;
       slot = eqb→eq (r .slot) 0 (b .0) i;
       form = record { family = eqb→eq (r .form .family) 0 (c .0) i; number = eqb→eq (r .form .number) 0 (c .1) i };
@@ -51,20 +52,22 @@ whole-is r t =
     }
 
 -- and it passes
-pub whole-passes : (bundle : ℕ) (old new : Halves) → passes (wholeRecord bundle old new) ≡ true
+pub whole-passes : (party bundle : ℕ) (old new : Halves) → passes (wholeRecord party bundle old new) ≡ true
 unfolding passes
-whole-passes bundle old new = refl
+whole-passes party bundle old new = refl
 
 -- a free place holds no record
 pub free-is-none : (r : Record) → T (isFree r) → r ≡ noRecord
 free-is-none r t =
-    let a = and-yes (isWhole r && eqb (r .bundle) 0 && sameHalves (r .old) noHalves) (sameHalves (r .new) noHalves) t in
-    let b = and-yes (isWhole r && eqb (r .bundle) 0) (sameHalves (r .old) noHalves) (a .0) in
-    let c = and-yes (isWhole r) (eqb (r .bundle) 0) (b .0) in
+    let a = and-yes (isWhole r && eqb (r .party) 0 && eqb (r .bundle) 0 && sameHalves (r .old) noHalves) (sameHalves (r .new) noHalves) t in
+    let b = and-yes (isWhole r && eqb (r .party) 0 && eqb (r .bundle) 0) (sameHalves (r .old) noHalves) (a .0) in
+    let c = and-yes (isWhole r && eqb (r .party) 0) (eqb (r .bundle) 0) (b .0) in
+    let d = and-yes (isWhole r) (eqb (r .party) 0) (c .0) in
+    let party = eqb→eq (r .party) 0 (d .1) in
     let bundle = eqb→eq (r .bundle) 0 (c .1) in
     let old = halves-same (r .old) noHalves (b .1) in
     let new = halves-same (r .new) noHalves (a .1) in
-    whole-is r (c .0) ∙ (λ i. wholeRecord (bundle i) (old i) (new i))
+    whole-is r (d .0) ∙ (λ i. wholeRecord (party i) (bundle i) (old i) (new i))
 
 -- a record that passes is one of a whole bundle, or its edit is taken
 either : (a b : Bool) → (a || b) ≡ true → (a ≡ true) ⊎ (b ≡ true)
@@ -103,17 +106,17 @@ module _ (n : ℕ) (e : Edit) (taken : first (changeRefusals n e) ≡ accepted) 
   edit-pattern = edit-value .1
 
   -- its record tells of it
-  pub edit-told : told (editRecord n e) ≡ e
-  edit-told = λ i. record { bundle = e .bundle; slot = e .slot; form = e .form; value = edit-value .0 i }
+  pub edit-told : (party : ℕ) → told (editRecord party n e) ≡ e
+  edit-told party = λ i. record { bundle = e .bundle; slot = e .slot; form = e .form; value = edit-value .0 i }
 
-  pub edit-passes : n < 2 ^ 128 → passes (editRecord n e) ≡ true
+  pub edit-passes : (party : ℕ) → n < 2 ^ 128 → passes (editRecord party n e) ≡ true
   unfolding passes
-  edit-passes h =
-      ap (λ (b : Bool). isWhole (editRecord n e) || b)
-      (ap₂ (λ (m : ℕ) (f : Edit). gives (changedOf m f) (halvesOf (changedNumber n e))) (whole-halves n h) edit-told
+  edit-passes party h =
+      ap (λ (b : Bool). isWhole (editRecord party n e) || b)
+      (ap₂ (λ (m : ℕ) (f : Edit). gives (changedOf m f) (halvesOf (changedNumber n e))) (whole-halves n h) (edit-told party)
       ∙ ap (λ (c : Changed). gives c (halvesOf (changedNumber n e))) (changed-taken n e taken)
       ∙ same-halves (halvesOf (changedNumber n e)))
-      ∙ or-true (isWhole (editRecord n e))
+      ∙ or-true (isWhole (editRecord party n e))
 
 -- a record that passes has no form, or one with a capital letter and a number of at most 48
 pub passes-form : (r : Record) → passes r ≡ true → (r .form ≡ noForm) ⊎ ((65 ≤ r .form .family) × (r .form .family ≤ 90) × (r .form .number ≤ 48))
@@ -123,3 +126,14 @@ passes-form r e = by (passes-by r e)
         → (r .form ≡ noForm) ⊎ ((65 ≤ r .form .family) × (r .form .family ≤ 90) × (r .form .number ≤ 48))
     by (inl w) = inl (ap (λ (q : Record). q .form) (whole-is r (subst T (sym w) tt)))
     by (inr t) = inr (edit-form (whole (r .old)) (told r) t)
+
+-- a record that may stand in a party's journal
+module _ (party : ℕ) (r : Record) (m : T (mayStand party r)) where
+  pub may-near : T (leb (r .bundle) highest)
+  may-near = and-yes (leb (r .bundle) highest) (passes r && eqb (r .party) party) m .0
+
+  pub may-passes : T (passes r)
+  may-passes = and-yes (passes r) (eqb (r .party) party) (and-yes (leb (r .bundle) highest) (passes r && eqb (r .party) party) m .1) .0
+
+  pub may-party : r .party ≡ party
+  may-party = eqb→eq (r .party) party (and-yes (passes r) (eqb (r .party) party) (and-yes (leb (r .bundle) highest) (passes r && eqb (r .party) party) m .1) .1)

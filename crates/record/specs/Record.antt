@@ -19,14 +19,14 @@ use Rattle.record.specs.declared.Record.{Record}
 abbrev pub highest : ℕ
 highest = 4095
 
--- the record of an edit of bundle n
-abbrev pub editRecord : ℕ → Edit → Record
-editRecord n e =
-    record { bundle = e .bundle; slot = e .slot; form = e .form; value = patternIn (e .value); old = halvesOf n; new = halvesOf (changedNumber n e) }
+-- the record of a party's edit of bundle n
+abbrev pub editRecord : ℕ → ℕ → Edit → Record
+editRecord party n e =
+    record { party = party; bundle = e .bundle; slot = e .slot; form = e .form; value = patternIn (e .value); old = halvesOf n; new = halvesOf (changedNumber n e) }
 
 -- a record of a whole bundle: slot 0, no form, value 0
-abbrev pub wholeRecord : ℕ → Halves → Halves → Record
-wholeRecord bundle old new = record { bundle = bundle; slot = 0; form = noForm; value = 0; old = old; new = new }
+abbrev pub wholeRecord : ℕ → ℕ → Halves → Halves → Record
+wholeRecord party bundle old new = record { party = party; bundle = bundle; slot = 0; form = noForm; value = 0; old = old; new = new }
 
 abbrev pub isWhole : Record → Bool
 isWhole r = eqb (r .slot) 0 && same (r .form) noForm && eqb (r .value) 0
@@ -35,15 +35,15 @@ isWhole r = eqb (r .slot) 0 && same (r .form) noForm && eqb (r .value) 0
 abbrev pub sameHalves : Halves → Halves → Bool
 sameHalves a b = eqb (a .low) (b .low) && eqb (a .high) (b .high)
 
--- a free place: all nine numbers are zero
+-- a free place: all ten numbers are zero
 abbrev pub noHalves : Halves
 noHalves = record { low = 0; high = 0 }
 
 abbrev pub noRecord : Record
-noRecord = wholeRecord 0 noHalves noHalves
+noRecord = wholeRecord 0 0 noHalves noHalves
 
 abbrev pub isFree : Record → Bool
-isFree r = isWhole r && eqb (r .bundle) 0 && sameHalves (r .old) noHalves && sameHalves (r .new) noHalves
+isFree r = isWhole r && eqb (r .party) 0 && eqb (r .bundle) 0 && sameHalves (r .old) noHalves && sameHalves (r .new) noHalves
 
 -- the edit that a record tells of
 abbrev pub told : Record → Edit
@@ -57,9 +57,9 @@ gives changed new = eqb (changed .answer) accepted && sameHalves (changed .bundl
 unfoldable pub passes : Record → Bool
 passes r = isWhole r || gives (changedOf (whole (r .old)) (told r)) (r .new)
 
--- a record that may stand
-abbrev pub mayStand : Record → Bool
-mayStand r = leb (r .bundle) highest && passes r
+-- a record that may stand in a party's journal
+abbrev pub mayStand : ℕ → Record → Bool
+mayStand party r = leb (r .bundle) highest && (passes r && eqb (r .party) party)
 
 -- numbers of 64 bits
 abbrev pub areWords : List ℕ → Bool

@@ -13,10 +13,11 @@ use row::Row;
 // The highest number of a bundle.
 const HIGHEST: u64 = 4095;
 
-// The slot, form and value are those of the edit, the value by its 64-bit pattern; a record of a whole bundle has slot 0,
+// The slot, form and value are those of the party's edit, the value by its 64-bit pattern; a record of a whole bundle has slot 0,
 // no form and value 0.
 #[repr(C)]
 pub struct Record {
+    pub party: u64,
     pub bundle: u64,
     pub slot: u64,
     pub form: Form,
@@ -29,6 +30,7 @@ const ZERO: Halves = Halves { low: 0, high: 0 };
 
 // What a free place holds.
 pub const NONE: Record = Record {
+    party: 0,
     bundle: 0,
     slot: 0,
     form: NO_FORM,
@@ -37,10 +39,11 @@ pub const NONE: Record = Record {
     new: ZERO,
 };
 
-pub fn whole_record(bundle: u64, old: Halves, new: Halves) -> Record
-    ensures { λ r. ⌜ r ≡ wholeRecord bundle old new ⌝ }
+pub fn whole_record(party: u64, bundle: u64, old: Halves, new: Halves) -> Record
+    ensures { λ r. ⌜ r ≡ wholeRecord party bundle old new ⌝ }
 {
     Record {
+        party,
         bundle,
         slot: 0,
         form: NO_FORM,
@@ -67,7 +70,11 @@ pub fn is_free(place: Record) -> bool
 {
     let old = place.old;
     let new = place.new;
-    is_whole(place) & (place.bundle == 0) & same_halves(old, ZERO) & same_halves(new, ZERO)
+    is_whole(place)
+        & (place.party == 0)
+        & (place.bundle == 0)
+        & same_halves(old, ZERO)
+        & same_halves(new, ZERO)
 }
 
 // The edit that a record tells of, by the row of its form.
@@ -101,11 +108,8 @@ fn passes(one: Record) -> bool
     (changed.answer == ACCEPTED) & same_halves(made, new)
 }
 
-pub fn may_stand(one: Record) -> bool
-    ensures { λ r. ⌜ r ≡ mayStand one ⌝ }
+pub fn may_stand(party: u64, one: Record) -> bool
+    ensures { λ r. ⌜ r ≡ mayStand party one ⌝ }
 {
-    if HIGHEST < one.bundle {
-        return false;
-    }
-    passes(one)
+    (one.bundle <= HIGHEST) & (passes(one) & (one.party == party))
 }

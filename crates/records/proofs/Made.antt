@@ -3,7 +3,8 @@ pub mod all_stand
 pub mod free
 pub mod get
 pub mod get_at
+pub mod is_served
 pub mod is_valid
+pub mod own_of
 pub mod put
 pub mod put_at
-pub mod view_of

@@ -64,14 +64,14 @@ all-free (suc n) = all-free n
 
 pub journal-valid : JournalValid
 unfolding validOf standing journalOf
-journal-valid places rs = go (leb (length rs) places) refl
+journal-valid party places rs = go (leb (length rs) places) refl
   where
-    go : (few : Bool) → leb (length rs) places ≡ few → validOf places (journalOf places rs) ≡ few && all mayStand rs
+    go : (few : Bool) → leb (length rs) places ≡ few → validOf party places (journalOf places rs) ≡ few && all (mayStand party) rs
     go false e = rw (e, and-false (eqb (length (rs ++ free places (length rs))) places))
     go true e =
         let few : length rs ≤ places = leb-true _ _ e in
         let long : length (rs ++ free places (length rs)) ≡ places = omega (arith, length-append rs (free places (length rs)), length-replicate (places - length rs) noRecord) in
-        rw (e, take-append-seam rs (free places (length rs)), drop-append-seam rs (free places (length rs)), all-free (places - length rs), eq-eqb _ _ long) (and-true (all mayStand rs))
+        rw (e, take-append-seam rs (free places (length rs)), drop-append-seam rs (free places (length rs)), all-free (places - length rs), eq-eqb _ _ long) (and-true (all (mayStand party) rs))
 
 free-are-none : (rs : List Record) → T (all isFree rs) → rs ≡ replicate (length rs) noRecord
 free-are-none [] t = refl
@@ -81,10 +81,10 @@ free-are-none (r ∷ rs) t =
 
 pub valid-is-journal : ValidIsJournal
 unfolding validOf standing journalOf
-valid-is-journal places j v =
+valid-is-journal party places j v =
     let rs = j .records in
-    let t = and-yes (eqb (length rs) places && leb (j .count) places && all mayStand (take (j .count) rs)) (all isFree (drop (j .count) rs)) (subst T (sym v) tt) in
-    let u = and-yes (eqb (length rs) places && leb (j .count) places) (all mayStand (take (j .count) rs)) (t .0) in
+    let t = and-yes (eqb (length rs) places && leb (j .count) places && all (mayStand party) (take (j .count) rs)) (all isFree (drop (j .count) rs)) (subst T (sym v) tt) in
+    let u = and-yes (eqb (length rs) places && leb (j .count) places) (all (mayStand party) (take (j .count) rs)) (t .0) in
     let w = and-yes (eqb (length rs) places) (leb (j .count) places) (u .0) in
     let long : length rs ≡ places = eqb→eq (length rs) places (w .0) in
     let few : j .count ≤ places = leb→le (j .count) places (w .1) in
@@ -170,79 +170,83 @@ journal-pops places (r ∷ rs) h =
     λ i. record { count = long i; records = records i }
 
 -- what a valid journal is, by the records that stand in it
-module _ (places : ℕ) (j : Journal) (v : validOf places j ≡ true) where
+module _ (party places : ℕ) (j : Journal) (v : validOf party places j ≡ true) where
   pub valid-counts : j .count ≡ length (standing j)
-  valid-counts = ap (λ (i : Journal). i .count) (sym (valid-is-journal places j v)) ∙ journal-counts places (standing j)
+  valid-counts = ap (λ (i : Journal). i .count) (sym (valid-is-journal party places j v)) ∙ journal-counts places (standing j)
 
   pub valid-places : length (j .records) ≡ places
   unfolding validOf
   valid-places =
       let rs = j .records in
-      let t = and-yes (eqb (length rs) places && leb (j .count) places && all mayStand (standing j)) (all isFree (drop (j .count) rs)) (subst T (sym v) tt) in
-      let u = and-yes (eqb (length rs) places && leb (j .count) places) (all mayStand (standing j)) (t .0) in
+      let t = and-yes (eqb (length rs) places && leb (j .count) places && all (mayStand party) (standing j)) (all isFree (drop (j .count) rs)) (subst T (sym v) tt) in
+      let u = and-yes (eqb (length rs) places && leb (j .count) places) (all (mayStand party) (standing j)) (t .0) in
       eqb→eq (length rs) places (and-yes (eqb (length rs) places) (leb (j .count) places) (u .0) .0)
 
-  valid-tests : T (leb (length (standing j)) places) × T (all mayStand (standing j))
+  valid-tests : T (leb (length (standing j)) places) × T (all (mayStand party) (standing j))
   valid-tests =
-      and-yes (leb (length (standing j)) places) (all mayStand (standing j))
-      (subst T (sym v ∙ ap (validOf places) (sym (valid-is-journal places j v)) ∙ journal-valid places (standing j)) tt)
+      and-yes (leb (length (standing j)) places) (all (mayStand party) (standing j))
+      (subst T (sym v ∙ ap (validOf party places) (sym (valid-is-journal party places j v)) ∙ journal-valid party places (standing j)) tt)
 
   pub valid-few : length (standing j) ≤ places
   valid-few = leb→le _ _ (valid-tests .0)
 
-  pub valid-stand : T (all mayStand (standing j))
+  pub valid-stand : T (all (mayStand party) (standing j))
   valid-stand = valid-tests .1
 
   pub valid-reads : (i : ℕ) → recordAt j i ≡ getD (standing j) i noRecord
-  valid-reads i = ap (λ (j : Journal). recordAt j i) (sym (valid-is-journal places j v)) ∙ journal-reads places (standing j) i
+  valid-reads i = ap (λ (j : Journal). recordAt j i) (sym (valid-is-journal party places j v)) ∙ journal-reads places (standing j) i
 
   valid-last : recordAt j (j .count - 1) ≡ getLastD (standing j) noRecord
   valid-last = ap (λ (n : ℕ). recordAt j (n - 1)) valid-counts ∙ valid-reads (length (standing j) - 1) ∙ sym (last-at (standing j))
 
   -- what is shown of it
-  valid-view : viewOf places j ≡ record { valid = true; count = j .count; last = recordAt j (j .count - 1) }
+  valid-view : viewOf party places j ≡ record { valid = true; count = j .count; last = recordAt j (j .count - 1) }
   unfolding viewOf
   valid-view = rw v (λ i. record { valid = true; count = sym valid-counts i; last = sym valid-last i })
 
 -- what is shown of any journal, by its places
-pub view-shown : (places : ℕ) (j : Journal) → viewOf places j ≡ shown (validOf places j) (j .count) (recordAt j (j .count - 1))
+pub view-shown : (party places : ℕ) (j : Journal) → viewOf party places j ≡ shown (validOf party places j) (j .count) (recordAt j (j .count - 1))
 unfolding viewOf
-view-shown places j = go (validOf places j) refl
+view-shown party places j = go (validOf party places j) refl
   where
-    go : (t : Bool) → validOf places j ≡ t → viewOf places j ≡ shown t (j .count) (recordAt j (j .count - 1))
-    go true v = valid-view places j v
+    go : (t : Bool) → validOf party places j ≡ t → viewOf party places j ≡ shown t (j .count) (recordAt j (j .count - 1))
+    go true v = valid-view party places j v
     go false v = rw v
 
+-- a valid one shows its count
+pub view-counts : (party places : ℕ) (j : Journal) → validOf party places j ≡ true → viewOf party places j .count ≡ j .count
+view-counts party places j v = ap (λ (w : View). w .count) (valid-view party places j v)
+
 -- what a valid journal of some records shows
-pub journal-shows : (places : ℕ) (rs : List Record) → validOf places (journalOf places rs) ≡ true → viewOf places (journalOf places rs) ≡ record { valid = true; count = length rs; last = getLastD rs noRecord }
+pub journal-shows : (party places : ℕ) (rs : List Record) → validOf party places (journalOf places rs) ≡ true → viewOf party places (journalOf places rs) ≡ record { valid = true; count = length rs; last = getLastD rs noRecord }
 unfolding viewOf
-journal-shows places rs v = rw (v, journal-stands)
+journal-shows party places rs v = rw (v, journal-stands)
 
 -- a journal shows whether it is valid
-pub view-shows : (places : ℕ) (j : Journal) → viewOf places j .valid ≡ validOf places j
+pub view-shows : (party places : ℕ) (j : Journal) → viewOf party places j .valid ≡ validOf party places j
 unfolding viewOf
-view-shows places j = go (validOf places j)
+view-shows party places j = go (validOf party places j)
   where
     go : (t : Bool) → shown t (length (standing j)) (getLastD (standing j) noRecord) .valid ≡ t
     go true = refl
     go false = refl
 
 -- a journal that is shown as valid
-module _ (places : ℕ) (j : Journal) (v : viewOf places j .valid ≡ true) where
-  view-valid : validOf places j ≡ true
-  view-valid = sym (view-shows places j) ∙ v
+module _ (party places : ℕ) (j : Journal) (v : viewOf party places j .valid ≡ true) where
+  view-valid : validOf party places j ≡ true
+  view-valid = sym (view-shows party places j) ∙ v
 
-  valid-shown : viewOf places j ≡ record { valid = true; count = length (standing j); last = getLastD (standing j) noRecord }
+  valid-shown : viewOf party places j ≡ record { valid = true; count = length (standing j); last = getLastD (standing j) noRecord }
   unfolding viewOf
   valid-shown = rw view-valid
 
-  pub view-pushes : (r : Record) → viewOf places j .count < places → withRecord j (viewOf places j .count) r (viewOf places j .count + 1) ≡ journalOf places (standing j ++ (r ∷ []))
+  pub view-pushes : (r : Record) → viewOf party places j .count < places → withRecord j (viewOf party places j .count) r (viewOf party places j .count + 1) ≡ journalOf places (standing j ++ (r ∷ []))
   view-pushes r h =
       let count = ap (λ (w : View). w .count) valid-shown in
-      ap₂ (λ (j : Journal) (n : ℕ). withRecord j n r (n + 1)) (sym (valid-is-journal places j view-valid)) count
+      ap₂ (λ (j : Journal) (n : ℕ). withRecord j n r (n + 1)) (sym (valid-is-journal party places j view-valid)) count
       ∙ journal-pushes places (standing j) r (subst (λ (n : ℕ). n < places) count h)
 
-  pub view-pops : withRecord j (viewOf places j .count - 1) noRecord (viewOf places j .count - 1) ≡ journalOf places (dropLast (standing j))
+  pub view-pops : withRecord j (viewOf party places j .count - 1) noRecord (viewOf party places j .count - 1) ≡ journalOf places (dropLast (standing j))
   view-pops =
-      ap₂ (λ (j : Journal) (n : ℕ). withRecord j (n - 1) noRecord (n - 1)) (sym (valid-is-journal places j view-valid)) (ap (λ (w : View). w .count) valid-shown)
-      ∙ journal-pops places (standing j) (valid-few places j view-valid)
+      ap₂ (λ (j : Journal) (n : ℕ). withRecord j (n - 1) noRecord (n - 1)) (sym (valid-is-journal party places j view-valid)) (ap (λ (w : View). w .count) valid-shown)
+      ∙ journal-pops places (standing j) (valid-few party places j view-valid)

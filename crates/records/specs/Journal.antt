@@ -1,5 +1,5 @@
--- The journal: the records that stand, the oldest first. How they are kept (a count, and places of which those past the count are free) is
--- said in this file alone: above it a journal is `journalOf` a list, and `standing` gives that list back. Its laws are proved in
+-- A party's journal: the records that stand, the oldest first. How they are kept (a count, and places of which those past the count are
+-- free) is said in this file alone: above it a journal is `journalOf` a list, and `standing` gives that list back. Its laws are proved in
 -- `proofs/Standing.antt`. Assumes nothing.
 use Prim.Native.Nat.{ℕ, _+_, _-_, _≤_, _<_}
 use mathlib.Core.Path.{_≡_}
@@ -11,7 +11,7 @@ use Rattle.record.specs.Record.{noRecord, isFree, mayStand}
 use Rattle.record.specs.declared.Record.{Record}
 use Rattle.records.specs.declared.View.{View}
 
--- so many places has a journal that the code works on
+-- so many places has the slice that the code works on
 abbrev pub limit : ℕ
 limit = 1024
 
@@ -37,16 +37,16 @@ standing j = take (j .count) (j .records)
 unfoldable pub journalOf : ℕ → List Record → Journal
 journalOf places rs = record { count = length rs; records = rs ++ replicate (places - length rs) noRecord }
 
--- a valid journal of so many places: the count is at most these, those that stand may, and the places past the count are free
-unfoldable pub validOf : ℕ → Journal → Bool
-validOf places j = eqb (length (j .records)) places && leb (j .count) places && all mayStand (standing j) && all isFree (drop (j .count) (j .records))
+-- a party's valid journal of so many places: the count is at most these, those that stand may, and the places past the count are free
+unfoldable pub validOf : ℕ → ℕ → Journal → Bool
+validOf party places j = eqb (length (j .records)) places && leb (j .count) places && all (mayStand party) (standing j) && all isFree (drop (j .count) (j .records))
 
 -- what is shown of a journal: that it is valid, how many records stand and the last of them; nothing of one that isn't valid
 abbrev pub shown : Bool → ℕ → Record → View
 shown valid count last = cond valid (record { valid = true; count = count; last = last }) (record { valid = false; count = 0; last = noRecord })
 
-unfoldable pub viewOf : ℕ → Journal → View
-viewOf places j = shown (validOf places j) (length (standing j)) (getLastD (standing j) noRecord)
+unfoldable pub viewOf : ℕ → ℕ → Journal → View
+viewOf party places j = shown (validOf party places j) (length (standing j)) (getLastD (standing j) noRecord)
 
 -- the record at a place
 abbrev pub recordAt : Journal → ℕ → Record
@@ -62,11 +62,11 @@ JournalStands = (places : ℕ) (rs : List Record) → standing (journalOf places
 
 -- it is valid just where there are places for them and they may stand
 abbrev pub JournalValid : Type 0
-JournalValid = (places : ℕ) (rs : List Record) → validOf places (journalOf places rs) ≡ leb (length rs) places && all mayStand rs
+JournalValid = (party places : ℕ) (rs : List Record) → validOf party places (journalOf places rs) ≡ leb (length rs) places && all (mayStand party) rs
 
 -- a valid journal is the one of the records that stand in it
 abbrev pub ValidIsJournal : Type 0
-ValidIsJournal = (places : ℕ) (j : Journal) → validOf places j ≡ true → journalOf places (standing j) ≡ j
+ValidIsJournal = (party places : ℕ) (j : Journal) → validOf party places j ≡ true → journalOf places (standing j) ≡ j
 
 -- record i of them stands at place i
 abbrev pub JournalReads : Type 0

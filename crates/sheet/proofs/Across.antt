@@ -19,7 +19,6 @@ use Rattle.journal.specs.Edit.{Outcome, editOf, undoOf}
 use Rattle.journal.specs.Demand3.{Call, edit, undo, step, run}
 use Rattle.journal.proofs.Run.{OfEdits, holds, run-valid, run-all}
 use Rattle.record.specs.Record.{editRecord, isHeld, numbersOf}
-use Rattle.records.proofs.Standing.{valid-places}
 use Rattle.record.proofs.Laws.{edit-slot, edit-form, edit-pattern}
 use Rattle.text.specs.Whole.{wroteOf, wholeRefusals}
 use Rattle.text.specs.declared.whole.Written.{Written}
@@ -27,24 +26,24 @@ use Rattle.sheet.specs.RoundTrip.{HasSheet}
 use Rattle.sheet.specs.Sheet.{tells, sheetOf, writeRefusals}
 use Rattle.sheet.specs.declared.line.Kind.the-variants.{Full}
 use Rattle.sheet.specs.Load.{Loaded, loadOf}
-use Rattle.sheet.specs.Across.{SheetCall, call, write, load, sheetIn, loaded, runAcross, plain, Demand3Across}
+use Rattle.sheet.specs.Across.{SheetCall, call, write, load, loadText, ownSheets, sheetIn, loaded, runAcross, plain, Demand3Across}
 use Rattle.sheet.proofs.Held.{are-words}
 use Rattle.sheet.proofs.Inverse.{load-written}
 
 -- the records of edits that bundles take are of the code
-edits-held : OfEdits isHeld
-edits-held n e h low taken =
-    is-true (isHeld (editRecord n e))
-    (are-words (numbersOf (editRecord n e))
+edits-held : (party : ℕ) → OfEdits party isHeld
+edits-held party n e h low taken =
+    is-true (isHeld (editRecord party n e))
+    (are-words (numbersOf (editRecord party n e))
     (omega (arith, low), (omega (arith, edit-slot n e taken), (omega (arith, edit-form n e taken .2), (edit-pattern n e taken, (part-lt _ 0 64, (part-lt _ 64 64, (part-lt _ 0 64, (part-lt _ 64 64, tt)))))))))
 
 -- the sheet in an output is the one that was written
-sheet-in : (j : Journal) (out text : List ℕ) → sheetIn (wroteOf (writeRefusals j) (sheetOf j) out) ≡ some text → text ≡ sheetOf j
+sheet-in : (party places : ℕ) (j : Journal) (out text : List ℕ) → sheetIn (wroteOf (writeRefusals party places j) (sheetOf j) out) ≡ some text → text ≡ sheetOf j
 unfolding wroteOf
-sheet-in j out text = go (ℕ-discrete a accepted)
+sheet-in party places j out text = go (ℕ-discrete a accepted)
   where
     a : ℕ
-    a = first (wholeRefusals (writeRefusals j) (sheetOf j) out)
+    a = first (wholeRefusals (writeRefusals party places j) (sheetOf j) out)
 
     done : Written × List ℕ
     done = (record { answer = a; length = length (sheetOf j) }, sheetOf j ++ drop (length (sheetOf j)) out)
@@ -57,80 +56,81 @@ sheet-in j out text = go (ℕ-discrete a accepted)
         Option·some-injective text _ (sym q ∙ ap sheetIn (accepts a done refused e) ∙ accepts a _ none e) ∙ take-append-seam (sheetOf j) _
     go (no d) q = absurd (Option·none-ne-some text (sym (ap sheetIn (refuses a done refused d) ∙ refuses a _ none d) ∙ q))
 
-record Reached (code : List ℕ) (calls : List SheetCall) : Type 0 where
-  codes : runAcross code calls .after .code ≡ run limit code (plain calls) .code
-  journals : runAcross code calls .after .journal ≡ run limit code (plain calls) .journal
-  sheets : (text : List ℕ) → runAcross code calls .sheet ≡ some text → text ≡ sheetOf (run limit code (plain calls) .journal)
+record Reached (party places : ℕ) (code : List ℕ) (calls : List SheetCall) : Type 0 where
+  codes : runAcross party places code calls .after .code ≡ run party places code (plain calls) .code
+  journals : runAcross party places code calls .after .journal ≡ run party places code (plain calls) .journal
+  sheets : (text : List ℕ) → runAcross party places code calls .sheet ≡ some text → text ≡ sheetOf (run party places code (plain calls) .journal)
 
 -- a call comes to the same from the same code and journal
-same-step : (s t : Outcome) → s .code ≡ t .code → s .journal ≡ t .journal → (c : Call) → step limit s c ≡ step limit t c
-same-step s t p q (edit e) = ap₂ (λ (code : List ℕ) (journal : Journal). editOf limit code journal e) p q
-same-step s t p q undo = ap₂ (undoOf limit) p q
+same-step : (party places : ℕ) (s t : Outcome) → s .code ≡ t .code → s .journal ≡ t .journal → (c : Call) → step party places s c ≡ step party places t c
+same-step party places s t p q (edit e) = ap₂ (λ (code : List ℕ) (journal : Journal). editOf party places code journal e) p q
+same-step party places s t p q undo = ap₂ (undoOf party places) p q
 
-module _ (code : List ℕ) (b : Bytes code) (short : length code ≤ longestCode) where
-  run-sheet : (calls : List Call) → HasSheet limit Full (run limit code calls .journal)
+module _ (party places : ℕ) (within : places ≤ limit) (code : List ℕ) (b : Bytes code) (short : length code ≤ longestCode) where
+  run-sheet : (calls : List Call) → HasSheet party places Full (run party places code calls .journal)
   run-sheet calls =
       record {
-        valid = run-valid limit code b short calls;
-        held = subst T (sym (run-all limit code b short isHeld edits-held calls)) tt;
-        told = subst T (sym (run-all limit code b short (tells Full) (λ n e h low taken. refl) calls)) tt;
+        valid = run-valid party places code b short calls;
+        held = subst T (sym (run-all party places code b short isHeld (edits-held party) calls)) tt;
+        told = subst T (sym (run-all party places code b short (tells Full) (λ n e h low taken. refl) calls)) tt;
       }
 
   -- loading the sheet of the run's journal gives that journal
-  loads-own : (calls : List SheetCall) → Reached code calls → (text : List ℕ) → runAcross code calls .sheet ≡ some text
-      → loadOf limit (runAcross code calls .after .journal) text ≡ record { answer = accepted; journal = run limit code (plain calls) .journal }
+  loads-own : (calls : List SheetCall) → Reached party places code calls → (text : List ℕ) → runAcross party places code calls .sheet ≡ some text
+      → loadOf limit party places (runAcross party places code calls .after .journal) text ≡ record { answer = accepted; journal = run party places code (plain calls) .journal }
   loads-own calls r text e =
-      let j = run limit code (plain calls) .journal in
+      let j = run party places code (plain calls) .journal in
       let s = run-sheet (plain calls) in
-      ap₂ (loadOf limit) (r .journals) (r .sheets text e) ∙ load-written limit Full j j (omega arith) (valid-places limit j (s .valid)) s
+      ap₂ (loadOf limit party places) (r .journals) (r .sheets text e) ∙ load-written limit party places Full j j (omega arith) within (s .valid) s
 
-  after-load : (calls : List SheetCall) → Reached code calls → Reached code (load ∷ calls)
+  after-load : (calls : List SheetCall) → Reached party places code calls → Reached party places code (load ∷ calls)
   after-load calls r =
       record {
-        codes = codes-of (runAcross code calls .sheet);
-        journals = journals-of (runAcross code calls .sheet) refl;
+        codes = codes-of (runAcross party places code calls .sheet);
+        journals = journals-of (runAcross party places code calls .sheet) refl;
         sheets = λ text e. absurd (Option·none-ne-some text e);
       }
     where
       o : Outcome
-      o = runAcross code calls .after
+      o = runAcross party places code calls .after
 
-      codes-of : (sheet : Option (List ℕ)) → loaded o sheet .code ≡ run limit code (plain calls) .code
+      codes-of : (sheet : Option (List ℕ)) → loaded party places o sheet .code ≡ run party places code (plain calls) .code
       codes-of none = r .codes
       codes-of (some text) = r .codes
 
-      journals-of : (sheet : Option (List ℕ)) → runAcross code calls .sheet ≡ sheet → loaded o sheet .journal ≡ run limit code (plain calls) .journal
+      journals-of : (sheet : Option (List ℕ)) → runAcross party places code calls .sheet ≡ sheet → loaded party places o sheet .journal ≡ run party places code (plain calls) .journal
       journals-of none e = r .journals
       journals-of (some text) e = ap (λ (l : Loaded). l .journal) (loads-own calls r text e)
 
-  reached : (calls : List SheetCall) → Reached code calls
-  reached [] = record { codes = refl; journals = refl; sheets = λ text e. absurd (Option·none-ne-some text e) }
-  reached (call c ∷ calls) =
-      let r = reached calls in
-      let same = same-step (runAcross code calls .after) (run limit code (plain calls)) (r .codes) (r .journals) c in
+  reached : (calls : List SheetCall) → T (ownSheets calls) → Reached party places code calls
+  reached [] own = record { codes = refl; journals = refl; sheets = λ text e. absurd (Option·none-ne-some text e) }
+  reached (call c ∷ calls) own =
+      let r = reached calls own in
+      let same = same-step party places (runAcross party places code calls .after) (run party places code (plain calls)) (r .codes) (r .journals) c in
       record {
         codes = ap (λ (o : Outcome). o .code) same;
         journals = ap (λ (o : Outcome). o .journal) same;
         sheets = λ text e. absurd (Option·none-ne-some text e);
       }
-  reached (write out ∷ calls) =
-      let r = reached calls in
+  reached (write out ∷ calls) own =
+      let r = reached calls own in
       record {
         codes = r .codes;
         journals = r .journals;
-        sheets = λ text e. sheet-in (runAcross code calls .after .journal) out text e ∙ ap sheetOf (r .journals);
+        sheets = λ text e. sheet-in party places (runAcross party places code calls .after .journal) out text e ∙ ap sheetOf (r .journals);
       }
-  reached (load ∷ calls) = after-load calls (reached calls)
+  reached (load ∷ calls) own = after-load calls (reached calls own)
+  reached (loadText text ∷ calls) own = absurd own
 
 pub demand-3-across : Demand3Across
-demand-3-across code b short calls =
-    let r = reached code b short calls in
+demand-3-across party places code within b short calls own =
+    let r = reached party places within code b short calls own in
     record {
       code-is = r .codes;
       journal-is = r .journals;
-      answers = λ c. ap (λ (o : Outcome). o .answer) (same-step (runAcross code calls .after) (run limit code (plain calls)) (r .codes) (r .journals) c);
+      answers = λ c. ap (λ (o : Outcome). o .answer) (same-step party places (runAcross party places code calls .after) (run party places code (plain calls)) (r .codes) (r .journals) c);
       loads = λ text e.
-          ap (λ (sheet : Option (List ℕ)). loaded (runAcross code calls .after) sheet .answer) e
-          ∙ ap (λ (l : Loaded). l .answer) (loads-own code b short calls r text e);
-      holds = holds limit code b short (plain calls);
+          ap (λ (sheet : Option (List ℕ)). loaded party places (runAcross party places code calls .after) sheet .answer) e
+          ∙ ap (λ (l : Loaded). l .answer) (loads-own party places within code b short calls r text e);
+      holds = holds party places code b short (plain calls);
     }

@@ -20,8 +20,8 @@ use Rattle.sheet.specs.declared.line.Kind.the-variants.{Full}
 use Rattle.sheet.proofs.Sheets.{lines-more}
 
 -- a line of a valid journal, by its count and its places
-pub line-numbered : (places : ℕ) (j : Journal) (i : ℕ) → validOf places j ≡ true → numbered i (j .count) (recordAt j (i - 1)) ≡ sheetLine j i
-line-numbered places j i v = ap₂ (λ (n : ℕ) (r : Record). numbered i n r) (valid-counts places j v) (valid-reads places j v (i - 1))
+pub line-numbered : (party places : ℕ) (j : Journal) (i : ℕ) → validOf party places j ≡ true → numbered i (j .count) (recordAt j (i - 1)) ≡ sheetLine j i
+line-numbered party places j i v = ap₂ (λ (n : ℕ) (r : Record). numbered i n r) (valid-counts party places j v) (valid-reads party places j v (i - 1))
 
 not-first : (n : ℕ) → eqb (suc n) 0 ≡ false
 not-first n = ne-eqb (suc n) 0 (λ e. omega (arith, e))

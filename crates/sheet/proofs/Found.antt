@@ -21,36 +21,36 @@ use Rattle.sheet.specs.Load.{frontEnds, ends, fullRecord, oldRecord, rea
 abbrev Alike : List ℕ → List ℕ → Type 0
 Alike of ns = (i : ℕ) → getD of i 0 ≡ getD ns i 0
 
-old-alike : (of ns : List ℕ) → Alike of ns → oldRecord of ≡ oldRecord ns
-old-alike of ns e = λ j. record { bundle = e 0 j; slot = 0; form = noForm; value = 0; old = record { low = e 1 j; high = e 2 j }; new = record { low = e 3 j; high = e 4 j } }
+old-alike : (party : ℕ) (of ns : List ℕ) → Alike of ns → oldRecord party of ≡ oldRecord party ns
+old-alike party of ns e = λ j. record { party = party; bundle = e 0 j; slot = 0; form = noForm; value = 0; old = record { low = e 1 j; high = e 2 j }; new = record { low = e 3 j; high = e 4 j } }
 
-full-alike : (front fs : List ℕ) (form : Form) (of ns : List ℕ) → Alike front fs → Alike of ns → fullRecord front form of ≡ fullRecord fs form ns
-full-alike front fs form of ns d e =
-    λ j. record { bundle = d 0 j; slot = d 1 j; form = form; value = e 0 j; old = record { low = e 1 j; high = e 2 j }; new = record { low = e 3 j; high = e 4 j } }
+full-alike : (party : ℕ) (front fs : List ℕ) (form : Form) (of ns : List ℕ) → Alike front fs → Alike of ns → fullRecord party front form of ≡ fullRecord party fs form ns
+full-alike party front fs form of ns d e =
+    λ j. record { party = party; bundle = d 0 j; slot = d 1 j; form = form; value = e 0 j; old = record { low = e 1 j; high = e 2 j }; new = record { low = e 3 j; high = e 4 j } }
 
-module _ (text : List ℕ) (at : ℕ) where
-  pub old-none : fieldsAt text at ends ≡ none → Refused ≡ readAs Old text at
+module _ (party : ℕ) (text : List ℕ) (at : ℕ) where
+  pub old-none : fieldsAt text at ends ≡ none → Refused ≡ readAs party Old text at
   unfolding readAs
   old-none e = rw e
 
-  pub old-some : (f : Fields) → AllRead text at ends f → Read (oldRecord (f .of)) (f .next) ≡ readAs Old text at
+  pub old-some : (f : Fields) → AllRead text at ends f → Read (oldRecord party (f .of)) (f .next) ≡ readAs party Old text at
   unfolding readAs
-  old-some f a = rw (a .found) (ap (λ (r : Record). Read r (f .next)) (old-alike (f .of) (a .numbers) (a .looked)))
+  old-some f a = rw (a .found) (ap (λ (r : Record). Read r (f .next)) (old-alike party (f .of) (a .numbers) (a .looked)))
 
-  pub full-no-front : fieldsAt text at frontEnds ≡ none → Refused ≡ readAs Full text at
+  pub full-no-front : fieldsAt text at frontEnds ≡ none → Refused ≡ readAs party Full text at
   unfolding readAs
   full-no-front e = rw e
 
   module _ (f : Fields) (a : AllRead text at frontEnds f) where
-    pub full-no-name : namedAt text (f .next) tab ≡ name.Refused → Refused ≡ readAs Full text at
+    pub full-no-name : namedAt text (f .next) tab ≡ name.Refused → Refused ≡ readAs party Full text at
     unfolding readAs
     full-no-name e = rw (a .found, e)
 
     module _ (form : Form) (third : ℕ) (n : namedAt text (f .next) tab ≡ name.Read form third) where
-      pub full-no-tail : fieldsAt text third ends ≡ none → Refused ≡ readAs Full text at
+      pub full-no-tail : fieldsAt text third ends ≡ none → Refused ≡ readAs party Full text at
       unfolding readAs
       full-no-tail e = rw (a .found, n, e)
 
-      pub full-some : (g : Fields) → AllRead text third ends g → Read (fullRecord (f .of) form (g .of)) (g .next) ≡ readAs Full text at
+      pub full-some : (g : Fields) → AllRead text third ends g → Read (fullRecord party (f .of) form (g .of)) (g .next) ≡ readAs party Full text at
       unfolding readAs
-      full-some g b = rw (a .found, n, b .found) (ap (λ (r : Record). Read r (g .next)) (full-alike (f .of) (a .numbers) form (g .of) (b .numbers) (a .looked) (b .looked)))
+      full-some g b = rw (a .found, n, b .found) (ap (λ (r : Record). Read r (g .next)) (full-alike party (f .of) (a .numbers) form (g .of) (b .numbers) (a .looked) (b .looked)))

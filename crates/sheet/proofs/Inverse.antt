@@ -13,8 +13,8 @@ use lib.ListN.{length, drop}
 use lib.Seq.{drop-length}
 use mir.Facts.{and-yes, yes-and}
 use borrow.Author.Tests.{eq-eqb, ne-eqb, le-leb, lt-leb}
-use Rattle.answer.specs.Answer.{accepted, badSheet}
-use Rattle.records.specs.Journal.{Journal, all, standing, journalOf}
+use Rattle.answer.specs.Answer.{accepted, full, badSheet}
+use Rattle.records.specs.Journal.{Journal, all, standing, journalOf, validOf}
 use Rattle.records.proofs.Standing.{journal-stands, journal-valid, valid-is-journal, valid-few, valid-stand}
 use Rattle.record.specs.Record.{mayStand, isHeld}
 use Rattle.record.specs.declared.Record.{Record}
@@ -27,7 +27,7 @@ use Rattle.text.proofs.RoundTrip.{starts-is, field-read, field-back}
 use Rattle.text.proofs.Stands.{Stands, stands-then, stands-parts}
 use Rattle.sheet.specs.declared.line.Line.{Line}
 use Rattle.sheet.specs.declared.line.Line.the-variants as line
-use Rattle.sheet.specs.RoundTrip.{HasSheet, Fits, LoadsWritten, LoadsOnlyWritten, RefusesOther, RefusesMore, RefusesPlaces}
+use Rattle.sheet.specs.RoundTrip.{HasSheet, LoadsWritten, LoadsOnlyWritten, RefusesOther, RefusesMore, RefusesFull, RefusesInvalid}
 use Rattle.sheet.specs.Load.{lineAt, recordsAt, headOf, recordsAs, orElse, recordsIn, Loaded, answerOf, loadOf}
 use Rattle.sheet.specs.Sheet.{lineAs, tells, linesAs, headerOf, sheetAs}
 use Rattle.sheet.specs.declared.line.Kind.{Kind}
@@ -36,15 +36,15 @@ use Rattle.sheet.proofs.Lines.{line-back, line-read}
 use Rattle.sheet.proofs.OneKind.{one-kind}
 
 -- the lines of some records are read as those records
-records-back : (kind : Kind) (text : List ℕ) (rs : List Record) (at : ℕ) → T (all mayStand rs) → T (all isHeld rs) → T (all (tells kind) rs) → Stands text at (linesAs kind rs) (length text) → recordsAt kind text at (length rs) ≡ some rs
+records-back : (party : ℕ) (kind : Kind) (text : List ℕ) (rs : List Record) (at : ℕ) → T (all (mayStand party) rs) → T (all isHeld rs) → T (all (tells kind) rs) → Stands text at (linesAs kind rs) (length text) → recordsAt party kind text at (length rs) ≡ some rs
 unfolding recordsAt
-records-back kind text [] at m h t s = rw (eq-eqb at (length text) (omega (arith, s .place)))
-records-back kind text (r ∷ rs) at m h t s =
-    let a = and-yes (mayStand r) (all mayStand rs) m in
+records-back party kind text [] at m h t s = rw (eq-eqb at (length text) (omega (arith, s .place)))
+records-back party kind text (r ∷ rs) at m h t s =
+    let a = and-yes (mayStand party r) (all (mayStand party) rs) m in
     let b = and-yes (isHeld r) (all isHeld rs) h in
     let c = and-yes (tells kind r) (all (tells kind) rs) t in
     let p = stands-parts (lineAs kind r) s in
-    rw (line-back text at r _ kind (a .0) (b .0) (c .0) (p .0), records-back kind text rs (at + length (lineAs kind r)) (a .1) (b .1) (c .1) (p .1))
+    rw (line-back party text at r _ kind (a .0) (b .0) (c .0) (p .0), records-back party kind text rs (at + length (lineAs kind r)) (a .1) (b .1) (c .1) (p .1))
 
 whole-stands : (text : List ℕ) → Stands text 0 text (length text)
 whole-stands text = record { found = sym (ap (λ (l : List ℕ). text ++ l) (drop-length text) ∙ append-nil text); place = omega arith }
@@ -69,45 +69,45 @@ begun text count rest few e =
     record { at = 8 + length (counted count); head = rw starts (field-back text 8 10 count _ refl few (q .0)); lines = q .1 }
 
 -- what was read from a place on
-record RecordsRead (kind : Kind) (text : List ℕ) (at left : ℕ) (rs : List Record) : Type 0 where
+record RecordsRead (party : ℕ) (kind : Kind) (text : List ℕ) (at left : ℕ) (rs : List Record) : Type 0 where
   long : length rs ≡ left
-  stand : T (all mayStand rs)
+  stand : T (all (mayStand party) rs)
   held : T (all isHeld rs)
   told : T (all (tells kind) rs)
   lines : Stands text at (linesAs kind rs) (length text)
 
 -- the line at a place, and what comes after it
-line-then : (kind : Kind) (text : List ℕ) (at left : ℕ) (rs : List Record)
-    → ((next : ℕ) (qs : List Record) → recordsAt kind text next left ≡ some qs → RecordsRead kind text next left qs)
-    → (m : Line) → lineAt kind text at ≡ m → recordsAt kind text at (suc left) ≡ some rs → RecordsRead kind text at (suc left) rs
+line-then : (party : ℕ) (kind : Kind) (text : List ℕ) (at left : ℕ) (rs : List Record)
+    → ((next : ℕ) (qs : List Record) → recordsAt party kind text next left ≡ some qs → RecordsRead party kind text next left qs)
+    → (m : Line) → lineAt party kind text at ≡ m → recordsAt party kind text at (suc left) ≡ some rs → RecordsRead party kind text at (suc left) rs
 unfolding recordsAt
-line-then kind text at left rs more line.Refused e f = absurd (Option·none-ne-some rs (rw e at f))
-line-then kind text at left rs more (line.Read r next) e f = go (recordsAt kind text next left) refl (rw e at f)
+line-then party kind text at left rs more line.Refused e f = absurd (Option·none-ne-some rs (rw e at f))
+line-then party kind text at left rs more (line.Read r next) e f = go (recordsAt party kind text next left) refl (rw e at f)
   where
-    go : (o : Option (List Record)) → recordsAt kind text next left ≡ o → Option·map (λ (qs : List Record). r ∷ qs) o ≡ some rs → RecordsRead kind text at (suc left) rs
+    go : (o : Option (List Record)) → recordsAt party kind text next left ≡ o → Option·map (λ (qs : List Record). r ∷ qs) o ≡ some rs → RecordsRead party kind text at (suc left) rs
     go none q g = absurd (Option·none-ne-some rs g)
     go (some qs) q g =
         let on = more next qs q in
-        let read = line-read text at r next kind e in
-        subst (RecordsRead kind text at (suc left)) (Option·some-injective (r ∷ qs) rs g)
+        let read = line-read party text at r next kind e in
+        subst (RecordsRead party kind text at (suc left)) (Option·some-injective (r ∷ qs) rs g)
         (record {
           long = ap suc (on .long);
-          stand = yes-and (mayStand r) (all mayStand qs) (read .0) (on .stand);
+          stand = yes-and (mayStand party r) (all (mayStand party) qs) (read .0) (on .stand);
           held = yes-and (isHeld r) (all isHeld qs) (read .1 .held) (on .held);
           told = yes-and (tells kind r) (all (tells kind) qs) (read .1 .told) (on .told);
           lines = stands-then (read .1 .stands) (on .lines);
         })
 
-records-read : (kind : Kind) (text : List ℕ) (left at : ℕ) (rs : List Record) → recordsAt kind text at left ≡ some rs → RecordsRead kind text at left rs
+records-read : (party : ℕ) (kind : Kind) (text : List ℕ) (left at : ℕ) (rs : List Record) → recordsAt party kind text at left ≡ some rs → RecordsRead party kind text at left rs
 unfolding recordsAt
-records-read kind text zero at rs f =
+records-read party kind text zero at rs f =
     elim (ℕ-discrete at (length text)) [
       | yes e ↦
-          subst (RecordsRead kind text at zero) (Option·some-injective [] rs (rw (eq-eqb at (length text) e) at f))
+          subst (RecordsRead party kind text at zero) (Option·some-injective [] rs (rw (eq-eqb at (length text) e) at f))
           (record { long = refl; stand = tt; held = tt; told = tt; lines = record { found = ap (λ (k : ℕ). drop k text) e; place = omega (arith, e) } })
       | no d ↦ absurd (Option·none-ne-some rs (rw (ne-eqb at (length text) d) at f))
     ]
-records-read kind text (suc left) at rs f = line-then kind text at left rs (records-read kind text left) (lineAt kind text at) refl f
+records-read party kind text (suc left) at rs f = line-then party kind text at left rs (records-read party kind text left) (lineAt party kind text at) refl f
 
 -- the first line that was read
 record Headed (text : List ℕ) (count at : ℕ) : Type 0 where
@@ -122,33 +122,34 @@ headed text count at e = go (startsWith (ascii "patches\t") text) refl
     go false s = absurd (let f : Refused ≡ Read count at = rw s at e in let z : _≡_ {A = ℕ} 0 1 = cc in omega arith)
     go true s = record { starts = starts-is (ascii "patches\t") text s; counts = field-read text 8 10 count at (rw s at e) .piece }
 
-module _ (places : ℕ) where
-  sheet-back : (kind : Kind) (j : Journal) → places < 2 ^ 64 → HasSheet places kind j → recordsAs places kind (sheetAs kind j) ≡ some (standing j)
+-- sheets of at most so many records, and a party's
+module _ (most party : ℕ) where
+  sheet-back : (places : ℕ) (kind : Kind) (j : Journal) → most < 2 ^ 64 → places ≤ most → HasSheet party places kind j → recordsAs most party kind (sheetAs kind j) ≡ some (standing j)
   unfolding recordsAs sheetAs
-  sheet-back kind j short s =
+  sheet-back places kind j short within s =
       let rs = standing j in
-      let few = valid-few places j (s .valid) in
+      let few = valid-few party places j (s .valid) in
       let b = begun (sheetAs kind j) (length rs) (linesAs kind rs) (omega arith) refl in
-      rw (b .head, le-leb (length rs) places few, records-back kind (sheetAs kind j) rs (b .at) (valid-stand places j (s .valid)) (s .held) (s .told) (b .lines))
+      rw (b .head, le-leb (length rs) most (omega arith), records-back party kind (sheetAs kind j) rs (b .at) (valid-stand party places j (s .valid)) (s .held) (s .told) (b .lines))
 
   -- the sheet of more records is none
-  sheet-more : (kind other : Kind) (j : Journal) → places < length (standing j) → length (standing j) < 2 ^ 64 → recordsAs places other (sheetAs kind j) ≡ none
+  sheet-more : (kind other : Kind) (j : Journal) → most < length (standing j) → length (standing j) < 2 ^ 64 → recordsAs most party other (sheetAs kind j) ≡ none
   unfolding recordsAs sheetAs
   sheet-more kind other j more short =
       let b = begun (sheetAs kind j) (length (standing j)) (linesAs kind (standing j)) short refl in
-      rw (b .head, lt-leb (length (standing j)) places more)
+      rw (b .head, lt-leb (length (standing j)) most more)
 
   -- a text that was read is the sheet of the journal of what was read
-  abbrev IsSheet : Kind → List ℕ → Journal → Type 0
-  IsSheet kind text j = HasSheet places kind j × (text ≡ sheetAs kind j)
+  abbrev IsSheet : ℕ → Kind → List ℕ → Journal → Type 0
+  IsSheet places kind text j = HasSheet party places kind j × (text ≡ sheetAs kind j)
 
-  is-sheet : (kind : Kind) (text : List ℕ) (count at : ℕ) → count ≤ places → Headed text count at → (rs : List Record) → RecordsRead kind text at count rs → IsSheet kind text (journalOf places rs)
+  is-sheet : (places : ℕ) (kind : Kind) (text : List ℕ) (count at : ℕ) → Headed text count at → (rs : List Record) → length rs ≤ places → RecordsRead party kind text at count rs → IsSheet places kind text (journalOf places rs)
   unfolding sheetAs
-  is-sheet kind text count at few h rs r =
+  is-sheet places kind text count at h rs few r =
       let stand = journal-stands places rs in
       let lines : drop at text ≡ linesAs kind rs = r .lines .found ∙ ap (λ (l : List ℕ). linesAs kind rs ++ l) (drop-length text) ∙ append-nil (linesAs kind rs) in (
         record {
-          valid = journal-valid places rs ∙ rw (le-leb (length rs) places (omega (arith, r .long)), is-true (all mayStand rs) (r .stand));
+          valid = journal-valid party places rs ∙ rw (le-leb (length rs) places few, is-true (all (mayStand party) rs) (r .stand));
           held = subst (λ (qs : List Record). T (all isHeld qs)) (sym stand) (r .held);
           told = subst (λ (qs : List Record). T (all (tells kind) qs)) (sym stand) (r .told);
         },
@@ -162,92 +163,123 @@ module _ (places : ℕ) where
   record Gave (kind : Kind) (text : List ℕ) (rs : List Record) : Type 0 where
     count : ℕ
     at : ℕ
-    few : count ≤ places
+    few : count ≤ most
     head : headOf text ≡ Read count at
-    lines : recordsAt kind text at count ≡ some rs
+    lines : recordsAt party kind text at count ≡ some rs
 
-  gave : (kind : Kind) (text : List ℕ) (rs : List Record) → recordsAs places kind text ≡ some rs → Gave kind text rs
+  gave : (kind : Kind) (text : List ℕ) (rs : List Record) → recordsAs most party kind text ≡ some rs → Gave kind text rs
   unfolding recordsAs
   gave kind text rs = go (headOf text) refl
     where
-      go : (m : Number) → headOf text ≡ m → recordsAs places kind text ≡ some rs → Gave kind text rs
+      go : (m : Number) → headOf text ≡ m → recordsAs most party kind text ≡ some rs → Gave kind text rs
       go Refused e f = absurd (Option·none-ne-some rs (rw e at f))
       go (Read count at) e f =
-          elim (decLt places count) [
-            | yes h ↦ absurd (Option·none-ne-some rs (rw (e, lt-leb count places h) at f))
+          elim (decLt most count) [
+            | yes h ↦ absurd (Option·none-ne-some rs (rw (e, lt-leb count most h) at f))
             | no h ↦
-                let few : count ≤ places = omega arith in
-                record { count = count; at = at; few = few; head = e; lines = rw (e, le-leb count places few) at f }
+                let few : count ≤ most = omega arith in
+                record { count = count; at = at; few = few; head = e; lines = rw (e, le-leb count most few) at f }
           ]
 
-  records-sheet : (kind : Kind) (text : List ℕ) (rs : List Record) → recordsAs places kind text ≡ some rs → IsSheet kind text (journalOf places rs)
-  records-sheet kind text rs f =
+  -- the records that were read, and that there are at most so many
+  gave-read : {kind : Kind} {text : List ℕ} {rs : List Record} → (g : Gave kind text rs) → RecordsRead party kind text (g .at) (g .count) rs
+  gave-read {kind} {text} {rs} g = records-read party kind text (g .count) (g .at) rs (g .lines)
+
+  records-few : (kind : Kind) (text : List ℕ) (rs : List Record) → recordsAs most party kind text ≡ some rs → length rs ≤ most
+  records-few kind text rs f = let g = gave kind text rs f in omega (arith, gave-read g .long, g .few)
+
+  records-sheet : (places : ℕ) (kind : Kind) (text : List ℕ) (rs : List Record) → length rs ≤ places → recordsAs most party kind text ≡ some rs → IsSheet places kind text (journalOf places rs)
+  records-sheet places kind text rs few f =
       let g = gave kind text rs f in
-      is-sheet kind text (g .count) (g .at) (g .few) (headed text (g .count) (g .at) (g .head)) rs (records-read kind text (g .count) (g .at) rs (g .lines))
+      is-sheet places kind text (g .count) (g .at) (headed text (g .count) (g .at) (g .head)) rs few (gave-read g)
 
   -- what a sheet gives, by its kind
-  both : (text : List ℕ) (rs qs : List Record) → recordsAs places Full text ≡ some rs → recordsAs places Old text ≡ some qs → rs ≡ qs
+  both : (text : List ℕ) (rs qs : List Record) → recordsAs most party Full text ≡ some rs → recordsAs most party Old text ≡ some qs → rs ≡ qs
   both text rs qs f g =
       let a = gave Full text rs f in
       let b = gave Old text qs g in
       let e : Read (b .count) (b .at) ≡ Read (a .count) (a .at) = sym (b .head) ∙ a .head in
       let n : b .count ≡ a .count = cc in
       let p : b .at ≡ a .at = cc in
-      one-kind text (a .at) (a .count) rs qs (a .lines) (subst (λ (k : ℕ). recordsAt Old text k (a .count) ≡ some qs) p (subst (λ (k : ℕ). recordsAt Old text (b .at) k ≡ some qs) n (b .lines)))
+      one-kind party text (a .at) (a .count) rs qs (a .lines) (subst (λ (k : ℕ). recordsAt party Old text k (a .count) ≡ some qs) p (subst (λ (k : ℕ). recordsAt party Old text (b .at) k ≡ some qs) n (b .lines)))
 
-  given-as : (kind : Kind) (text : List ℕ) (rs : List Record) → recordsAs places kind text ≡ some rs → recordsIn places text ≡ some rs
+  given-as : (kind : Kind) (text : List ℕ) (rs : List Record) → recordsAs most party kind text ≡ some rs → recordsIn most party text ≡ some rs
   given-as Full text rs e = rw e
-  given-as Old text rs e = go (recordsAs places Full text) refl
+  given-as Old text rs e = go (recordsAs most party Full text) refl
     where
-      go : (o : Option (List Record)) → recordsAs places Full text ≡ o → orElse o (recordsAs places Old text) ≡ some rs
+      go : (o : Option (List Record)) → recordsAs most party Full text ≡ o → orElse o (recordsAs most party Old text) ≡ some rs
       go none q = e
       go (some qs) q = ap some (both text qs rs q e)
 
-  of-kind : (text : List ℕ) (rs : List Record) → recordsIn places text ≡ some rs → (kind : Kind) × IsSheet kind text (journalOf places rs)
-  of-kind text rs = go (recordsAs places Full text) refl
+  of-kind : (text : List ℕ) (rs : List Record) → recordsIn most party text ≡ some rs → (kind : Kind) × (recordsAs most party kind text ≡ some rs)
+  of-kind text rs = go (recordsAs most party Full text) refl
     where
-      go : (o : Option (List Record)) → recordsAs places Full text ≡ o → orElse o (recordsAs places Old text) ≡ some rs → (kind : Kind) × IsSheet kind text (journalOf places rs)
-      go none q e = (Old, records-sheet Old text rs e)
-      go (some qs) q e = (Full, records-sheet Full text rs (q ∙ e))
+      go : (o : Option (List Record)) → recordsAs most party Full text ≡ o → orElse o (recordsAs most party Old text) ≡ some rs → (kind : Kind) × (recordsAs most party kind text ≡ some rs)
+      go none q e = (Old, e)
+      go (some qs) q e = (Full, q ∙ e)
 
--- loading over a journal of so many places
-module _ (places : ℕ) (given : Journal) (text : List ℕ) (fits : Fits places given) where
-  pub loads-fit : loadOf places given text ≡ answerOf places given (recordsIn places text)
+-- loading over a valid journal of so many places
+module _ (most party places : ℕ) (given : Journal) (text : List ℕ) where
+  pub loads-valid : validOf party places given ≡ true → loadOf most party places given text ≡ answerOf places given (recordsIn most party text)
   unfolding loadOf
-  loads-fit = rw (eq-eqb _ _ fits)
+  loads-valid v = rw v
+
+  -- records that there are places for, or not
+  pub answer-few : (rs : List Record) → length rs ≤ places → answerOf places given (some rs) ≡ record { answer = accepted; journal = journalOf places rs }
+  answer-few rs few = rw (le-leb (length rs) places few)
+
+  pub answer-many : (rs : List Record) → places < length rs → answerOf places given (some rs) ≡ record { answer = full; journal = given }
+  answer-many rs many = rw (lt-leb (length rs) places many)
 
 pub load-written : LoadsWritten
-load-written places kind given j short fits s =
-    loads-fit places given (sheetAs kind j) fits
-    ∙ ap (answerOf places given) (given-as places kind (sheetAs kind j) (standing j) (sheet-back places kind j short s))
-    ∙ ap (λ (i : Journal). record { answer = accepted; journal = i }) (valid-is-journal places j (s .valid))
+load-written most party places kind given j short within valid s =
+    loads-valid most party places given (sheetAs kind j) valid
+    ∙ ap (answerOf places given) (given-as most party kind (sheetAs kind j) (standing j) (sheet-back most party places kind j short within s))
+    ∙ answer-few most party places given (sheetAs kind j) (standing j) (valid-few party places j (s .valid))
+    ∙ ap (λ (i : Journal). record { answer = accepted; journal = i }) (valid-is-journal party places j (s .valid))
 
-pub refuses-places : RefusesPlaces
+pub refuses-invalid : RefusesInvalid
 unfolding loadOf
-refuses-places places given text d = rw (ne-eqb _ _ d)
+refuses-invalid most party places given text v = rw v
 
 pub load-only-written : LoadsOnlyWritten
-load-only-written places given text e = by (ℕ-discrete (length (given .records)) places)
+load-only-written most party places given text e = by (validOf party places given) refl
   where
     Gives : Loaded → Type 0
-    Gives l = (kind : Kind) × HasSheet places kind (l .journal) × (text ≡ sheetAs kind (l .journal))
+    Gives l = (kind : Kind) × HasSheet party places kind (l .journal) × (text ≡ sheetAs kind (l .journal))
 
-    go : (o : Option (List Record)) → recordsIn places text ≡ o → answerOf places given o .answer ≡ accepted → Gives (answerOf places given o)
-    go none q e = absurd (omega (arith, e))
-    go (some rs) q e = let s = of-kind places text rs q in (s .0, s .1 .0, s .1 .1)
+    go : (o : Option (List Record)) → recordsIn most party text ≡ o → answerOf places given o .answer ≡ accepted → Gives (answerOf places given o)
+    go none q a = absurd (omega (arith, a))
+    go (some rs) q a =
+        elim (decLt places (length rs)) [
+          | yes h ↦ absurd (omega (arith, a, ap (λ (l : Loaded). l .answer) (answer-many most party places given text rs h)))
+          | no h ↦
+              let k = of-kind most party text rs q in
+              let s = records-sheet most party places (k .0) text rs (omega arith) (k .1) in
+              subst Gives (sym (answer-few most party places given text rs (omega arith))) (k .0, s .0, s .1)
+        ]
 
-    by : Dec (length (given .records) ≡ places) → Gives (loadOf places given text)
-    by (yes f) = let l = loads-fit places given text f in subst Gives (sym l) (go (recordsIn places text) refl (ap (λ (l : Loaded). l .answer) (sym l) ∙ e))
-    by (no d) = absurd (let r = ap (λ (l : Loaded). l .answer) (refuses-places places given text d) in omega (arith, e, r))
+    by : (v : Bool) → validOf party places given ≡ v → Gives (loadOf most party places given text)
+    by true v = let l = loads-valid most party places given text v in subst Gives (sym l) (go (recordsIn most party text) refl (ap (λ (l : Loaded). l .answer) (sym l) ∙ e))
+    by false v = absurd (let r = ap (λ (l : Loaded). l .answer) (refuses-invalid most party places given text v) in omega (arith, e, r))
 
 pub refuses-other : RefusesOther
-refuses-other places given text fits none-is = loads-fit places given text fits ∙ go (recordsIn places text) refl
+refuses-other most party places given text valid none-is = loads-valid most party places given text valid ∙ go (recordsIn most party text) refl
   where
-    go : (o : Option (List Record)) → recordsIn places text ≡ o → answerOf places given o ≡ record { answer = badSheet; journal = given }
+    go : (o : Option (List Record)) → recordsIn most party text ≡ o → answerOf places given o ≡ record { answer = badSheet; journal = given }
     go none q = refl
-    go (some rs) q = let s = of-kind places text rs q in absurd (none-is (s .0) (journalOf places rs) (s .1 .0) (s .1 .1))
+    go (some rs) q =
+        let k = of-kind most party text rs q in
+        let s = records-sheet most party most (k .0) text rs (records-few most party (k .0) text rs (k .1)) (k .1) in
+        absurd (none-is (k .0) (journalOf most rs) (s .0) (s .1))
 
 pub refuses-more : RefusesMore
-refuses-more places kind given j fits more short =
-    let none-is : recordsIn places (sheetAs kind j) ≡ none = rw (sheet-more places kind Full j more short) (sheet-more places kind Old j more short) in
-    loads-fit places given (sheetAs kind j) fits ∙ ap (answerOf places given) none-is
+refuses-more most party places kind given j valid more short =
+    let none-is : recordsIn most party (sheetAs kind j) ≡ none = rw (sheet-more most party kind Full j more short) (sheet-more most party kind Old j more short) in
+    loads-valid most party places given (sheetAs kind j) valid ∙ ap (answerOf places given) none-is
+
+pub refuses-full : RefusesFull
+refuses-full most party places kind given j short valid s many =
+    loads-valid most party places given (sheetAs kind j) valid
+    ∙ ap (answerOf places given) (given-as most party kind (sheetAs kind j) (standing j) (sheet-back most party most kind j short (omega arith) s))
+    ∙ answer-many most party places given (sheetAs kind j) (standing j) many

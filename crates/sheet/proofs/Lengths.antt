@@ -1,7 +1,7 @@
 -- How long a sheet can be: a bundle number has at most 4 digits, a slot 1, a form's name 3 characters, a value and a half at most 20
 -- digits, so a line has at most 116 bytes, and a valid journal has at most `limit` of them. Assumes nothing.
 use mathlib.Core.Path.{_≡_, refl, sym, ap, _∙_, subst}
-use mathlib.Core.Bool.{Bool, true}
+use mathlib.Core.Bool.{Bool, true, _&&_}
 use mathlib.Core.List.{List, [], _∷_}
 use mathlib.Core.Logic.{_⊎_, inl, inr}
 use Prim.Native.Nat.{ℕ, zero, suc, _+_, _-_, _*_, _/_, _^_, _≤_, _<_}
@@ -28,7 +28,7 @@ use Rattle.name.specs.Name.{nameOf}
 use Rattle.name.proofs.Names.{letter-name, other-name}
 use Rattle.record.specs.Record.{highest, isWhole, told, passes, mayStand, isHeld, numbersOf}
 use Rattle.record.specs.declared.Record.{Record}
-use Rattle.record.proofs.Laws.{whole-is, passes-by, passes-form, edit-slot}
+use Rattle.record.proofs.Laws.{may-passes, may-near, whole-is, passes-by, passes-form, edit-slot}
 use Rattle.row.specs.Row.{lines, rowOf}
 use Rattle.text.specs.Decimal.{decimal}
 use Rattle.text.proofs.Numerals.{decimal-one, decimal-more, decimal-length}
@@ -39,15 +39,15 @@ use Rattle.sheet.proofs.Held.{words}
 use Rattle.sheet.proofs.Sheets.{line-length, sheet-length}
 
 -- a record that may stand has a slot of one digit, and its form's name is short
-may-slot : (r : Record) → T (mayStand r) → r .slot < 10
-may-slot r m = by (passes-by r (is-true (passes r) (and-yes (leb (r .bundle) highest) (passes r) m .1)))
+may-slot : (party : ℕ) (r : Record) → T (mayStand party r) → r .slot < 10
+may-slot party r m = by (passes-by r (is-true (passes r) (may-passes party r m)))
   where
     by : (isWhole r ≡ true) ⊎ (first (changeRefusals (whole (r .old)) (told r)) ≡ accepted) → r .slot < 10
     by (inl w) = omega (arith, ap (λ (q : Record). q .slot) (whole-is r (subst T (sym w) tt)))
     by (inr t) = omega (arith, edit-slot (whole (r .old)) (told r) t)
 
-may-name : (r : Record) → T (mayStand r) → length (nameOf (r .form)) ≤ 3
-may-name r m = by (passes-form r (is-true (passes r) (and-yes (leb (r .bundle) highest) (passes r) m .1)))
+may-name : (party : ℕ) (r : Record) → T (mayStand party r) → length (nameOf (r .form)) ≤ 3
+may-name party r m = by (passes-form r (is-true (passes r) (may-passes party r m)))
   where
     by : (r .form ≡ noForm) ⊎ ((65 ≤ r .form .family) × (r .form .family ≤ 90) × (r .form .number ≤ 48)) → length (nameOf (r .form)) ≤ 3
     by (inl e) = omega (arith, ap (λ (f : Form). length (nameOf f)) e, ap length (other-name noForm refl))
@@ -55,16 +55,16 @@ may-name r m = by (passes-form r (is-true (passes r) (and-yes (leb (r .bundle) h
         let l = letter-name (r .form) (rw (le-leb 65 (r .form .family) (b .0), le-leb (r .form .family) 90 (b .1))) in
         omega (arith, ap length l, decimal-length 1 (r .form .number) (omega (arith, b .2)))
 
-line-most : (r : Record) → T (mayStand r) → T (isHeld r) → length (lineAs Full r) ≤ 116
-line-most r m h =
-    let near = leb→le (r .bundle) highest (and-yes (leb (r .bundle) highest) (passes r) m .0) in
+line-most : (party : ℕ) (r : Record) → T (mayStand party r) → T (isHeld r) → length (lineAs Full r) ≤ 116
+line-most party r m h =
+    let near = leb→le (r .bundle) highest (may-near party r m) in
     let w = words (numbersOf r) h .1 .1 .1 in
     omega (
       arith,
       line-length r,
       decimal-length 3 (r .bundle) (omega (arith, near)),
-      decimal-length 0 (r .slot) (may-slot r m),
-      may-name r m,
+      decimal-length 0 (r .slot) (may-slot party r m),
+      may-name party r m,
       decimal-length 19 (r .value) (omega (arith, w .0)),
       decimal-length 19 (r .old .low) (omega (arith, w .1 .0)),
       decimal-length 19 (r .old .high) (omega (arith, w .1 .1 .0)),
@@ -72,17 +72,22 @@ line-most r m h =
       decimal-length 19 (r .new .high) (omega (arith, w .1 .1 .1 .1 .0)),
     )
 
-lines-most : (rs : List Record) → T (all mayStand rs) → T (all isHeld rs) → length (linesAs Full rs) ≤ 116 * length rs
-lines-most [] m h = omega arith
-lines-most (r ∷ rs) m h =
-    let a = and-yes (mayStand r) (all mayStand rs) m in
+lines-most : (party : ℕ) (rs : List Record) → T (all (mayStand party) rs) → T (all isHeld rs) → length (linesAs Full rs) ≤ 116 * length rs
+lines-most party [] m h = omega arith
+lines-most party (r ∷ rs) m h =
+    let a = and-yes (mayStand party r) (all (mayStand party) rs) m in
     let b = and-yes (isHeld r) (all isHeld rs) h in
-    omega (arith, length-append (lineAs Full r) (linesAs Full rs), line-most r (a .0) (b .0), lines-most rs (a .1) (b .1))
+    omega (arith, length-append (lineAs Full r) (linesAs Full rs), line-most party r (a .0) (b .0), lines-most party rs (a .1) (b .1))
+
+-- full lines tell all of every record
+pub all-told : (rs : List Record) → T (all (tells Full) rs)
+all-told [] = tt
+all-told (r ∷ rs) = all-told rs
 
 pub sheet-most : AtMost
-sheet-most j s =
-    let few = valid-few limit j (s .valid) in
-    omega (arith, few, sheet-length Full j, decimal-length 3 (length (standing j)) (omega (arith, few)), lines-most (standing j) (valid-stand limit j (s .valid)) (s .held))
+sheet-most party places j within s =
+    let few : length (standing j) ≤ limit = omega (arith, within, valid-few party places j (s .valid)) in
+    omega (arith, few, sheet-length Full j, decimal-length 3 (length (standing j)) (omega (arith, few)), lines-most party (standing j) (valid-stand party places j (s .valid)) (s .held))
 
 -- a number of 10 ^ k or more has more than k digits
 digits-least : (k n : ℕ) → 10 ^ k ≤ n → suc k ≤ length (decimal n)
@@ -117,8 +122,8 @@ longest-passes : passes longestRecord ≡ true
 unfolding passes changedOf rowOf lines unitsOf number put gather scatter
 longest-passes = refl
 
-longest-stands : T (mayStand longestRecord)
-longest-stands = yes-and (leb highest highest) (passes longestRecord) tt (subst T (sym longest-passes) tt)
+longest-stands : T (mayStand 0 longestRecord)
+longest-stands = yes-and (leb highest highest) (passes longestRecord && true) tt (yes-and (passes longestRecord) true (subst T (sym longest-passes) tt) tt)
 
 -- and so many it can be
 pub longest-has : LongestHas
@@ -126,10 +131,10 @@ longest-has =
     let stand = journal-stands limit (replicate limit longestRecord) in
     let all-so : (test : Record → Bool) → T (test longestRecord) → T (all test (standing longest)) =
     λ test t. subst (λ (rs : List Record). T (all test rs)) (sym stand) (all-copies test limit longestRecord t) in
-    let may = is-true (all mayStand (replicate limit longestRecord)) (all-copies mayStand limit longestRecord longest-stands) in
+    let may = is-true (all (mayStand 0) (replicate limit longestRecord)) (all-copies (mayStand 0) limit longestRecord longest-stands) in
     let few : leb (length (replicate limit longestRecord)) limit ≡ true = le-leb (length (replicate limit longestRecord)) limit (omega (arith, length-replicate limit longestRecord)) in (
       record {
-        valid = journal-valid limit (replicate limit longestRecord) ∙ rw (few, may);
+        valid = journal-valid 0 limit (replicate limit longestRecord) ∙ rw (few, may);
         held = all-so isHeld tt;
         told = all-so (tells Full) tt;
       },

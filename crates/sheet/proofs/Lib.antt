@@ -8,7 +8,9 @@ pub mod Lines
 pub mod Made
 pub mod Old
 pub mod OneKind
+pub mod Parties
 pub mod Reading
 pub mod Sheets
 pub mod Twice
 pub mod Unique
+mod Writing

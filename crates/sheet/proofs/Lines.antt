@@ -19,9 +19,9 @@ use Rattle.name.specs.Name.{nameOf, hasName, afterName, namedAt}
 use Rattle.name.specs.declared.Name.{Name}
 use Rattle.name.specs.declared.Name.the-variants as name
 use Rattle.name.proofs.Names.{named-read, named-back}
-use Rattle.record.specs.Record.{highest, isWhole, passes, mayStand, isHeld, numbersOf}
+use Rattle.record.specs.Record.{highest, wholeRecord, isWhole, passes, mayStand, isHeld, numbersOf}
 use Rattle.record.specs.declared.Record.{Record}
-use Rattle.record.proofs.Laws.{whole-is, passes-form}
+use Rattle.record.proofs.Laws.{may-passes, may-party, whole-is, passes-form}
 use Rattle.text.specs.Ascii.{tab}
 use Rattle.text.specs.Decimal.{decimal}
 use Rattle.text.specs.Fields.{fields, fieldsAt}
@@ -68,8 +68,8 @@ unfolding lineAs
 old-line r = refl
 
 -- a record that may stand has a form that its name tells
-pub may-named : (r : Record) → T (mayStand r) → hasName (r .form) ≡ true
-may-named r m = by (passes-form r (is-true (passes r) (and-yes (leb (r .bundle) highest) (passes r) m .1)))
+pub may-named : (party : ℕ) (r : Record) → T (mayStand party r) → hasName (r .form) ≡ true
+may-named party r m = by (passes-form r (is-true (passes r) (may-passes party r m)))
   where
     by : (r .form ≡ noForm) ⊎ ((65 ≤ r .form .family) × (r .form .family ≤ 90) × (r .form .number ≤ 48)) → hasName (r .form) ≡ true
     by (inl e) = ap hasName e
@@ -82,7 +82,7 @@ pub record LineRead (kind : Kind) (text : List ℕ) (at : ℕ) (r : Record) (nex
   pub told : T (tells kind r)
 
 -- a full line is read in three parts
-pub record FullRead (text : List ℕ) (at : ℕ) (r : Record) (next : ℕ) : Type 0 where
+pub record FullRead (party : ℕ) (text : List ℕ) (at : ℕ) (r : Record) (next : ℕ) : Type 0 where
   pub front : List ℕ
   pub second : ℕ
   pub form : Form
@@ -92,32 +92,32 @@ pub record FullRead (text : List ℕ) (at : ℕ) (r : Record) (next : ℕ) : Typ
   pub first : fieldsAt text at frontEnds ≡ some (front, second)
   pub named : namedAt text second tab ≡ name.Read form third
   pub rest : fieldsAt text third ends ≡ some (numbers, last)
-  pub is : Read (fullRecord front form numbers) last ≡ Read r next
+  pub is : Read (fullRecord party front form numbers) last ≡ Read r next
 
 pub no-line : {r : Record} {next : ℕ} → Refused ≡ Read r next → ⊥
 no-line e = let z : _≡_ {A = ℕ} 0 1 = cc in omega arith
 
-module _ (text : List ℕ) (at : ℕ) (r : Record) (next : ℕ) where
-  old-read : (o : Option (List ℕ × ℕ)) → fieldsAt text at ends ≡ o → readAs Old text at ≡ Read r next → LineRead Old text at r next
+module _ (party : ℕ) (text : List ℕ) (at : ℕ) (r : Record) (next : ℕ) where
+  old-read : (o : Option (List ℕ × ℕ)) → fieldsAt text at ends ≡ o → readAs party Old text at ≡ Read r next → LineRead Old text at r next
   unfolding readAs
   old-read none e f = absurd (no-line (rw e at f))
   old-read (some q) e f =
-      let g : Read (oldRecord (q .0)) (q .1) ≡ Read r next = rw e at f in
-      let v : oldRecord (q .0) ≡ r = cc in
+      let g : Read (oldRecord party (q .0)) (q .1) ≡ Read r next = rw e at f in
+      let v : oldRecord party (q .0) ≡ r = cc in
       let p : q .1 ≡ next = cc in
       let s = fields-read text ends at (q .0) (q .1) e in
       let same = sym (all-of 5 (q .0) (s .count)) in
       let w = subst Words same (s .words) in
       rw (← v, ← p)
       (record {
-        stands = subst (λ (l : List ℕ). Stands text at l (q .1)) (ap (λ (ms : List ℕ). fields ms ends) same ∙ old-line (oldRecord (q .0))) (s .piece);
-        held = are-words (numbersOf (oldRecord (q .0))) (w .0, (omega arith, (omega arith, (omega arith, w .1))));
+        stands = subst (λ (l : List ℕ). Stands text at l (q .1)) (ap (λ (ms : List ℕ). fields ms ends) same ∙ old-line (oldRecord party (q .0))) (s .piece);
+        held = are-words (numbersOf (oldRecord party (q .0))) (w .0, (omega arith, (omega arith, (omega arith, w .1))));
         told = tt;
       })
 
-  full-stands : FullRead text at r next → LineRead Full text at r next
+  full-stands : FullRead party text at r next → LineRead Full text at r next
   full-stands f =
-      let one = fullRecord (f .front) (f .form) (f .numbers) in
+      let one = fullRecord party (f .front) (f .form) (f .numbers) in
       let v : one ≡ r = cc (f .is) in
       let p : f .last ≡ next = cc (f .is) in
       let s = fields-read text frontEnds at (f .front) (f .second) (f .first) in
@@ -136,31 +136,31 @@ module _ (text : List ℕ) (at : ℕ) (r : Record) (next : ℕ) where
         told = tt;
       })
 
-  pub full-read : readAs Full text at ≡ Read r next → FullRead text at r next
+  pub full-read : readAs party Full text at ≡ Read r next → FullRead party text at r next
   unfolding readAs
   full-read = by-front (fieldsAt text at frontEnds) refl
     where
       by-tail : (front : List ℕ) (a : ℕ) → fieldsAt text at frontEnds ≡ some (front, a) → (form : Form) (b : ℕ) → namedAt text a tab ≡ name.Read form b
-          → (o : Option (List ℕ × ℕ)) → fieldsAt text b ends ≡ o → afterFields o (λ ns next. Read (fullRecord front form ns) next) Refused ≡ Read r next → FullRead text at r next
+          → (o : Option (List ℕ × ℕ)) → fieldsAt text b ends ≡ o → afterFields o (λ ns next. Read (fullRecord party front form ns) next) Refused ≡ Read r next → FullRead party text at r next
       by-tail front a e form b n none t f = absurd (no-line f)
       by-tail front a e form b n (some u) t f =
           record { front = front; second = a; form = form; third = b; numbers = u .0; last = u .1; first = e; named = n; rest = t; is = f }
 
       by-name : (front : List ℕ) (a : ℕ) → fieldsAt text at frontEnds ≡ some (front, a) → (m : Name) → namedAt text a tab ≡ m
-          → afterName m (λ form next. afterFields (fieldsAt text next ends) (λ ns next. Read (fullRecord front form ns) next) Refused) Refused ≡ Read r next → FullRead text at r next
+          → afterName m (λ form next. afterFields (fieldsAt text next ends) (λ ns next. Read (fullRecord party front form ns) next) Refused) Refused ≡ Read r next → FullRead party text at r next
       by-name front a e name.Refused n f = absurd (no-line f)
       by-name front a e (name.Read form b) n f = by-tail front a e form b n (fieldsAt text b ends) refl f
 
-      by-front : (o : Option (List ℕ × ℕ)) → fieldsAt text at frontEnds ≡ o → readAs Full text at ≡ Read r next → FullRead text at r next
+      by-front : (o : Option (List ℕ × ℕ)) → fieldsAt text at frontEnds ≡ o → readAs party Full text at ≡ Read r next → FullRead party text at r next
       by-front none e f = absurd (no-line (rw e at f))
       by-front (some q) e f = by-name (q .0) (q .1) e (namedAt text (q .1) tab) refl (rw e at f)
 
-  read-stands : (kind : Kind) → readAs kind text at ≡ Read r next → LineRead kind text at r next
+  read-stands : (kind : Kind) → readAs party kind text at ≡ Read r next → LineRead kind text at r next
   read-stands Full f = full-stands (full-read f)
   read-stands Old f = old-read (fieldsAt text at ends) refl f
 
   -- what stands there is read
-  full-back : T (mayStand r) → T (isHeld r) → Stands text at (lineAs Full r) next → readAs Full text at ≡ Read r next
+  full-back : T (mayStand party r) → T (isHeld r) → Stands text at (lineAs Full r) next → readAs party Full text at ≡ Read r next
   unfolding readAs
   full-back m h s =
       let w = words (numbersOf r) h in
@@ -169,37 +169,37 @@ module _ (text : List ℕ) (at : ℕ) (r : Record) (next : ℕ) where
       let t = stands-parts (nameOf (r .form)) (q .0) in
       rw (
         fields-back text frontEnds (frontOf r) at _ (refl, (refl, tt)) (record { count = refl; words = (w .0, (w .1 .0, tt)); piece = p .0 }),
-        named-back text _ tab (r .form) _ refl (record { middle = _; name = record { named = may-named r m; below = w .1 .1 .0; piece = t .0 }; byte = t .1 }),
+        named-back text _ tab (r .form) _ refl (record { middle = _; name = record { named = may-named party r m; below = w .1 .1 .0; piece = t .0 }; byte = t .1 }),
         fields-back text ends (tailOf (r .value) r) _ next (refl, (refl, (refl, (refl, (refl, tt))))) (record { count = refl; words = w .1 .1 .1; piece = q .1 }),
-      )
+      ) (ap (λ (p : ℕ). Read (fullRecord p (frontOf r) (r .form) (tailOf (r .value) r)) next) (sym (may-party party r m)))
 
-  old-back : T (isWhole r) → T (isHeld r) → Stands text at (lineAs Old r) next → readAs Old text at ≡ Read r next
+  old-back : T (mayStand party r) → T (isWhole r) → T (isHeld r) → Stands text at (lineAs Old r) next → readAs party Old text at ≡ Read r next
   unfolding readAs
-  old-back t h s =
+  old-back m t h s =
       let w = words (numbersOf r) h in
       rw (fields-back text ends (tailOf (r .bundle) r) at next (refl, (refl, (refl, (refl, (refl, tt))))) (record { count = refl; words = (w .0, w .1 .1 .1 .1); piece = subst (λ (l : List ℕ). Stands text at l next) (sym (old-line r)) s }))
-      (ap (λ (q : Record). Read q next) (sym (whole-is r t)))
+      (ap (λ (p : ℕ). Read (wholeRecord p (r .bundle) (r .old) (r .new)) next) (sym (may-party party r m)) ∙ ap (λ (q : Record). Read q next) (sym (whole-is r t)))
 
-  read-back : (kind : Kind) → T (mayStand r) → T (isHeld r) → T (tells kind r) → Stands text at (lineAs kind r) next → readAs kind text at ≡ Read r next
+  read-back : (kind : Kind) → T (mayStand party r) → T (isHeld r) → T (tells kind r) → Stands text at (lineAs kind r) next → readAs party kind text at ≡ Read r next
   read-back Full m h t s = full-back m h s
-  read-back Old m h t s = old-back t h s
+  read-back Old m h t s = old-back m t h s
 
   -- and so of lines whose records may stand
-  pub line-taken : (kind : Kind) → lineAt kind text at ≡ Read r next → T (mayStand r) × (readAs kind text at ≡ Read r next)
+  pub line-taken : (kind : Kind) → lineAt party kind text at ≡ Read r next → T (mayStand party r) × (readAs party kind text at ≡ Read r next)
   unfolding lineAt
-  line-taken kind = go (readAs kind text at) refl
+  line-taken kind = go (readAs party kind text at) refl
     where
-      by-test : (q : Record) (last : ℕ) → readAs kind text at ≡ Read q last → (t : Bool) → mayStand q ≡ t → cond t (Read q last) Refused ≡ Read r next → T (mayStand r) × (readAs kind text at ≡ Read r next)
+      by-test : (q : Record) (last : ℕ) → readAs party kind text at ≡ Read q last → (t : Bool) → mayStand party q ≡ t → cond t (Read q last) Refused ≡ Read r next → T (mayStand party r) × (readAs party kind text at ≡ Read r next)
       by-test q last e false m f = absurd (no-line f)
-      by-test q last e true m f = let v : q ≡ r = cc in (subst T (sym m ∙ ap mayStand v) tt, e ∙ f)
+      by-test q last e true m f = let v : q ≡ r = cc in (subst T (sym m ∙ ap (mayStand party) v) tt, e ∙ f)
 
-      go : (m : Line) → readAs kind text at ≡ m → tested m ≡ Read r next → T (mayStand r) × (readAs kind text at ≡ Read r next)
+      go : (m : Line) → readAs party kind text at ≡ m → tested party m ≡ Read r next → T (mayStand party r) × (readAs party kind text at ≡ Read r next)
       go Refused e f = absurd (no-line f)
-      go (Read q last) e f = by-test q last e (mayStand q) refl f
+      go (Read q last) e f = by-test q last e (mayStand party q) refl f
 
-  pub line-read : (kind : Kind) → lineAt kind text at ≡ Read r next → T (mayStand r) × LineRead kind text at r next
+  pub line-read : (kind : Kind) → lineAt party kind text at ≡ Read r next → T (mayStand party r) × LineRead kind text at r next
   line-read kind e = let t = line-taken kind e in (t .0, read-stands kind (t .1))
 
-  pub line-back : (kind : Kind) → T (mayStand r) → T (isHeld r) → T (tells kind r) → Stands text at (lineAs kind r) next → lineAt kind text at ≡ Read r next
+  pub line-back : (kind : Kind) → T (mayStand party r) → T (isHeld r) → T (tells kind r) → Stands text at (lineAs kind r) next → lineAt party kind text at ≡ Read r next
   unfolding lineAt
-  line-back kind m h t s = rw (read-back kind m h t s, is-true (mayStand r) m)
+  line-back kind m h t s = rw (read-back kind m h t s, is-true (mayStand party r) m)

@@ -26,10 +26,10 @@ module _ (text : List ℕ) (at : ℕ) where
   unfolding fieldsAt
   no-numbers middle e = rw (← e)
 
-  not-both : {r : Record} {next : ℕ} → FullRead text at r next → (o : Option (List ℕ × ℕ)) → fieldsAt text at ends ≡ o → {q : Record} {last : ℕ} → readAs Old text at ≡ Read q last → ⊥
+  not-both : (party : ℕ) {r : Record} {next : ℕ} → FullRead party text at r next → (o : Option (List ℕ × ℕ)) → fieldsAt text at ends ≡ o → {q : Record} {last : ℕ} → readAs party Old text at ≡ Read q last → ⊥
   unfolding readAs
-  not-both f none e g = no-line (rw e at g)
-  not-both f (some p) e g =
+  not-both party f none e g = no-line (rw e at g)
+  not-both party f (some p) e g =
       let s = fields-split text moreEnds (p .1) frontEnds at (p .0) e in
       let same : s .middle ≡ f .second = ap (λ (q : List ℕ × ℕ). q .1) (Option·some-injective _ _ (sym (s .first) ∙ f .first)) in
       let n = named-read text (f .second) tab (f .form) (f .third) (f .named) in
@@ -37,13 +37,13 @@ module _ (text : List ℕ) (at : ℕ) where
       Option·none-ne-some (s .back, p .1) (sym no ∙ ap (λ (k : ℕ). fieldsAt text k moreEnds) (sym same) ∙ s .rest)
 
 -- so a text gives the same records by both kinds of line, where it gives some
-pub one-kind : (text : List ℕ) (at left : ℕ) (rs qs : List Record) → recordsAt Full text at left ≡ some rs → recordsAt Old text at left ≡ some qs → rs ≡ qs
+pub one-kind : (party : ℕ) (text : List ℕ) (at left : ℕ) (rs qs : List Record) → recordsAt party Full text at left ≡ some rs → recordsAt party Old text at left ≡ some qs → rs ≡ qs
 unfolding recordsAt
-one-kind text at zero rs qs f g = Option·some-injective rs qs (sym f ∙ g)
-one-kind text at (suc left) rs qs f g = by-lines (lineAt Full text at) refl (lineAt Old text at) refl
+one-kind party text at zero rs qs f g = Option·some-injective rs qs (sym f ∙ g)
+one-kind party text at (suc left) rs qs f g = by-lines (lineAt party Full text at) refl (lineAt party Old text at) refl
   where
-    by-lines : (m : Line) → lineAt Full text at ≡ m → (n : Line) → lineAt Old text at ≡ n → rs ≡ qs
+    by-lines : (m : Line) → lineAt party Full text at ≡ m → (n : Line) → lineAt party Old text at ≡ n → rs ≡ qs
     by-lines Refused e n d = absurd (Option·none-ne-some rs (rw e at f))
     by-lines (Read r next) e Refused d = absurd (Option·none-ne-some qs (rw d at g))
     by-lines (Read r next) e (Read q last) d =
-        absurd (not-both text at (full-read text at r next (line-taken text at r next Full e .1)) (fieldsAt text at ends) refl (line-taken text at q last Old d .1))
+        absurd (not-both text at party (full-read party text at r next (line-taken party text at r next Full e .1)) (fieldsAt text at ends) refl (line-taken party text at q last Old d .1))

@@ -12,16 +12,16 @@ use Rattle.sheet.specs.Load.{lineAt, recordsAt}
 use Rattle.sheet.specs.declared.line.Kind.{Kind}
 
 -- the lines that are left
-module _ (kind : Kind) (text : List ℕ) (at i count : ℕ) where
+module _ (party : ℕ) (kind : Kind) (text : List ℕ) (at i count : ℕ) where
   module _ (h : i < count) where
     left : count - i ≡ suc (count - (i + 1))
     left = omega arith
 
-    pub records-on : (r : Record) (next : ℕ) → lineAt kind text at ≡ line.Read r next → recordsAt kind text at (count - i) ≡ Option·map (λ (rs : List Record). r ∷ rs) (recordsAt kind text next (count - (i + 1)))
+    pub records-on : (r : Record) (next : ℕ) → lineAt party kind text at ≡ line.Read r next → recordsAt party kind text at (count - i) ≡ Option·map (λ (rs : List Record). r ∷ rs) (recordsAt party kind text next (count - (i + 1)))
     unfolding recordsAt
     records-on r next e = rw (left, e)
 
-    pub records-not : lineAt kind text at ≡ line.Refused → recordsAt kind text at (count - i) ≡ none
+    pub records-not : lineAt party kind text at ≡ line.Refused → recordsAt party kind text at (count - i) ≡ none
     unfolding recordsAt
     records-not e = rw (left, e)
 
@@ -29,10 +29,10 @@ module _ (kind : Kind) (text : List ℕ) (at i count : ℕ) where
     done : count - i ≡ 0
     done = omega arith
 
-    pub records-whole : at ≡ length text → recordsAt kind text at (count - i) ≡ some []
+    pub records-whole : at ≡ length text → recordsAt party kind text at (count - i) ≡ some []
     unfolding recordsAt
     records-whole e = rw (done, eq-eqb at (length text) e)
 
-    pub records-trailing : (at ≡ length text → ⊥) → recordsAt kind text at (count - i) ≡ none
+    pub records-trailing : (at ≡ length text → ⊥) → recordsAt party kind text at (count - i) ≡ none
     unfolding recordsAt
     records-trailing d = rw (done, ne-eqb at (length text) d)

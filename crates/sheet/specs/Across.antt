@@ -1,9 +1,12 @@
--- Demand 3 across sheets: a run may write sheets, and load the one that the call straight before it wrote from the same journal. Code, journal
--- and the answers of edits and undos are then those of the run's edits and undos alone. Proved in `proofs/Across.antt`. Assumes nothing.
+-- Demand 3 across sheets: a party's run may write sheets, and load the one that its call straight before wrote from the same journal. Code,
+-- journal and the answers of edits and undos are then those of the run's edits and undos alone. (A run may load any other text too; it is then
+-- no run of demand 3.) Proved in `proofs/Across.antt`. Assumes nothing.
 use Prim.Native.Nat.{ℕ, _≤_, _<_, _^_}
 use mathlib.Core.Path.{_≡_}
+use mathlib.Core.Bool.{Bool, true, false}
 use mathlib.Core.List.{List, [], _∷_}
 use mathlib.Core.Option.{Option, none, some}
+use lib.Dec.{T}
 use lib.ListN.{length, getD, take}
 use Rattle.answer.specs.Answer.{accepted, outcome}
 use Rattle.bundle.specs.Bundle.{longestCode}
@@ -15,11 +18,12 @@ use Rattle.text.specs.declared.whole.Written.{Written}
 use Rattle.sheet.specs.Sheet.{sheetOf, writeRefusals}
 use Rattle.sheet.specs.Load.{loadOf}
 
--- an edit or undo; a sheet written to an output; the sheet loaded that the call straight before wrote
+-- an edit or undo; a sheet written to an output; the sheet loaded that the call straight before wrote; any text loaded
 pub data SheetCall : Type 0 where
   call : Call → SheetCall
   write : List ℕ → SheetCall
   load : SheetCall
+  loadText : List ℕ → SheetCall
 
 -- what there is after a call, and the sheet that it wrote
 pub record State : Type 0 where
@@ -31,21 +35,23 @@ abbrev pub sheetIn : Written × List ℕ → Option (List ℕ)
 sheetIn w = outcome (w .0 .answer) (some (take (w .0 .length) (w .1))) none
 
 -- loading a text; where none was written straight before, loading is no call of a run
-abbrev pub loaded : Outcome → Option (List ℕ) → Outcome
-loaded o none = o
-loaded o (some text) = let l = loadOf limit (o .journal) text in record { answer = l .answer; journal = l .journal; code = o .code }
+abbrev pub loaded : ℕ → ℕ → Outcome → Option (List ℕ) → Outcome
+loaded party places o none = o
+loaded party places o (some text) = let l = loadOf limit party places (o .journal) text in record { answer = l .answer; journal = l .journal; code = o .code }
 
-abbrev pub next : State → SheetCall → State
-next s (call c) = record { after = step limit (s .after) c; sheet = none }
-next s (write out) =
-    let w = wroteOf (writeRefusals (s .after .journal)) (sheetOf (s .after .journal)) out in
+-- one call of a party with a journal of so many places
+abbrev pub next : ℕ → ℕ → State → SheetCall → State
+next party places s (call c) = record { after = step party places (s .after) c; sheet = none }
+next party places s (write out) =
+    let w = wroteOf (writeRefusals party places (s .after .journal)) (sheetOf (s .after .journal)) out in
     record { after = record { answer = w .0 .answer; journal = s .after .journal; code = s .after .code }; sheet = sheetIn w }
-next s load = record { after = loaded (s .after) (s .sheet); sheet = none }
+next party places s load = record { after = loaded party places (s .after) (s .sheet); sheet = none }
+next party places s (loadText text) = record { after = loaded party places (s .after) (some text); sheet = none }
 
 -- a run; the last call stands first
-abbrev pub runAcross : List ℕ → List SheetCall → State
-runAcross code [] = record { after = run limit code []; sheet = none }
-runAcross code (c ∷ cs) = next (runAcross code cs) c
+abbrev pub runAcross : ℕ → ℕ → List ℕ → List SheetCall → State
+runAcross party places code [] = record { after = run party places code []; sheet = none }
+runAcross party places code (c ∷ cs) = next party places (runAcross party places code cs) c
 
 -- its edits and undos
 abbrev pub plain : List SheetCall → List Call
@@ -53,15 +59,26 @@ plain [] = []
 plain (call c ∷ cs) = c ∷ plain cs
 plain (write out ∷ cs) = plain cs
 plain (load ∷ cs) = plain cs
+plain (loadText text ∷ cs) = plain cs
+
+-- a run of demand 3: what it loads is what the call straight before wrote
+abbrev pub ownSheets : List SheetCall → Bool
+ownSheets [] = true
+ownSheets (call c ∷ cs) = ownSheets cs
+ownSheets (write out ∷ cs) = ownSheets cs
+ownSheets (load ∷ cs) = ownSheets cs
+ownSheets (loadText text ∷ cs) = false
 
 -- what demand 3 says after a run with sheets
-pub record HoldsAcross (code : List ℕ) (calls : List SheetCall) : Type 0 where
-  pub code-is : runAcross code calls .after .code ≡ run limit code (plain calls) .code
-  pub journal-is : runAcross code calls .after .journal ≡ run limit code (plain calls) .journal
-  pub answers : (c : Call) → runAcross code (call c ∷ calls) .after .answer ≡ run limit code (c ∷ plain calls) .answer
-  pub loads : (text : List ℕ) → runAcross code calls .sheet ≡ some text → runAcross code (load ∷ calls) .after .answer ≡ accepted
-  pub holds : Holds limit code (plain calls)
+pub record HoldsAcross (party places : ℕ) (code : List ℕ) (calls : List SheetCall) : Type 0 where
+  pub code-is : runAcross party places code calls .after .code ≡ run party places code (plain calls) .code
+  pub journal-is : runAcross party places code calls .after .journal ≡ run party places code (plain calls) .journal
+  pub answers : (c : Call) → runAcross party places code (call c ∷ calls) .after .answer ≡ run party places code (c ∷ plain calls) .answer
+  pub loads : (text : List ℕ) → runAcross party places code calls .sheet ≡ some text → runAcross party places code (load ∷ calls) .after .answer ≡ accepted
+  pub holds : Holds party places code (plain calls)
 
--- of every code of at most `longestCode` bytes and every run with sheets
+-- of every party, every number of places up to the limit, every code of at most `longestCode` bytes and every run with sheets of its own
 abbrev pub Demand3Across : Type 0
-Demand3Across = (code : List ℕ) → ((i : ℕ) → getD code i 0 < 2 ^ 8) → length code ≤ longestCode → (calls : List SheetCall) → HoldsAcross code calls
+Demand3Across =
+    (party places : ℕ) (code : List ℕ) → places ≤ limit → ((i : ℕ) → getD code i 0 < 2 ^ 8) → length code ≤ longestCode → (calls : List SheetCall) → T (ownSheets calls)
+    → HoldsAcross party places code calls

@@ -2,7 +2,7 @@
 -- that time gave, which goes by bundle, old and new alone. Proved in `proofs/Old.antt`. Assumes nothing.
 use Prim.Native.Nat.{ℕ, zero, suc, _+_, _*_, _≤_}
 use mathlib.Core.Path.{_≡_}
-use mathlib.Core.Bool.{Bool, cond, _&&_}
+use mathlib.Core.Bool.{Bool, true, cond, _&&_}
 use mathlib.Core.List.{List, [], _∷_, _++_}
 use lib.Dec.{T, leb, ltb}
 use lib.ListN.{length}
@@ -13,9 +13,8 @@ use Rattle.journal.specs.Edit.{Outcome, rewritten}
 use Rattle.journal.specs.Demand3.{undo, step}
 use Rattle.record.specs.Record.{highest, wholeRecord, sameHalves, isHeld}
 use Rattle.record.specs.declared.Record.{Record}
-use Rattle.records.specs.Journal.{Journal, limit, all, journalOf}
+use Rattle.records.specs.Journal.{Journal, limit, all, journalOf, validOf}
 use Rattle.sheet.specs.Load.{loadOf}
-use Rattle.sheet.specs.RoundTrip.{Fits}
 use Rattle.sheet.specs.Sheet.{sheetAs}
 use Rattle.sheet.specs.declared.line.Kind.the-variants.{Old}
 
@@ -25,10 +24,10 @@ pub record OldRecord : Type 0 where
   pub old : Halves
   pub new : Halves
 
--- such records, of which the newest stands first, as records of whole bundles, the oldest first
-abbrev pub wholes : List OldRecord → List Record
-wholes [] = []
-wholes (r ∷ rs) = wholes rs ++ (wholeRecord (r .bundle) (r .old) (r .new) ∷ [])
+-- such records, of which the newest stands first, as a party's records of whole bundles, the oldest first
+abbrev pub wholes : ℕ → List OldRecord → List Record
+wholes party [] = []
+wholes party (r ∷ rs) = wholes party rs ++ (wholeRecord party (r .bundle) (r .old) (r .new) ∷ [])
 
 -- the code after undoing all of them: an old bundle is written where the new one stands, and where it doesn't undoing has an end
 abbrev pub undone : List ℕ → List OldRecord → List ℕ
@@ -38,19 +37,22 @@ undone code (r ∷ rs) =
     (cond (sameHalves (halvesOf (numberAt code (r .bundle))) (r .new)) (undone (rewritten code (r .bundle) (whole (r .old))) rs) code)
 
 -- so many undos
-abbrev pub undos : ℕ → Outcome → Outcome
-undos zero o = o
-undos (suc n) o = undos n (step limit o undo)
+abbrev pub undos : ℕ → ℕ → ℕ → Outcome → Outcome
+undos party places zero o = o
+undos party places (suc n) o = undos party places n (step party places o undo)
 
 -- a record that could stand: of a bundle up to the highest, in numbers of 64 bits
 abbrev pub couldStand : Record → Bool
 couldStand r = leb (r .bundle) highest && isHeld r
 
--- what is so of a journal of that time
-pub record LoadsOld (given : Journal) (rs : List OldRecord) : Type 0 where
-  pub loads : loadOf limit given (sheetAs Old (journalOf limit (wholes rs))) ≡ record { answer = accepted; journal = journalOf limit (wholes rs) }
-  pub undoes : (code : List ℕ) → length code ≤ longestCode → undos (length rs) (record { answer = accepted; journal = journalOf limit (wholes rs); code = code }) .code ≡ undone code rs
+-- what is so of a journal of that time, loaded by a party with so many places
+pub record LoadsOld (party places : ℕ) (given : Journal) (rs : List OldRecord) : Type 0 where
+  pub loads : loadOf limit party places given (sheetAs Old (journalOf places (wholes party rs))) ≡ record { answer = accepted; journal = journalOf places (wholes party rs) }
+  pub undoes : (code : List ℕ) → length code ≤ longestCode
+      → undos party places (length rs) (record { answer = accepted; journal = journalOf places (wholes party rs); code = code }) .code ≡ undone code rs
 
 -- of every one
 abbrev pub OldLoads : Type 0
-OldLoads = (given : Journal) (rs : List OldRecord) → Fits limit given → length rs ≤ limit → T (all couldStand (wholes rs)) → LoadsOld given rs
+OldLoads =
+    (party places : ℕ) (given : Journal) (rs : List OldRecord) → places ≤ limit → validOf party places given ≡ true → length rs ≤ places → T (all couldStand (wholes party rs))
+    → LoadsOld party places given rs

@@ -10,10 +10,13 @@ use Rattle.answer.specs.Answer.{Refusal, badJournal}
 use Rattle.name.specs.Name.{nameOf}
 use Rattle.record.specs.Record.{noRecord, isWhole}
 use Rattle.record.specs.declared.Record.{Record}
-use Rattle.records.specs.Journal.{Journal, limit, standing, validOf}
+use Rattle.records.specs.Journal.{Journal, standing, validOf}
+use Rattle.records.specs.Shared.{Shared, placesOf, servedOf}
 use Rattle.table.specs.Ascii.{ascii}
 use Rattle.text.specs.Ascii.{line}
 use Rattle.text.specs.Decimal.{decimal}
+use Rattle.text.specs.Whole.{wroteOf}
+use Rattle.text.specs.declared.whole.Written.{Written}
 use Rattle.sheet.specs.declared.line.Kind.{Kind}
 use Rattle.sheet.specs.declared.line.Kind.the-variants.{Full, Old}
 
@@ -70,5 +73,12 @@ abbrev pub capacity : ℕ
 capacity = 118797
 
 -- which journal has no sheet
-abbrev pub writeRefusals : Journal → List Refusal
-writeRefusals j = (badJournal, not (validOf limit j)) ∷ []
+abbrev pub writeRefusals : ℕ → ℕ → Journal → List Refusal
+writeRefusals party places j = (badJournal, not (validOf party places j)) ∷ []
+
+-- what a party's writing comes to: its own journal's sheet, or line i of that
+abbrev pub writeBy : Shared → ℕ → List ℕ → Written × List ℕ
+writeBy s party out = let j = servedOf s party in wroteOf (writeRefusals party (placesOf (s .parties) party) j) (sheetOf j) out
+
+abbrev pub writeLineBy : Shared → ℕ → ℕ → List ℕ → Written × List ℕ
+writeLineBy s party i out = let j = servedOf s party in wroteOf (writeRefusals party (placesOf (s .parties) party) j) (sheetLine j i) out

@@ -1,10 +1,10 @@
 -- How loading goes: the text is gone through twice, once to look and once to write. What it comes to is said in `Load.antt`. Assumes nothing.
 use Prim.Native.Nat.{ℕ, zero, suc}
-use mathlib.Core.Bool.{cond}
+use mathlib.Core.Bool.{Bool, cond}
 use mathlib.Core.List.{List, [], _∷_}
 use mathlib.Core.Option.{Option, none, some}
-use lib.Dec.{eqb, leb, ltb}
-use Rattle.answer.specs.Answer.{accepted, badJournal, badSheet, outcome}
+use lib.Dec.{leb, ltb}
+use Rattle.answer.specs.Answer.{accepted, full, badJournal, badSheet, outcome}
 use Rattle.record.specs.Record.{noRecord}
 use Rattle.record.specs.declared.Record.{Record}
 use Rattle.text.specs.Fields.{afterNumber}
@@ -23,26 +23,32 @@ abbrev pub seen : ℕ → ℕ → Kind → Option (List Record) → Found
 seen count first kind (some rs) = record { answer = accepted; count = count; first = first; kind = kind }
 seen count first kind none = nothing badSheet
 
--- the sheet that a text is, in lines of a kind, for so many places
-unfoldable pub foundAs : ℕ → Kind → List ℕ → Found
-foundAs places kind text =
-    afterNumber (headOf text) (λ count at. cond (leb count places) (seen count at kind (recordsAt kind text at count)) (nothing badSheet)) (nothing badSheet)
+-- the sheet of at most so many records that a text is, in lines of a kind
+unfoldable pub foundAs : ℕ → ℕ → Kind → List ℕ → Found
+foundAs most party kind text =
+    afterNumber (headOf text) (λ count at. cond (leb count most) (seen count at kind (recordsAt party kind text at count)) (nothing badSheet)) (nothing badSheet)
 
 -- the one found in full lines, or else in old ones
 abbrev pub orOld : Found → Found → Found
 orOld full old = outcome (full .answer) full old
 
--- the sheet that a text is, for a slice of so many records where there are to be so many places
+-- the sheet that a text is
 unfoldable pub foundIn : ℕ → ℕ → List ℕ → Found
-foundIn places slice text = cond (eqb slice places) (orOld (foundAs places Full text) (foundAs places Old text)) (nothing badJournal)
+foundIn most party text = orOld (foundAs most party Full text) (foundAs most party Old text)
+
+-- the same where the party's journal is valid and has places for the records
+unfoldable pub foundFor : ℕ → ℕ → Bool → ℕ → List ℕ → Found
+foundFor most party valid places text =
+    let found = foundIn most party text in
+    cond valid (cond (ltb places (found .count)) (nothing full) found) (nothing badJournal)
 
 -- what comes at a place: the record of the line that stands there and where the next line begins, or nothing past the last
-unfoldable pub nextOf : List ℕ → ℕ → ℕ → Found → Next
-nextOf text at place found =
+unfoldable pub nextOf : ℕ → List ℕ → ℕ → ℕ → Found → Next
+nextOf party text at place found =
     let free : Next = record { one = noRecord; at = at } in
-    cond (ltb place (found .count)) (afterLine (lineAt (found .kind) text at) (λ r next. record { one = r; at = next }) free) free
+    cond (ltb place (found .count)) (afterLine (lineAt party (found .kind) text at) (λ r next. record { one = r; at = next }) free) free
 
 -- so many places from one on, as they are written
-abbrev pub filled : List ℕ → Found → ℕ → ℕ → ℕ → List Record
-filled text found at place zero = []
-filled text found at place (suc left) = let next = nextOf text at place found in next .one ∷ filled text found (next .at) (suc place) left
+abbrev pub filled : ℕ → List ℕ → Found → ℕ → ℕ → ℕ → List Record
+filled party text found at place zero = []
+filled party text found at place (suc left) = let next = nextOf party text at place found in next .one ∷ filled party text found (next .at) (suc place) left

@@ -38,31 +38,31 @@ pub fn put_line(out: &mut [u8], at: usize, one: Record) -> usize
     )
 }
 
-// The record whose line of that kind stands at a place, where it may stand.
-pub fn read_line(text: &[u8], at: usize, kind: Kind) -> Line
-    ensures { λ r. ⌜ r ≡ lineAt kind (now (text .entry)) at ⌝ }
+// The party's record whose line of that kind stands at a place, where it may stand.
+pub fn read_line(party: u64, text: &[u8], at: usize, kind: Kind) -> Line
+    ensures { λ r. ⌜ r ≡ lineAt party kind (now (text .entry)) at ⌝ }
 {
     match kind {
-        Kind::Full => test(read_full(text, at)),
-        Kind::Old => test(read_old(text, at)),
+        Kind::Full => test(party, read_full(party, text, at)),
+        Kind::Old => test(party, read_old(party, text, at)),
     }
 }
 
-fn test(line: Line) -> Line
-    ensures { λ r. ⌜ r ≡ tested line ⌝ }
+fn test(party: u64, line: Line) -> Line
+    ensures { λ r. ⌜ r ≡ tested party line ⌝ }
 {
     let Line::Read(one, next) = line else {
         return Line::Refused;
     };
-    if record::may_stand(one) {
+    if record::may_stand(party, one) {
         Line::Read(one, next)
     } else {
         Line::Refused
     }
 }
 
-fn read_full(text: &[u8], at: usize) -> Line
-    ensures { λ r. ⌜ r ≡ readAs kind.Full (now (text .entry)) at ⌝ }
+fn read_full(party: u64, text: &[u8], at: usize) -> Line
+    ensures { λ r. ⌜ r ≡ readAs party kind.Full (now (text .entry)) at ⌝ }
 {
     let front = read_fields(text, at, b"\t\t");
     if !front.read {
@@ -87,6 +87,7 @@ fn read_full(text: &[u8], at: usize) -> Line
         high: of[4],
     };
     let one = Record {
+        party,
         bundle: first[0],
         slot: first[1],
         form,
@@ -97,8 +98,8 @@ fn read_full(text: &[u8], at: usize) -> Line
     Line::Read(one, tail.next)
 }
 
-fn read_old(text: &[u8], at: usize) -> Line
-    ensures { λ r. ⌜ r ≡ readAs kind.Old (now (text .entry)) at ⌝ }
+fn read_old(party: u64, text: &[u8], at: usize) -> Line
+    ensures { λ r. ⌜ r ≡ readAs party kind.Old (now (text .entry)) at ⌝ }
 {
     let line = read_fields(text, at, b"\t\t\t\t\n");
     if !line.read {
@@ -113,5 +114,5 @@ fn read_old(text: &[u8], at: usize) -> Line
         low: of[3],
         high: of[4],
     };
-    Line::Read(record::whole_record(of[0], old, new), line.next)
+    Line::Read(record::whole_record(party, of[0], old, new), line.next)
 }

@@ -2,13 +2,14 @@
 ghost use mathlib.Core.Path.{_≡_};
 ghost use Rattle.records.specs.Journal.{limit};
 ghost use Rattle.sheet.specs.Load.{headOf};
-ghost use Rattle.sheet.specs.Twice.{nothing, foundAs, foundIn, nextOf};
+ghost use Rattle.sheet.specs.Twice.{nothing, foundAs, foundIn, foundFor, nextOf};
 use crate::line;
 use crate::line::Kind;
 use crate::line::Line;
 use answer::ACCEPTED;
 use answer::BAD_JOURNAL;
 use answer::BAD_SHEET;
+use answer::FULL;
 use record::NONE;
 use record::Record;
 use records::LIMIT;
@@ -40,23 +41,34 @@ fn none(answer: u8) -> Found
     }
 }
 
-// The sheet that a text is, in full lines or else in old ones, for a slice of so many records.
-pub fn look(text: &[u8], places: usize) -> Found
-    ensures { λ r. ⌜ r ≡ foundIn limit places (now (text .entry)) ⌝ }
+// The sheet that a text is, where a party's journal is valid and has places for its records.
+pub fn look(party: u64, valid: bool, places: u64, text: &[u8]) -> Found
+    ensures { λ r. ⌜ r ≡ foundFor limit party valid places (now (text .entry)) ⌝ }
 {
-    if places != LIMIT as usize {
+    if !valid {
         return none(BAD_JOURNAL);
     }
-    let full = look_as(text, Kind::Full);
+    let found = look_in(party, text);
+    if places < found.count {
+        return none(FULL);
+    }
+    found
+}
+
+// The sheet that a text is, in full lines or else in old ones.
+fn look_in(party: u64, text: &[u8]) -> Found
+    ensures { λ r. ⌜ r ≡ foundIn limit party (now (text .entry)) ⌝ }
+{
+    let full = look_as(party, text, Kind::Full);
     if full.answer == ACCEPTED {
         return full;
     }
-    look_as(text, Kind::Old)
+    look_as(party, text, Kind::Old)
 }
 
 // The same where the lines are of one kind.
-fn look_as(text: &[u8], kind: Kind) -> Found
-    ensures { λ r. ⌜ r ≡ foundAs limit kind (now (text .entry)) ⌝ }
+fn look_as(party: u64, text: &[u8], kind: Kind) -> Found
+    ensures { λ r. ⌜ r ≡ foundAs limit party kind (now (text .entry)) ⌝ }
 {
     let head = read_head(text);
     let Number::Read(count, first) = head else {
@@ -68,7 +80,7 @@ fn look_as(text: &[u8], kind: Kind) -> Found
     let mut at = first;
     let mut place = 0;
     while place < count {
-        let line = line::read_line(text, at, kind);
+        let line = line::read_line(party, text, at, kind);
         let Line::Read(_, next) = line else {
             return none(BAD_SHEET);
         };
@@ -96,13 +108,13 @@ fn read_head(text: &[u8]) -> Number
     text::read_field(text, 8, NEWLINE)
 }
 
-// What comes at a place of the journal: the record of the line that stands there, or nothing past the last.
-pub fn next_line(text: &[u8], at: usize, place: usize, found: Found) -> Next
-    ensures { λ r. ⌜ r ≡ nextOf (now (text .entry)) at place found ⌝ }
+// What comes at a place of the party's journal: the record of the line that stands there, or nothing past the last.
+pub fn next_line(party: u64, text: &[u8], at: usize, place: usize, found: Found) -> Next
+    ensures { λ r. ⌜ r ≡ nextOf party (now (text .entry)) at place found ⌝ }
 {
     let kind = found.kind;
     if (place as u64) < found.count {
-        let line = line::read_line(text, at, kind);
+        let line = line::read_line(party, text, at, kind);
         if let Line::Read(one, next) = line {
             return Next { one, at: next };
         }

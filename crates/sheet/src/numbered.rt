@@ -1,14 +1,11 @@
 // The lines of a sheet by their number: the first has the count, and then each has a record.
 ghost use mathlib.Core.Path.{_≡_};
-ghost use mathlib.Core.Bool.{not};
-ghost use mathlib.Core.List.{[], _∷_};
-ghost use Rattle.answer.specs.Answer.{badJournal};
+ghost use mathlib.Core.List.{[]};
 ghost use Rattle.text.specs.Put.{Put};
 ghost use Rattle.text.specs.Whole.{wroteOf};
 ghost use Rattle.sheet.specs.Sheet.{headerOf, numbered};
 use crate::line;
 use answer::ACCEPTED;
-use answer::BAD_JOURNAL;
 use answer::NO_ROOM;
 use record::Record;
 use text::NEWLINE;
@@ -34,16 +31,10 @@ fn put_numbered(out: &mut [u8], i: u64, count: u64, one: Record) -> usize
     0
 }
 
-// The same where the journal is valid and there is room for the line.
-pub fn write_numbered(out: &mut [u8], valid: bool, i: u64, count: u64, one: Record) -> Written
-    ensures { λ r. ⌜ (r, now (out .exit)) ≡ wroteOf ((badJournal, not valid) ∷ []) (numbered i count one) (now (out .entry)) ⌝ }
+// The same where there is room for the line.
+pub fn write_numbered(out: &mut [u8], i: u64, count: u64, one: Record) -> Written
+    ensures { λ r. ⌜ (r, now (out .exit)) ≡ wroteOf [] (numbered i count one) (now (out .entry)) ⌝ }
 {
-    if !valid {
-        return Written {
-            answer: BAD_JOURNAL,
-            length: 0,
-        };
-    }
     let mut none = [0u8; 0];
     if out.len() < put_numbered(&mut none, i, count, one) {
         return Written {

@@ -7,10 +7,10 @@ use Rattle.patches.proofs.put_sheet.Statement.{statement}
 use Rattle.patches.proofs.put_sheet.Proof.Tie as tie
 
 abbrev Inv-loop : tie.InvT-loop
-Inv-loop count records line₀ line = line ≤ count
+Inv-loop counts records line₀ line = line ≤ counts .lower
 
 abbrev μ-loop : tie.MeasureT-loop
-μ-loop count records line₀ line = count - line
+μ-loop counts records line₀ line = counts .lower - line
 
 pub put-sheet-spec : {M : Type 1} → statement M
 put-sheet-spec =

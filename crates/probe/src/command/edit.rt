@@ -1,4 +1,4 @@
-// `edit N SLOT F NUMBER OPERAND`: writes a value into a form's immediate.
+// `edit PARTY N SLOT F NUMBER OPERAND`: writes a value into a form's immediate.
 use crate::calls::Call;
 use form::Edit;
 use form::Form;
@@ -11,13 +11,14 @@ pub fn asked(of: Six, rest: &[u8]) -> Call {
     let Parsed::Of(value) = operands::read(fields::rest(rest)) else {
         return Call::None;
     };
-    Call::Edit(Edit {
-        bundle: of.0,
-        slot: of.1,
+    let edit = Edit {
+        bundle: of.1,
+        slot: of.2,
         form: Form {
-            family: of.2,
-            number: of.3,
+            family: of.3,
+            number: of.4,
         },
         value,
-    })
+    };
+    Call::Edit(of.0, edit)
 }

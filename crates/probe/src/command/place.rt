@@ -1,4 +1,4 @@
-// `place I BUNDLE SLOT FORM VALUE OLDLOW OLDHIGH NEWLOW NEWHIGH`: sets a place of the journal.
+// `place I BUNDLE SLOT FORM VALUE OLDLOW OLDHIGH NEWLOW NEWHIGH PARTY`: sets a place of the journal.
 use crate::calls::Call;
 use crate::kept;
 use bundle::Halves;
@@ -12,8 +12,8 @@ pub fn asked(of: Six, rest: &[u8], kept: &[u64]) -> Call {
     let Name::Read(form, at) = name::read_name(text, 0) else {
         return Call::None;
     };
-    let mut more = [0u64; 5];
-    let end = fields::read_numbers(text, at, &mut more, 5);
+    let mut more = [0u64; 6];
+    let end = fields::read_numbers(text, at, &mut more, 6);
     if kept::get(kept, kept::PLACES) <= of.0 || end != text.len() {
         return Call::None;
     }
@@ -26,6 +26,7 @@ pub fn asked(of: Six, rest: &[u8], kept: &[u64]) -> Call {
         high: more[4],
     };
     let one = Record {
+        party: more[5],
         bundle: of.1,
         slot: of.2,
         form,

@@ -1,4 +1,4 @@
-// `records`: the journal's count, and each place that isn't all zero.
+// `records`: the journal's counts, and each place that isn't all zero.
 use crate::calls::Call;
 use crate::kept;
 use lines::out;
@@ -11,7 +11,8 @@ pub fn asked(kept: &mut [u64]) -> Call {
 }
 
 pub fn told(lent: &[u8], kept: &[u64], out: &mut [u8], at: usize) -> usize {
-    let to = out::number(out, at, kept::get(kept, kept::COUNT));
+    let counts = kept::counts(kept);
+    let to = out::numbers(out, at, &[counts.parties, counts.lower, counts.upper]);
     let n = kept::within(kept, kept::WRITTEN, lent.len());
     text::put_text(out, to, &lent[0..n])
 }
@@ -29,7 +30,7 @@ pub fn show_place(i: u64, one: Record, out: &mut [u8], at: usize) -> usize {
     let mark = text::put_byte(out, done, b':');
     let named = name::put_name(out, mark, form);
     numbers(
-        &[one.value, old.low, old.high, new.low, new.high],
+        &[one.value, old.low, old.high, new.low, new.high, one.party],
         out,
         named,
     )

@@ -1,26 +1,27 @@
-// `sheet OUTLEN` and `sheetline I OUTLEN`: into an output of OUTLEN bytes, at most 130,000 or 200, that are all 238.
+// `sheet PARTY OUTLEN` and `sheetline PARTY I OUTLEN`: into an output of OUTLEN bytes, at most 130,000 or 200, that are all 238.
 ghost use Prim.Native.Nat.{_+_, _≤_, _<_, _^_};
 use crate::calls::Call;
 use crate::kept;
+use lines::fields::Six;
 use lines::out;
 use lines::part;
 
 const BLANK: u8 = 238;
 
-pub fn asked(length: u64, lent: &mut [u8], kept: &mut [u64]) -> Call {
+pub fn asked(party: u64, length: u64, lent: &mut [u8], kept: &mut [u64]) -> Call {
     if 130000 < length {
         return Call::None;
     }
     blank(length, lent, kept);
-    Call::Sheet
+    Call::Sheet(party)
 }
 
-pub fn line_asked(i: u64, length: u64, lent: &mut [u8], kept: &mut [u64]) -> Call {
-    if 200 < length {
+pub fn line_asked(of: Six, lent: &mut [u8], kept: &mut [u64]) -> Call {
+    if 200 < of.2 {
         return Call::None;
     }
-    blank(length, lent, kept);
-    Call::Line(i)
+    blank(of.2, lent, kept);
+    Call::Line(of.0, of.1)
 }
 
 fn blank(length: u64, lent: &mut [u8], kept: &mut [u64]) {

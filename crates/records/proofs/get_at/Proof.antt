@@ -1,4 +1,4 @@
--- `get_at` meets its contract: a walk of its MIR, by hand. A place is so many times 72 bytes, a record's size, past the slice's pointer;
+-- `get_at` meets its contract: a walk of its MIR, by hand. A place is so many times 80 bytes, a record's size, past the slice's pointer;
 -- the slice is looked into, the element is taken out of the row, read, and put back. Of the record nothing but its size is used.
 -- Assumes nothing.
 use mathlib.Core.Path.{_≡_, refl, sym}
@@ -56,8 +56,8 @@ vals = LL.vals T.the-type T′.the-laws
 abbrev val : Record → Val
 val = LL.val T.the-type T′.the-laws
 
-fits-place : (ys : List Record) (i : ℕ) → Room T.the-row (length ys) → i < length ys → i * 72 < 2 ^ 64
-fits-place ys i room within = let h : length ys * 72 < 2 ^ 63 = room .1 in omega arith
+fits-place : (ys : List Record) (i : ℕ) → Room T.the-row (length ys) → i < length ys → i * 80 < 2 ^ 64
+fits-place ys i room within = let h : length ys * 80 < 2 ^ 63 = room .1 in omega arith
 
 module _ {M : Type 1} (𝓤 : URA M) (H : Heap 𝓤) (A : Atoms 𝓤) (W : Given 𝓤 H A) (mem : Memory → SProp 𝓤) (run : Routine → Fun 𝓤) (κ : Lft) (q : Share) (b o : ℕ) (γ : GName) (ys : List Record) (i : ℕ) (i-fits : i < 2 ^ 64) where
   abbrev a : RefT (List Record) × (ℕ × Unit {0})
@@ -90,7 +90,7 @@ module _ {M : Type 1} (𝓤 : URA M) (H : Heap 𝓤) (A : Atoms 𝓤) (W : Given
         -- [_5; …; _4; …; _3; …; _2; …; _1; …; room for _0; …; the token; what the parameters own]
         assigns ! (bin ! (load ! (from ! (stop !)) (look ! 6 refl)) (lit ! tt) (record { fits = fits-place ys i room within })) (from ! (stop !)) (init ! 4 refl (tt, record { fits = fits-place ys i room within })) $
         assigns ! (bin ! (load ! (from ! (fld ! refl (stop !))) (look-in ! 8 (sub ! 0 refl (whole !)))) (load ! (from ! (stop !)) (look ! 4 refl)) tt) (from ! (stop !)) (init ! 2 refl (tt, tt)) $
-        rewrite ! 2 (λ (p : ℕ). ‵ (fat fullShare tyPtr l₄ 0 (vptr b p))) (sym (place-is 72 o i)) refl $
+        rewrite ! 2 (λ (p : ℕ). ‵ (fat fullShare tyPtr l₄ 0 (vptr b p))) (sym (place-is 80 o i)) refl $
         move ! (13 ∷ []) $ fsplit ! $ fsplit ! $ move ! (1 ∷ []) $ fsplit ! $ move ! (16 ∷ []) $ split ! $ move ! (3 ∷ 0 ∷ []) $
         looks-slice ! tt T.the-row (Is T.the-row) (shows 𝓤 H A T.the-row) vals (LL.tells T.the-type T′.the-laws) (LL.copy T.the-type T′.the-copy 𝓤 H A W) ys b o (λ q′. elem-out ! T.the-row (Is T.the-row) (shows 𝓤 H A T.the-row) vals (LL.tells T.the-type T′.the-laws) q′ ys i noRecord b o within (λ is.
         -- [records[i]; what it owns; the others; what shuts; the fractured borrow; true; res; the slice's fact; i's; _5; …; _4; …; _3; …; _2; …; _1; …; room for _0; …]

@@ -1,4 +1,4 @@
--- `put_at` meets its contract: a walk of its MIR, by hand. A place is so many times 72 bytes, a record's size, past the slice's pointer;
+-- `put_at` meets its contract: a walk of its MIR, by hand. A place is so many times 80 bytes, a record's size, past the slice's pointer;
 -- the borrow is opened, the element is taken out of the row and stored to, and the borrow is closed at the list with the record at its
 -- place. Of the record nothing but its size is used.
 -- Assumes nothing.
@@ -59,8 +59,8 @@ vals = LL.vals T.the-type T′.the-laws
 abbrev val : Record → Val
 val = LL.val T.the-type T′.the-laws
 
-fits-place : (ys : List Record) (i : ℕ) → Room T.the-row (length ys) → i < length ys → i * 72 < 2 ^ 64
-fits-place ys i room within = let h : length ys * 72 < 2 ^ 63 = room .1 in omega arith
+fits-place : (ys : List Record) (i : ℕ) → Room T.the-row (length ys) → i < length ys → i * 80 < 2 ^ 64
+fits-place ys i room within = let h : length ys * 80 < 2 ^ 63 = room .1 in omega arith
 
 module _ {M : Type 1} (𝓤 : URA M) (H : Heap 𝓤) (A : Atoms 𝓤) (W : Given 𝓤 H A) (mem : Memory → SProp 𝓤) (run : Routine → Fun 𝓤) (κ : Lft) (q : Share) (b o : ℕ) (γ : GName) (ys : List Record) (i : ℕ) (r : Record) (i-fits : i < 2 ^ 64) (r-is : Is T.the-row r (vals r)) where
   -- the borrow at the list l
@@ -99,7 +99,7 @@ module _ {M : Type 1} (𝓤 : URA M) (H : Heap 𝓤) (A : Atoms 𝓤) (W : Given
         -- [_5; …; _4; …; _3; …; _2; …; _1; …; room for _0; …; the token; what the parameters own]
         assigns ! (bin ! (load ! (from ! (stop !)) (look ! 6 refl)) (lit ! tt) (record { fits = place-fits })) (from ! (stop !)) (init ! 2 refl (tt, record { fits = place-fits })) $
         assigns ! (bin ! (load ! (from ! (fld ! refl (stop !))) (look-in ! 8 (sub ! 0 refl (whole !)))) (load ! (from ! (stop !)) (look ! 2 refl)) tt) (from ! (stop !)) (init ! 0 refl (tt, tt)) $
-        rewrite ! 0 (λ (p : ℕ). ‵ (fat fullShare tyPtr l₅ 0 (vptr b p))) (sym (place-is 72 o i)) refl $
+        rewrite ! 0 (λ (p : ℕ). ‵ (fat fullShare tyPtr l₅ 0 (vptr b p))) (sym (place-is 80 o i)) refl $
         move ! (13 ∷ []) $ fsplit ! $ fsplit ! $ move ! (1 ∷ []) $ fsplit ! $ move ! (16 ∷ []) $ split ! $ move ! (2 ∷ 3 ∷ 0 ∷ []) $
         opens-slice ! tt T.the-row ys b o $ elem-out ! T.the-row (Is T.the-row) (shows 𝓤 H A T.the-row) vals (LL.tells T.the-type T′.the-laws) fullShare ys i noRecord b o within (λ _.
         -- [records[i]; what it owns; the others; the open borrow; obs; auth; true; the slice's fact; i's and r's; _5; …; _4; …; _3; …; _2; …; _1; …; room for _0; …]
@@ -111,7 +111,7 @@ module _ {M : Type 1} (𝓤 : URA M) (H : Heap 𝓤) (A : Atoms 𝓤) (W : Given
         move ! (16 ∷ 17 ∷ []) $ free1 ! $ move ! (14 ∷ 15 ∷ []) $ free1 ! $ move ! (12 ∷ 13 ∷ []) $ free1 ! $ move ! (10 ∷ 11 ∷ []) $ free1 ! $ move ! (8 ∷ 9 ∷ []) $ free1 ! $ move ! (6 ∷ 7 ∷ []) $ free1 ! $ free0 ! $
         keep ! (0 ∷ 1 ∷ 2 ∷ []) $ by ! (exits room))))))))
       where
-        place-fits : i * 72 < 2 ^ 64
+        place-fits : i * 80 < 2 ^ 64
         place-fits = fits-place ys i room within
 
 module _ {M : Type 1} (𝓤 : URA M) (H : Heap 𝓤) (A : Atoms 𝓤) (W : Given 𝓤 H A) (mem : Memory → SProp 𝓤) (run : Routine → Fun 𝓤) where

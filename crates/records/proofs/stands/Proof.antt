@@ -11,7 +11,7 @@ use Rattle.records.proofs.stands.Tie as tie
 held : (c : tie.Start) → T (isHeld (c .args .one))
 held c =
     let r = c .args .one in
-    let numbers = c .good .0 .1 .1 in
+    let numbers = c .good .1 .0 .1 .1 .1 in
     let form = numbers .1 .1 .0 .1 .1 in
     let value = numbers .1 .1 .1 in
     let old = value .1 .0 .1 .1 in

@@ -18,28 +18,28 @@ use Rattle.sheet.proofs.fill.Statement.{statement}
 use Rattle.sheet.proofs.fill.Proof.Tie as tie
 
 -- what is written, and what is to be written after it
-abbrev half : List ℕ → Found → ℕ → ℕ → List Record → List Record
-half text found at place rs = take place rs ++ filled text found at place (length rs - place)
+abbrev half : ℕ → List ℕ → Found → ℕ → ℕ → List Record → List Record
+half party text found at place rs = take place rs ++ filled party text found at place (length rs - place)
 
 -- one place more
-turn : (text : List ℕ) (found : Found) (at place : ℕ) (rs out : List Record) (next : Next) → place < length rs → next ≡ nextOf text at place found → out ≡ set rs place (next .one)
-    → half text found (next .at) (place + 1) out ≡ half text found at place rs
-turn text found at place rs out next h e₁ e₂ =
+turn : (party : ℕ) (text : List ℕ) (found : Found) (at place : ℕ) (rs out : List Record) (next : Next) → place < length rs → next ≡ nextOf party text at place found → out ≡ set rs place (next .one)
+    → half party text found (next .at) (place + 1) out ≡ half party text found at place rs
+turn party text found at place rs out next h e₁ e₂ =
     let long : length out ≡ length rs = ap length e₂ ∙ length-set rs place (next .one) in
     let left : length rs - place ≡ suc (length out - (place + 1)) = omega arith in
     let front : take (place + 1) out ≡ take place rs ++ (next .one ∷ []) = rw (add-one, e₂) (take-suc-set rs place (next .one) h) in
-    let more = ap (λ (n : Next). n .one ∷ filled text found (n .at) (suc place) (length out - (place + 1))) e₁ in
-    ap₂ (λ (l : List Record) (p : ℕ). l ++ filled text found (next .at) p (length out - (place + 1))) front (add-one place)
+    let more = ap (λ (n : Next). n .one ∷ filled party text found (n .at) (suc place) (length out - (place + 1))) e₁ in
+    ap₂ (λ (l : List Record) (p : ℕ). l ++ filled party text found (next .at) p (length out - (place + 1))) front (add-one place)
     ∙ append-snoc (take place rs) (next .one) _
     ∙ ap (λ (l : List Record). take place rs ++ l) more
-    ∙ ap (λ (k : ℕ). take place rs ++ filled text found at place k) (sym left)
+    ∙ ap (λ (k : ℕ). take place rs ++ filled party text found at place k) (sym left)
 
 abbrev Inv-loop : tie.InvT-loop
-Inv-loop records₀ text found at₀ place₀ records at place =
-    (place ≤ length records) × (length records ≡ length records₀) × (half text found at place records ≡ filled text found (found .first) 0 (length records₀))
+Inv-loop records₀ party text found at₀ place₀ records at place =
+    (place ≤ length records) × (length records ≡ length records₀) × (half party text found at place records ≡ filled party text found (found .first) 0 (length records₀))
 
 abbrev μ-loop : tie.MeasureT-loop
-μ-loop records₀ text found at₀ place₀ records at place = length records - place
+μ-loop records₀ party text found at₀ place₀ records at place = length records - place
 
 loop-holds : tie.Need-loop-holds Inv-loop μ-loop
 loop-holds c = let n : length (c .before .args .records .now) - 0 ≡ length (c .before .args .records .now) = omega arith in (omega arith, refl, rw n)
@@ -56,7 +56,7 @@ loop-again c =
     let a = l .before .before .args in (
       omega (arith, same p),
       same p ∙ l .loop .inv .1,
-      turn (a .text .now) (a .found) (l .loop .at) (l .loop .place) (l .loop .records) (p .put .last .0) (n .next-line .result) (omega arith) (n .next-line .ensures) (p .put .ensures) ∙ l .loop .inv .2,
+      turn (a .party) (a .text .now) (a .found) (l .loop .at) (l .loop .place) (l .loop .records) (p .put .last .0) (n .next-line .result) (omega arith) (n .next-line .ensures) (p .put .ensures) ∙ l .loop .inv .2,
     )
 
 returns : tie.Need-returns Inv-loop μ-loop

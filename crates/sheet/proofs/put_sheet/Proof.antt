@@ -6,8 +6,9 @@ use Prim.Native.Nat.{ℕ, _-_, _^_, _≤_, _<_}
 use native.Mathlib.Omega.{arith}
 use borrow.Author.Needs.{needs}
 use lib.ListN.{length, take}
-use Rattle.records.specs.Journal.{Journal, limit, lent, standing}
-use Rattle.records.proofs.Standing.{standing-places, valid-counts, valid-few, valid-places}
+use lib.Seq.{length-take-le}
+use Rattle.records.specs.Journal.{Journal, lent, standing}
+use Rattle.records.proofs.Standing.{standing-places}
 use Rattle.text.specs.Put.{Put}
 use Rattle.text.proofs.Writing.{put-none, put-then, put-length}
 use Rattle.sheet.specs.Sheet.{linesAs, sheetAs}
@@ -25,19 +26,13 @@ abbrev μ-loop : tie.MeasureT-loop
 abbrev entry : tie.At-loop Inv-loop μ-loop → tie.Start Inv-loop μ-loop
 entry l = l .before .before .before .before .before .before
 
--- as many records stand as the journal counts, and there are as many places as may stand
+-- as many records stand as the journal counts
 module _ (l : tie.At-loop Inv-loop μ-loop) where
   abbrev j : Journal
   j = lent (entry l .args .count) (entry l .args .records .now)
 
   counts : j .count ≡ length (standing j)
-  counts = valid-counts limit j (entry l .pre)
-
-  few : j .count ≤ limit
-  few = omega (arith, counts, valid-few limit j (entry l .pre))
-
-  places : length (j .records) ≡ limit
-  places = valid-places limit j (entry l .pre)
+  counts = sym (ap length (standing-places j) ∙ length-take-le (j .count) (j .records) (entry l .pre))
 
   -- the output is as long after the first line as before it
   room : length (l .before .before .before .put-head .last .0) ≡ length (entry l .args .out .now)
@@ -56,7 +51,7 @@ loop-again c =
     let t = g .before in
     let l = t .before in
     let i = l .loop .place in
-    let more = lines-more Full (j l .records) i (omega (arith, places l, few l, l .loop .inv .0, t .loop-test .taken)) in
+    let more = lines-more Full (j l .records) i (omega (arith, entry l .pre, l .loop .inv .0, t .loop-test .taken)) in
     let line = rw (g .get .ensures) at (p .put-line .ensures) in
     (search needs, rw more (put-then (omega (arith, short (entry l), room l)) (l .loop .inv .1) line))
 

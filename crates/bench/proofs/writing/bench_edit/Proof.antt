@@ -9,10 +9,18 @@ use Rattle.bench.proofs.writing.bench_edit.Statement.{statement}
 use Rattle.bench.proofs.writing.bench_edit.Proof.Tie as tie
 
 abbrev Inv-loop : tie.InvT-loop
-Inv-loop code₀ count records₀ times standing₀ sum₀ left₀ code records standing sum left = (length code ≡ length code₀) × (length records ≡ length records₀) × (left ≤ times)
+Inv-loop code₀ parties lower upper records₀ party times counts₀ sum₀ left₀ code records counts sum left = (length code ≡ length code₀) × (length records ≡ length records₀) × (left ≤ times)
 
 abbrev μ-loop : tie.MeasureT-loop
-μ-loop code₀ count records₀ times standing₀ sum₀ left₀ code records standing sum left = left
+μ-loop code₀ parties lower upper records₀ party times counts₀ sum₀ left₀ code records counts sum left = left
+
+-- both calls keep the lengths
+loop-again : tie.Need-loop-again Inv-loop μ-loop
+loop-again c =
+    let undone = c .before .before .before .before .before .before .before .before in
+    let edited = undone .before .before .before .before .before .before in
+    let test = edited .before .before .before .before .before in
+    search (needs, undone .undo .kept, edited .edit .kept, test .loop .inv)
 
 pub bench-edit-spec : {M : Type 1} → statement M
 bench-edit-spec =
@@ -30,7 +38,7 @@ bench-edit-spec =
     (λ c κs. search needs)
     (λ c. search needs)
     (λ c. search needs)
-    (λ c. search needs)
+    loop-again
     (λ c. search needs)
     (λ c. search needs)
     (λ c. search needs))

@@ -9,10 +9,10 @@ use Rattle.bench.proofs.writing.bench_load.Statement.{statement}
 use Rattle.bench.proofs.writing.bench_load.Proof.Tie as tie
 
 abbrev Inv-loop : tie.InvT-loop
-Inv-loop count records₀ text times standing₀ sum₀ left₀ records standing sum left = (length records ≡ length records₀) × (left ≤ times)
+Inv-loop parties lower upper records₀ party text times counts₀ sum₀ left₀ records counts sum left = (length records ≡ length records₀) × (left ≤ times)
 
 abbrev μ-loop : tie.MeasureT-loop
-μ-loop count records₀ text times standing₀ sum₀ left₀ records standing sum left = left
+μ-loop parties lower upper records₀ party text times counts₀ sum₀ left₀ records counts sum left = left
 
 pub bench-load-spec : {M : Type 1} → statement M
 bench-load-spec =

@@ -9,10 +9,10 @@ use Rattle.bench.proofs.writing.bench_sheet.Statement.{statement}
 use Rattle.bench.proofs.writing.bench_sheet.Proof.Tie as tie
 
 abbrev Inv-loop : tie.InvT-loop
-Inv-loop count records out₀ times sum₀ left₀ out sum left = (length out ≡ length out₀) × (left ≤ times)
+Inv-loop parties lower upper records party out₀ times counts sum₀ left₀ out sum left = (length out ≡ length out₀) × (left ≤ times)
 
 abbrev μ-loop : tie.MeasureT-loop
-μ-loop count records out₀ times sum₀ left₀ out sum left = left
+μ-loop parties lower upper records party out₀ times counts sum₀ left₀ out sum left = left
 
 pub bench-sheet-spec : {M : Type 1} → statement M
 bench-sheet-spec =

@@ -88,6 +88,8 @@ module _ (κs : Lifetimes.Lfts 2) where
       (a .1 .0)
       (a .1 .1 .0)
       (a .1 .1 .1 .0)
+      (a .1 .1 .1 .1 .0)
+      (a .1 .1 .1 .1 .1 .0)
   requires-1·read =
       λ a g. Read.all-models
       (λ w. carry_out.requires-1
@@ -100,7 +102,9 @@ module _ (κs : Lifetimes.Lfts 2) where
       (a .0)
       (a .1 .0)
       (a .1 .1 .0)
-      (a .1 .1 .1 .0))
+      (a .1 .1 .1 .0)
+      (a .1 .1 .1 .1 .0)
+      (a .1 .1 .1 .1 .1 .0))
       (λ w. search Read.reads)
       (λ w. Path'.refl)
       (λ w. Path'.refl)
@@ -131,10 +135,14 @@ module _ (κs : Lifetimes.Lfts 2) where
       (a .1 .0)
       (a .1 .1 .0)
       (a .1 .1 .1 .0)
+      (a .1 .1 .1 .1 .0)
+      (a .1 .1 .1 .1 .1 .0)
       record { entry = a .0; exit = s .0 }
       record { entry = a .1 .0; exit = s .1 .0 }
       record { entry = a .1 .1 .0; exit = s .1 .1 .0 }
       record { entry = a .1 .1 .1 .0; exit = s .1 .1 .1 .0 }
+      record { entry = a .1 .1 .1 .1 .0; exit = s .1 .1 .1 .1 .0 }
+      record { entry = a .1 .1 .1 .1 .1 .0; exit = s .1 .1 .1 .1 .1 .0 }
       r
   ensures-1·read =
       λ a g r s. Read.all-models
@@ -149,10 +157,14 @@ module _ (κs : Lifetimes.Lfts 2) where
       (a .1 .0)
       (a .1 .1 .0)
       (a .1 .1 .1 .0)
+      (a .1 .1 .1 .1 .0)
+      (a .1 .1 .1 .1 .1 .0)
       record { entry = a .0; exit = s .0 }
       record { entry = a .1 .0; exit = s .1 .0 }
       record { entry = a .1 .1 .0; exit = s .1 .1 .0 }
       record { entry = a .1 .1 .1 .0; exit = s .1 .1 .1 .0 }
+      record { entry = a .1 .1 .1 .1 .0; exit = s .1 .1 .1 .1 .0 }
+      record { entry = a .1 .1 .1 .1 .1 .0; exit = s .1 .1 .1 .1 .1 .0 }
       r)
       (λ w. search Read.reads)
       (λ w. Path'.refl)

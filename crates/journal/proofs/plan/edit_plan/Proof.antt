@@ -16,7 +16,6 @@ use Rattle.bundle.proofs.Loading.{Loading, loading}
 use Rattle.immediate.specs.Immediate.{changeRefusals, changedOf}
 use Rattle.immediate.specs.declared.outcome.Changed.{Changed}
 use Rattle.immediate.proofs.Laws.{changed-answer, changed-taken}
-use Rattle.records.specs.Journal.{limit}
 use Rattle.journal.specs.Edit.{roomRefusals, editRefusals}
 use Rattle.journal.specs.Plan.{refusedPlan, editPlanOf}
 use Rattle.journal.proofs.Laws.{refused-is}
@@ -32,7 +31,7 @@ module _ (c : tie.After-load) where
   changing = changeRefusals (numberAt (now (c .before .before .args .code)) (c .before .before .args .edit .bundle)) (c .before .before .args .edit)
 
   room : List Refusal
-  room = roomRefusals limit (c .before .before .args .view)
+  room = roomRefusals (c .before .before .args .places) (c .before .before .args .view)
 
   is-loaded : Loading (now (c .before .before .args .code)) (c .before .before .args .edit .bundle) (c .load .result)
   is-loaded = let known = c .before in loading (now (known .before .args .code)) (known .before .args .edit .bundle) (λ i. known .shared-slice-known .given i .fits) (c .load .ensures)
@@ -75,7 +74,7 @@ returns-2 c =
 -- what the journal answers, once the change is accepted
 answers : (c : tie.After-room-refusal) →
     let a = c .before .before .before .before .before .before .before .args in
-    first (editRefusals limit (now (a .code)) (a .view) (a .edit)) ≡ c .room-refusal .result
+    first (editRefusals (a .places) (now (a .code)) (a .view) (a .edit)) ≡ c .room-refusal .result
 unfolding finding changing room
 answers c =
     let p = c .before .before in
@@ -87,11 +86,11 @@ returns-3 : tie.Need-returns-3
 unfolding editPlanOf
 returns-3 c = c .refused3 .ensures ∙ refused-is refusedPlan _ _ _ (answers (c .before .before)) (c .before .if3 .taken)
 
-add-count : tie.Need-add-t18
+add-count : tie.Need-add-t20
 add-count c =
     let e = c .before .before .before in
     let a = e .before .before .before .before .before .before .before .before .args in
-    omega (arith, leb-false limit (a .view .count) (none-applies (roomRefusals limit (a .view)) tt (sym (e .before .room-refusal .ensures) ∙ e .if3 .left) .1 .0))
+    omega (arith, leb-false (a .places) (a .view .count) (none-applies (roomRefusals (a .places) (a .view)) tt (sym (e .before .room-refusal .ensures) ∙ e .if3 .left) .1 .0))
 
 returns-4 : tie.Need-returns-4
 unfolding editPlanOf changing findAnswer finding
@@ -109,7 +108,7 @@ returns-4 c =
       bundle = a .edit .bundle;
       halves = change i .bundle;
       place = a .view .count;
-      kept = record { bundle = a .edit .bundle; slot = a .edit .slot; form = a .edit .form; value = pattern i; old = loaded i .halves; new = change i .bundle };
+      kept = record { party = a .party; bundle = a .edit .bundle; slot = a .edit .slot; form = a .edit .form; value = pattern i; old = loaded i .halves; new = change i .bundle };
       count = a .view .count + 1;
     })
     ∙ sym (accepts _ _ _ (answers r ∙ e .if3 .left))

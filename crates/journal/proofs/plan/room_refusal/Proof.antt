@@ -1,6 +1,5 @@
 -- `room_refusal` meets its contract: its tests are the definition's. Assumes nothing.
 use borrow.Author.Tests.{le-leb, lt-leb, not-true, not-false}
-use Rattle.records.specs.Journal.{limit}
 use Rattle.journal.proofs.plan.room_refusal.Statement.{statement}
 use Rattle.journal.proofs.plan.room_refusal.Tie as tie
 
@@ -8,10 +7,10 @@ returns : tie.Need-returns
 returns c = rw (not-true (c .before .before .args .view .valid) (c .if1 .taken))
 
 returns-2 : tie.Need-returns-2
-returns-2 c = rw (not-false (c .before .before .before .before .args .view .valid) (c .before .before .if1 .left), le-leb limit _ (c .if2 .taken))
+returns-2 c = rw (not-false (c .before .before .before .before .args .view .valid) (c .before .before .if1 .left), le-leb _ _ (c .if2 .taken))
 
 returns-3 : tie.Need-returns-3
-returns-3 c = rw (not-false (c .before .before .before .before .args .view .valid) (c .before .before .if1 .left), lt-leb limit _ (c .if2 .left))
+returns-3 c = rw (not-false (c .before .before .before .before .args .view .valid) (c .before .before .if1 .left), lt-leb _ _ (c .if2 .left))
 
 pub room-refusal-spec : {M : Type 1} → statement M
 room-refusal-spec = tie.close (tie.spec returns returns-2 returns-3)

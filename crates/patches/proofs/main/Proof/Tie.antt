@@ -17,22 +17,47 @@ use Rattle.patches.proofs.put_sheet.Symbol as Symbol''
 use Rattle.records.proofs.free.Met as Met'3
 use Rattle.records.proofs.Made.free.Reads as Reads'4
 use Rattle.records.proofs.free.Symbol as Symbol'3
+use Rattle.records.proofs.opened.Met as Met'4
+use Rattle.records.proofs.opened.Reads as Reads'5
+use Rattle.records.proofs.opened.Symbol as Symbol'4
 use borrow.Fn.Run
 use borrow.Fn.Written
 use contract.Running
 
 abbrev pub Start : Type 0
-Start = Lts.Start (Reads'4.Asked, Reads'4.Learnt, Reads'.Asked, Reads'.Learnt, Reads.Asked, Reads.Learnt, Reads'3.Asked, Reads'3.Learnt)
-    Reads''.Pre Reads''.Post
+Start = Lts.Start (
+  Reads'4.Asked,
+  Reads'4.Learnt,
+  Reads'5.Asked,
+  Reads'5.Learnt,
+  Reads'.Asked,
+  Reads'.Learnt,
+  Reads.Asked,
+  Reads.Learnt,
+  Reads'3.Asked,
+  Reads'3.Learnt,
+) Reads''.Pre Reads''.Post
 
 abbrev pub After-code : Type 0
-After-code = Lts.After-code (Reads'4.Asked, Reads'4.Learnt, Reads'.Asked, Reads'.Learnt, Reads.Asked, Reads.Learnt, Reads'3.Asked, Reads'3.Learnt)
-    Reads''.Pre Reads''.Post
+After-code = Lts.After-code (
+  Reads'4.Asked,
+  Reads'4.Learnt,
+  Reads'5.Asked,
+  Reads'5.Learnt,
+  Reads'.Asked,
+  Reads'.Learnt,
+  Reads.Asked,
+  Reads.Learnt,
+  Reads'3.Asked,
+  Reads'3.Learnt,
+) Reads''.Pre Reads''.Post
 
 abbrev pub After-code2 : Type 0
 After-code2 = Lts.After-code2 (
   Reads'4.Asked,
   Reads'4.Learnt,
+  Reads'5.Asked,
+  Reads'5.Learnt,
   Reads'.Asked,
   Reads'.Learnt,
   Reads.Asked,
@@ -42,13 +67,39 @@ After-code2 = Lts.After-code2 (
 ) Reads''.Pre Reads''.Post
 
 abbrev pub After-free : Type 0
-After-free = Lts.After-free (Reads'4.Asked, Reads'4.Learnt, Reads'.Asked, Reads'.Learnt, Reads.Asked, Reads.Learnt, Reads'3.Asked, Reads'3.Learnt)
-    Reads''.Pre Reads''.Post
+After-free = Lts.After-free (
+  Reads'4.Asked,
+  Reads'4.Learnt,
+  Reads'5.Asked,
+  Reads'5.Learnt,
+  Reads'.Asked,
+  Reads'.Learnt,
+  Reads.Asked,
+  Reads.Learnt,
+  Reads'3.Asked,
+  Reads'3.Learnt,
+) Reads''.Pre Reads''.Post
 
 abbrev pub After-code3 : Type 0
 After-code3 = Lts.After-code3 (
   Reads'4.Asked,
   Reads'4.Learnt,
+  Reads'5.Asked,
+  Reads'5.Learnt,
+  Reads'.Asked,
+  Reads'.Learnt,
+  Reads.Asked,
+  Reads.Learnt,
+  Reads'3.Asked,
+  Reads'3.Learnt,
+) Reads''.Pre Reads''.Post
+
+abbrev pub After-opened : Type 0
+After-opened = Lts.After-opened (
+  Reads'4.Asked,
+  Reads'4.Learnt,
+  Reads'5.Asked,
+  Reads'5.Learnt,
   Reads'.Asked,
   Reads'.Learnt,
   Reads.Asked,
@@ -61,6 +112,8 @@ abbrev pub After-records : Type 0
 After-records = Lts.After-records (
   Reads'4.Asked,
   Reads'4.Learnt,
+  Reads'5.Asked,
+  Reads'5.Learnt,
   Reads'.Asked,
   Reads'.Learnt,
   Reads.Asked,
@@ -73,6 +126,8 @@ abbrev pub After-example : Type 0
 After-example = Lts.After-example (
   Reads'4.Asked,
   Reads'4.Learnt,
+  Reads'5.Asked,
+  Reads'5.Learnt,
   Reads'.Asked,
   Reads'.Learnt,
   Reads.Asked,
@@ -82,13 +137,25 @@ After-example = Lts.After-example (
 ) Reads''.Pre Reads''.Post
 
 abbrev pub After-edit : Type 0
-After-edit = Lts.After-edit (Reads'4.Asked, Reads'4.Learnt, Reads'.Asked, Reads'.Learnt, Reads.Asked, Reads.Learnt, Reads'3.Asked, Reads'3.Learnt)
-    Reads''.Pre Reads''.Post
+After-edit = Lts.After-edit (
+  Reads'4.Asked,
+  Reads'4.Learnt,
+  Reads'5.Asked,
+  Reads'5.Learnt,
+  Reads'.Asked,
+  Reads'.Learnt,
+  Reads.Asked,
+  Reads.Learnt,
+  Reads'3.Asked,
+  Reads'3.Learnt,
+) Reads''.Pre Reads''.Post
 
 abbrev pub After-code4 : Type 0
 After-code4 = Lts.After-code4 (
   Reads'4.Asked,
   Reads'4.Learnt,
+  Reads'5.Asked,
+  Reads'5.Learnt,
   Reads'.Asked,
   Reads'.Learnt,
   Reads.Asked,
@@ -101,6 +168,8 @@ abbrev pub After-records2 : Type 0
 After-records2 = Lts.After-records2 (
   Reads'4.Asked,
   Reads'4.Learnt,
+  Reads'5.Asked,
+  Reads'5.Learnt,
   Reads'.Asked,
   Reads'.Learnt,
   Reads.Asked,
@@ -113,6 +182,8 @@ abbrev pub After-records3 : Type 0
 After-records3 = Lts.After-records3 (
   Reads'4.Asked,
   Reads'4.Learnt,
+  Reads'5.Asked,
+  Reads'5.Learnt,
   Reads'.Asked,
   Reads'.Learnt,
   Reads.Asked,
@@ -125,6 +196,8 @@ abbrev pub After-put-sheet : Type 0
 After-put-sheet = Lts.After-put-sheet (
   Reads'4.Asked,
   Reads'4.Learnt,
+  Reads'5.Asked,
+  Reads'5.Learnt,
   Reads'.Asked,
   Reads'.Learnt,
   Reads.Asked,
@@ -137,6 +210,8 @@ abbrev pub Need-free-requires : Type 0
 Need-free-requires = Lts.Need-free-requires (
   Reads'4.Asked,
   Reads'4.Learnt,
+  Reads'5.Asked,
+  Reads'5.Learnt,
   Reads'.Asked,
   Reads'.Learnt,
   Reads.Asked,
@@ -149,6 +224,22 @@ abbrev pub Need-slice-aggregate-edit : Type 0
 Need-slice-aggregate-edit = Lts.Need-slice-aggregate-edit (
   Reads'4.Asked,
   Reads'4.Learnt,
+  Reads'5.Asked,
+  Reads'5.Learnt,
+  Reads'.Asked,
+  Reads'.Learnt,
+  Reads.Asked,
+  Reads.Learnt,
+  Reads'3.Asked,
+  Reads'3.Learnt,
+) Reads''.Pre Reads''.Post
+
+abbrev pub Need-opened-requires : Type 0
+Need-opened-requires = Lts.Need-opened-requires (
+  Reads'4.Asked,
+  Reads'4.Learnt,
+  Reads'5.Asked,
+  Reads'5.Learnt,
   Reads'.Asked,
   Reads'.Learnt,
   Reads.Asked,
@@ -161,6 +252,8 @@ abbrev pub Need-slice-aggregate-edit-2 : Type 0
 Need-slice-aggregate-edit-2 = Lts.Need-slice-aggregate-edit-2 (
   Reads'4.Asked,
   Reads'4.Learnt,
+  Reads'5.Asked,
+  Reads'5.Learnt,
   Reads'.Asked,
   Reads'.Learnt,
   Reads.Asked,
@@ -173,6 +266,8 @@ abbrev pub Need-example-requires : Type 0
 Need-example-requires = Lts.Need-example-requires (
   Reads'4.Asked,
   Reads'4.Learnt,
+  Reads'5.Asked,
+  Reads'5.Learnt,
   Reads'.Asked,
   Reads'.Learnt,
   Reads.Asked,
@@ -185,6 +280,8 @@ abbrev pub Need-edit-requires : Type 0
 Need-edit-requires = Lts.Need-edit-requires (
   Reads'4.Asked,
   Reads'4.Learnt,
+  Reads'5.Asked,
+  Reads'5.Learnt,
   Reads'.Asked,
   Reads'.Learnt,
   Reads.Asked,
@@ -197,6 +294,8 @@ abbrev pub Need-slice-aggregate-put-sheet : Type 0
 Need-slice-aggregate-put-sheet = Lts.Need-slice-aggregate-put-sheet (
   Reads'4.Asked,
   Reads'4.Learnt,
+  Reads'5.Asked,
+  Reads'5.Learnt,
   Reads'.Asked,
   Reads'.Learnt,
   Reads.Asked,
@@ -209,6 +308,8 @@ abbrev pub Need-put-sheet-requires : Type 0
 Need-put-sheet-requires = Lts.Need-put-sheet-requires (
   Reads'4.Asked,
   Reads'4.Learnt,
+  Reads'5.Asked,
+  Reads'5.Learnt,
   Reads'.Asked,
   Reads'.Learnt,
   Reads.Asked,
@@ -221,6 +322,8 @@ abbrev pub Need-returns : Type 0
 Need-returns = Lts.Need-returns (
   Reads'4.Asked,
   Reads'4.Learnt,
+  Reads'5.Asked,
+  Reads'5.Learnt,
   Reads'.Asked,
   Reads'.Learnt,
   Reads.Asked,
@@ -230,11 +333,13 @@ Need-returns = Lts.Need-returns (
 ) Reads''.Pre Reads''.Post
 
 module _ {M : Type 1} where
-  pub spec : (answer : Need-free-requires) → (answer : Need-slice-aggregate-edit) → (answer : Need-slice-aggregate-edit-2) → (answer :
-      Need-example-requires) → (answer : Need-edit-requires) → (answer : Need-slice-aggregate-put-sheet) → (answer : Need-put-sheet-requires) →
-      (answer : Need-returns) → Lts.Closed (
+  pub spec : (answer : Need-free-requires) → (answer : Need-slice-aggregate-edit) → (answer : Need-opened-requires) → (answer :
+      Need-slice-aggregate-edit-2) → (answer : Need-example-requires) → (answer : Need-edit-requires) → (answer : Need-slice-aggregate-put-sheet) →
+      (answer : Need-put-sheet-requires) → (answer : Need-returns) → Lts.Closed (
         Reads'4.Asked,
         Reads'4.Learnt,
+        Reads'5.Asked,
+        Reads'5.Learnt,
         Reads'.Asked,
         Reads'.Learnt,
         Reads.Asked,
@@ -242,20 +347,32 @@ module _ {M : Type 1} where
         Reads'3.Asked,
         Reads'3.Learnt,
       ) Reads''.Pre Reads''.Post M
-  spec = λ answer answer' answer'' answer'3 answer'4 answer'5 answer'6 answer'7. Lts.spec (
+  spec = λ answer answer' answer'' answer'3 answer'4 answer'5 answer'6 answer'7 answer'8. Lts.spec (
     Reads'4.Asked,
     Reads'4.Learnt,
+    Reads'5.Asked,
+    Reads'5.Learnt,
     Reads'.Asked,
     Reads'.Learnt,
     Reads.Asked,
     Reads.Learnt,
     Reads'3.Asked,
     Reads'3.Learnt,
-  ) Reads''.Pre Reads''.Post answer answer' answer'' answer'3 answer'4
-      answer'5 answer'6 answer'7
+  ) Reads''.Pre Reads''.Post answer answer'
+      answer'' answer'3 answer'4 answer'5 answer'6 answer'7 answer'8
 
-  pub close : Lts.Closed (Reads'4.Asked, Reads'4.Learnt, Reads'.Asked, Reads'.Learnt, Reads.Asked, Reads.Learnt, Reads'3.Asked, Reads'3.Learnt)
-      Reads''.Pre Reads''.Post M → Statement.statement M
+  pub close : Lts.Closed (
+    Reads'4.Asked,
+    Reads'4.Learnt,
+    Reads'5.Asked,
+    Reads'5.Learnt,
+    Reads'.Asked,
+    Reads'.Learnt,
+    Reads.Asked,
+    Reads.Learnt,
+    Reads'3.Asked,
+    Reads'3.Learnt,
+  ) Reads''.Pre Reads''.Post M → Statement.statement M
   unfolding Code.routine Running.tablesOf
   close = λ closed 𝓤 H 𝓜 𝓖 𝓡. Written.close 0 Kinds.ps Kinds.r Reads''.Ghost Reads''.requires Reads''.ensures Reads''.pre-read Reads''.Pinned
       Reads''.Owned Reads''.post-read record { M = M; 𝓤 = 𝓤; H = H; 𝓜 = 𝓜; 𝓖 = 𝓖; 𝓡 = 𝓡 } Code.env Key.name Code.function (Code.unfolded 𝓤 H 𝓜 𝓡) (λ
@@ -275,15 +392,24 @@ module _ {M : Type 1} where
         𝓖
             = 𝓖;
         𝓡 = 𝓡;
-      } Code.env Symbol'3.name Symbol'3.routine Code.calls-records·free (Met'3.met 𝓤 H 𝓜 𝓖 𝓡)) (Reads'.known record {
+      } Code.env Symbol'3.name Symbol'3.routine Code.calls-records·free (Met'3.met 𝓤 H 𝓜 𝓖 𝓡)) (Reads'5.known record {
         M = M;
         𝓤 = 𝓤;
         H = H;
         𝓜 = 𝓜;
         𝓖 = 𝓖;
         𝓡 = 𝓡;
-      } Code.env Symbol'.name Symbol'.routine Code.calls-patches·example (Met'.met 𝓤 H 𝓜 𝓖 𝓡)) (Reads.known record {
+      } Code.env Symbol'4.name Symbol'4.routine Code.calls-records·opened (Met'4.met 𝓤 H 𝓜 𝓖 𝓡)) (Reads'.known record {
         M = M;
+        𝓤 =
+            𝓤;
+        H = H;
+        𝓜 = 𝓜;
+        𝓖 = 𝓖;
+        𝓡 = 𝓡;
+      } Code.env Symbol'.name Symbol'.routine Code.calls-patches·example (Met'.met 𝓤 H 𝓜 𝓖 𝓡)) (Reads.known record {
+        M =
+            M;
         𝓤 = 𝓤;
         H = H;
         𝓜 = 𝓜;
@@ -291,8 +417,7 @@ module _ {M : Type 1} where
         𝓡 = 𝓡;
       } Code.env Symbol.name Symbol.routine Code.calls-journal·edit (Met.met 𝓤 H 𝓜 𝓖 𝓡)) (Reads'3.known record {
         M = M;
-        𝓤 =
-            𝓤;
+        𝓤 = 𝓤;
         H = H;
         𝓜 = 𝓜;
         𝓖 = 𝓖;

@@ -27,11 +27,14 @@ After-put-line = λ Inv μ. Lts.After-put-line (Reads.Asked, Reads.Learnt) Reads
 abbrev pub At-loop : (Inv : InvT-loop) → (μ : MeasureT-loop) → Type 0
 At-loop = λ Inv μ. Lts.At-loop (Reads.Asked, Reads.Learnt) Reads'.Pre Reads'.Post Inv μ
 
-abbrev pub In-loop : (Inv : InvT-loop) → (μ : MeasureT-loop) → Type 0
-In-loop = λ Inv μ. Lts.In-loop (Reads.Asked, Reads.Learnt) Reads'.Pre Reads'.Post Inv μ
+abbrev pub After-struct-known : (Inv : InvT-loop) → (μ : MeasureT-loop) → Type 0
+After-struct-known = λ Inv μ. Lts.After-struct-known (Reads.Asked, Reads.Learnt) Reads'.Pre Reads'.Post Inv μ
 
-abbrev pub After-loop : (Inv : InvT-loop) → (μ : MeasureT-loop) → Type 0
-After-loop = λ Inv μ. Lts.After-loop (Reads.Asked, Reads.Learnt) Reads'.Pre Reads'.Post Inv μ
+abbrev pub Then1 : (Inv : InvT-loop) → (μ : MeasureT-loop) → Type 0
+Then1 = λ Inv μ. Lts.Then1 (Reads.Asked, Reads.Learnt) Reads'.Pre Reads'.Post Inv μ
+
+abbrev pub Else1 : (Inv : InvT-loop) → (μ : MeasureT-loop) → Type 0
+Else1 = λ Inv μ. Lts.Else1 (Reads.Asked, Reads.Learnt) Reads'.Pre Reads'.Post Inv μ
 
 abbrev pub After-put-line2 : (Inv : InvT-loop) → (μ : MeasureT-loop) → Type 0
 After-put-line2 = λ Inv μ. Lts.After-put-line2 (Reads.Asked, Reads.Learnt) Reads'.Pre Reads'.Post Inv μ

@@ -139,11 +139,11 @@ abbrev row·22 : Row.Entry
 row·22 = (
   18,
   Relend.msptr (Referent.rtF (Referent.fInt Syntax.w64)) (Syntax.tyRef Syntax.erased Syntax.mut (Syntax.tyArray (Syntax.tyInt Syntax.w64)
-      48)) 3,
+      50)) 3,
 )
 
 abbrev row·23 : Row.Entry
-row·23 = (18, Rows'.any-gone (Syntax.tyRef Syntax.erased Syntax.mut (Syntax.tyArray (Syntax.tyInt Syntax.w64) 48)))
+row·23 = (18, Rows'.any-gone (Syntax.tyRef Syntax.erased Syntax.mut (Syntax.tyArray (Syntax.tyInt Syntax.w64) 50)))
 
 abbrev row·24 : Row.Entry
 row·24 = (19, Mut.msleft (Referent.rtF (Referent.fInt Syntax.w64)) (Syntax.tyRef Syntax.erased Syntax.mut (Syntax.tyInt Syntax.w64)))
@@ -237,13 +237,13 @@ abbrev row·51 : Row.Entry
 row·51 = (2, Rows.arrF (Referent.rtF (Referent.fInt Syntax.w8)) 65600 0)
 
 abbrev row·52 : Row.Entry
-row·52 = (4, Rows'.any-gone (Syntax.tyArray (Syntax.tyInt Syntax.w64) 48))
+row·52 = (4, Rows'.any-gone (Syntax.tyArray (Syntax.tyInt Syntax.w64) 50))
 
 abbrev row·53 : Row.Entry
-row·53 = (4, Rows.arr-owed (Referent.rtF (Referent.fInt Syntax.w64)) 48 3)
+row·53 = (4, Rows.arr-owed (Referent.rtF (Referent.fInt Syntax.w64)) 50 3)
 
 abbrev row·54 : Row.Entry
-row·54 = (4, Rows.arrF (Referent.rtF (Referent.fInt Syntax.w64)) 48 0)
+row·54 = (4, Rows.arrF (Referent.rtF (Referent.fInt Syntax.w64)) 50 0)
 
 abbrev row·55 : Row.Entry
 row·55 = (6, Rows.arrF (Elem.the-row) 2048 0)
@@ -255,10 +255,10 @@ abbrev row·57 : Row.Entry
 row·57 = (7, Rows.arrF (Referent.rtF (Referent.fInt Syntax.w8)) 524288 0)
 
 abbrev row·58 : Row.Entry
-row·58 = (9, Rows'.any-gone (Syntax.tyArray (Syntax.tyInt Syntax.w64) 48))
+row·58 = (9, Rows'.any-gone (Syntax.tyArray (Syntax.tyInt Syntax.w64) 50))
 
 abbrev row·59 : Row.Entry
-row·59 = (9, Rows.arrF (Referent.rtF (Referent.fInt Syntax.w64)) 48 0)
+row·59 = (9, Rows.arrF (Referent.rtF (Referent.fInt Syntax.w64)) 50 0)
 
 abbrev pub ps : List.List (Kinds.PK 0)
 ps = List.[]
@@ -268,13 +268,13 @@ r = Unit'.rUnit
 
 abbrev pub xs : List.List Syntax.Ty
 xs = List._∷_ (Syntax.tyArray (Syntax.tyInt Syntax.w8) 524288) (List._∷_ (Syntax.tyArray (Syntax.tyInt Syntax.w8) 65600) (List._∷_ (Syntax.tyArray
-    (Syntax.tyInt Syntax.w8) 524288) (List._∷_ (Syntax.tyArray (Syntax.tyInt Syntax.w64) 48) (List._∷_ (Syntax.tyArray (Syntax.tyInt Syntax.w8)
+    (Syntax.tyInt Syntax.w8) 524288) (List._∷_ (Syntax.tyArray (Syntax.tyInt Syntax.w64) 50) (List._∷_ (Syntax.tyArray (Syntax.tyInt Syntax.w8)
     524288) (List._∷_ (Syntax.tyArray (Elem-laws.mir) 2048) (List._∷_ (Syntax.tyArray (Syntax.tyInt Syntax.w8) 524288) (List._∷_ (Syntax.tyArray
-    (Syntax.tyInt Syntax.w8) 65600) (List._∷_ (Syntax.tyArray (Syntax.tyInt Syntax.w64) 48) (List._∷_ (Syntax.tyArray (Elem-laws.mir) 2048) (List._∷_
+    (Syntax.tyInt Syntax.w8) 65600) (List._∷_ (Syntax.tyArray (Syntax.tyInt Syntax.w64) 50) (List._∷_ (Syntax.tyArray (Elem-laws.mir) 2048) (List._∷_
     Syntax.tyUnit (List._∷_ (Syntax.tyRef Syntax.erased Syntax.mut (Syntax.tyArray (Syntax.tyInt Syntax.w8) 524288)) (List._∷_ ty0·2 (List._∷_
     (Syntax.tyRef Syntax.erased Syntax.mut (Syntax.tyArray (Syntax.tyInt Syntax.w8) 65600)) (List._∷_ ty0·2 (List._∷_ (Syntax.tyRef Syntax.erased
     Syntax.mut (Syntax.tyArray (Syntax.tyInt Syntax.w8) 524288)) (List._∷_ ty0·2 (List._∷_ (Syntax.tyRef Syntax.erased Syntax.mut (Syntax.tyArray
-    (Syntax.tyInt Syntax.w64) 48)) (List._∷_ ty0·1 (List._∷_ (Syntax.tyRef Syntax.erased Syntax.mut (Syntax.tyArray (Syntax.tyInt Syntax.w8) 524288))
+    (Syntax.tyInt Syntax.w64) 50)) (List._∷_ ty0·1 (List._∷_ (Syntax.tyRef Syntax.erased Syntax.mut (Syntax.tyArray (Syntax.tyInt Syntax.w8) 524288))
     (List._∷_ ty0·2 (List._∷_ (Syntax.tyRef Syntax.erased Syntax.mut (Syntax.tyArray (Memory·.pointee (Elem.the-row .written)) 2048)) (List._∷_ ty0·0
     List.[]))))))))))))))))))))))
 
@@ -297,7 +297,7 @@ abbrev pub ps·2 : List.List (Kinds.PK 0)
 ps·2 = List.[]
 
 abbrev pub r·2 : Kinds.RK 0
-r·2 = Array.rArr (Array.eInt Syntax.w64) (Array.eInt-laws Syntax.w64) 48
+r·2 = Array.rArr (Array.eInt Syntax.w64) (Array.eInt-laws Syntax.w64) 50
 
 abbrev pub ps·3 : List.List (Kinds.PK 0)
 ps·3 = List.[]
@@ -382,7 +382,7 @@ abbrev b18 : Syntax.Body
 b18 = Syntax.assign (Syntax.place 18 List.[]) (Syntax.addrOf (Syntax.place 4 List.[]))
 
 abbrev b19 : Syntax.Body
-b19 = Syntax.assign (Syntax.place 19 List.[]) (Syntax.aggregate (List._∷_ (Syntax.copy (Syntax.place 18 List.[])) (List._∷_ (Syntax.int Syntax.w64 48)
+b19 = Syntax.assign (Syntax.place 19 List.[]) (Syntax.aggregate (List._∷_ (Syntax.copy (Syntax.place 18 List.[])) (List._∷_ (Syntax.int Syntax.w64 50)
     List.[])))
 
 abbrev b20 : Syntax.Body
@@ -887,14 +887,14 @@ module _ (claims· : Claims) where
   s8 = λ bs. Scalar.n-room T9 7 (Syntax.tyArray (Syntax.tyInt Syntax.w8) 524288)
 
   abbrev s9 : (bs : List.List Nat.ℕ) → Typed.Both T10 T11
-  s9 = λ bs. Call.callB ps·2 r·2 (claims· .4) (claims· .5) T10 tt 9 List.[] (Syntax.tyArray (Syntax.tyInt Syntax.w64) 48)
+  s9 = λ bs. Call.callB ps·2 r·2 (claims· .4) (claims· .5) T10 tt 9 List.[] (Syntax.tyArray (Syntax.tyInt Syntax.w64) 50)
 
   abbrev s10 : (bs : List.List Nat.ℕ) → Typed.Mo T11 → Typed.Mo T12
-  s10 = λ bs. LocalCopy.n-val-copy T11 9 4 (Array'.Array (Referent.rtF (Referent.fInt Syntax.w64)) 48) (Rows.arrF (Referent.rtF (Referent.fInt
-      Syntax.w64)) 48 0) (Rows.arrF (Referent.rtF (Referent.fInt Syntax.w64)) 48 0) (λ x. x) (λ x. x) λ x. x
+  s10 = λ bs. LocalCopy.n-val-copy T11 9 4 (Array'.Array (Referent.rtF (Referent.fInt Syntax.w64)) 50) (Rows.arrF (Referent.rtF (Referent.fInt
+      Syntax.w64)) 50 0) (Rows.arrF (Referent.rtF (Referent.fInt Syntax.w64)) 50 0) (λ x. x) (λ x. x) λ x. x
 
   abbrev s11 : (bs : List.List Nat.ℕ) → Typed.Mo T12 → Typed.Mo T13
-  s11 = λ bs. Scalar.n-room T12 9 (Syntax.tyArray (Syntax.tyInt Syntax.w64) 48)
+  s11 = λ bs. Scalar.n-room T12 9 (Syntax.tyArray (Syntax.tyInt Syntax.w64) 50)
 
   abbrev s12 : (bs : List.List Nat.ℕ) → Typed.Both T13 T14
   s12 = λ bs. Call.callB ps·0 r·0 (claims· .0) (claims· .1) T13 tt 7 List.[] (Syntax.tyArray (Syntax.tyInt Syntax.w8) 524288)
@@ -944,13 +944,13 @@ module _ (claims· : Claims) where
       Syntax.w8)) (λ x. x) (Scalar.oBig Syntax.w64 524288)
 
   abbrev s28 : (bs : List.List Nat.ℕ) → Typed.Gives T28 T30
-  s28 = λ bs. Borrow.k-arr-borrow (Referent.rtF (Referent.fInt Syntax.w64)) T28 (Row.hd 0 (Row.tl (Row.tl (Row.tl (Row.tl bs))))) 4 18 48 3
-      (Syntax.tyRef Syntax.erased Syntax.mut (Syntax.tyArray (Syntax.tyInt Syntax.w64) 48)) λ x. x
+  s28 = λ bs. Borrow.k-arr-borrow (Referent.rtF (Referent.fInt Syntax.w64)) T28 (Row.hd 0 (Row.tl (Row.tl (Row.tl (Row.tl bs))))) 4 18 50 3
+      (Syntax.tyRef Syntax.erased Syntax.mut (Syntax.tyArray (Syntax.tyInt Syntax.w64) 50)) λ x. x
 
   abbrev s29 : (bs : List.List Nat.ℕ) → Typed.Asks T30 T31
   s29 = λ bs. Relend.k-sl-aggregate (Referent.rtF (Referent.fInt Syntax.w64)) (Relend.asMut (Referent.rtF (Referent.fInt Syntax.w64))) T30 18 19 3
-      (Syntax.tyRef Syntax.erased Syntax.mut (Syntax.tyArray (Syntax.tyInt Syntax.w64) 48)) (Syntax.tyRef Syntax.erased Syntax.mut (Syntax.tyInt
-      Syntax.w64)) (λ x. x) (Scalar.oInt Syntax.w64 48)
+      (Syntax.tyRef Syntax.erased Syntax.mut (Syntax.tyArray (Syntax.tyInt Syntax.w64) 50)) (Syntax.tyRef Syntax.erased Syntax.mut (Syntax.tyInt
+      Syntax.w64)) (λ x. x) (Scalar.oInt Syntax.w64 50)
 
   abbrev s31 : (bs : List.List Nat.ℕ) → Typed.Gives T31 T33
   s31 = λ bs. Borrow.k-arr-borrow (Referent.rtF (Referent.fInt Syntax.w8)) T31 (Row.hd 0 (Row.tl (Row.tl (Row.tl (Row.tl (Row.tl bs)))))) 5 20 524288
@@ -1038,11 +1038,11 @@ module _ (claims· : Claims) where
   s49 = λ bs. Scalar.n-room T49 3 (Syntax.tyArray (Syntax.tyInt Syntax.w8) 524288)
 
   abbrev s51 : (bs : List.List Nat.ℕ) → Typed.Both T51 T53
-  s51 = λ bs. Borrow.k-back-arr (Referent.rtF (Referent.fInt Syntax.w64)) T51 19 4 3 48 (Syntax.tyRef Syntax.erased Syntax.mut (Syntax.tyInt
+  s51 = λ bs. Borrow.k-back-arr (Referent.rtF (Referent.fInt Syntax.w64)) T51 19 4 3 50 (Syntax.tyRef Syntax.erased Syntax.mut (Syntax.tyInt
       Syntax.w64)) (λ x. x) λ x. x
 
   abbrev s53 : (bs : List.List Nat.ℕ) → Typed.Mo T53 → Typed.Mo T55
-  s53 = λ bs. Scalar.n-room T53 4 (Syntax.tyArray (Syntax.tyInt Syntax.w64) 48)
+  s53 = λ bs. Scalar.n-room T53 4 (Syntax.tyArray (Syntax.tyInt Syntax.w64) 50)
 
   abbrev s55 : (bs : List.List Nat.ℕ) → Typed.Both T55 T57
   s55 = λ bs. Borrow.k-back-arr (Referent.rtF (Referent.fInt Syntax.w8)) T55 21 5 4 524288 (Syntax.tyRef Syntax.erased Syntax.mut (Syntax.tyInt
@@ -1779,16 +1779,16 @@ module _ (claims· : Claims) where
 
           d10 : Typed.Typed 𝓤 H A 𝓣 E G54 b27 Δ0 (at10 bs)
           d10 = Typed.g-pre 𝓤 H A W 𝓣 E G54 G55 b27 Δ0 (Typed.pass T53 T55 (s53 bs)) (at9 bs) (Scalar.g-room 𝓤 H A W E G54 4 (Syntax.tyArray
-              (Syntax.tyInt Syntax.w64) 48) (Init.room-arr 𝓤 H A W (Referent.rtF (Referent.fInt Syntax.w64)) 48 0 48 Path'.refl)) d9
+              (Syntax.tyInt Syntax.w64) 50) (Init.room-arr 𝓤 H A W (Referent.rtF (Referent.fInt Syntax.w64)) 50 0 50 Path'.refl)) d9
 
           d11 : Typed.Typed 𝓤 H A 𝓣 E G53 b27 Δ0 (at11 bs)
           d11 = Typed.g-pre 𝓤 H A W 𝓣 E G53 G54 b27 Δ0 (λ Ψ. Ψ) (at10 bs) (Lifetime.g-forget 𝓤 H A W E G53 3 Row.dead Path'.refl) d10
 
           d12 : Typed.Typed 𝓤 H A 𝓣 E G52 b27 Δ0 (at12 bs)
           d12 = Typed.g-pre 𝓤 H A W 𝓣 E G52 G53 b27 Δ0 (Typed.both (s51 bs)) (at11 bs) (Borrow.g-back-arr 𝓤 H A W E (Referent.rtF (Referent.fInt
-              Syntax.w64)) G52 19 4 3 48 (Syntax.tyRef Syntax.erased Syntax.mut (Syntax.tyInt Syntax.w64)) (λ x. x) (λ x. x) (Reads.as-is 𝓤 H A
+              Syntax.w64)) G52 19 4 3 50 (Syntax.tyRef Syntax.erased Syntax.mut (Syntax.tyInt Syntax.w64)) (λ x. x) (λ x. x) (Reads.as-is 𝓤 H A
               (Mut.msleft (Referent.rtF (Referent.fInt Syntax.w64)) (Syntax.tyRef Syntax.erased Syntax.mut (Syntax.tyInt Syntax.w64)))) (Reads.as-is 𝓤
-              H A (Rows.arr-owed (Referent.rtF (Referent.fInt Syntax.w64)) 48 3)) Path'.refl) d11
+              H A (Rows.arr-owed (Referent.rtF (Referent.fInt Syntax.w64)) 50 3)) Path'.refl) d11
 
           d13 : Typed.Typed 𝓤 H A 𝓣 E G51 b27 Δ0 (at13 bs)
           d13 = Typed.g-pre 𝓤 H A W 𝓣 E G51 G52 b27 Δ0 (λ Ψ. Ψ) (at12 bs) (Lifetime.g-end 𝓤 H A W E G51 3 Path'.refl) d12
@@ -2014,15 +2014,15 @@ module _ (claims· : Claims) where
           d34 : Typed.Typed 𝓤 H A 𝓣 E G30 b33 Δ0 (at34 bs)
           d34 = Typed.s-seq 𝓤 H A W 𝓣 E G30 G31 b19 b32 Δ0 (Typed.ask (s29 bs)) (at33 bs) (Relend.t-sl-aggregate 𝓤 H A W E (Referent.rtF
               (Referent.fInt Syntax.w64)) 𝓣 (Relend.asMut (Referent.rtF (Referent.fInt Syntax.w64))) G30 18 19 3 (Syntax.tyRef Syntax.erased
-              Syntax.mut (Syntax.tyArray (Syntax.tyInt Syntax.w64) 48)) (Syntax.tyRef Syntax.erased Syntax.mut (Syntax.tyInt Syntax.w64)) (λ x. x)
-              (Scalar.oInt Syntax.w64 48) (Reads.as-is 𝓤 H A (Relend.msptr (Referent.rtF (Referent.fInt Syntax.w64)) (Syntax.tyRef Syntax.erased
-              Syntax.mut (Syntax.tyArray (Syntax.tyInt Syntax.w64) 48)) 3)) (Reads.room-gone 𝓤 H A ty0·1) tt Path'.refl Path'.refl λ b o k. tt) d33
+              Syntax.mut (Syntax.tyArray (Syntax.tyInt Syntax.w64) 50)) (Syntax.tyRef Syntax.erased Syntax.mut (Syntax.tyInt Syntax.w64)) (λ x. x)
+              (Scalar.oInt Syntax.w64 50) (Reads.as-is 𝓤 H A (Relend.msptr (Referent.rtF (Referent.fInt Syntax.w64)) (Syntax.tyRef Syntax.erased
+              Syntax.mut (Syntax.tyArray (Syntax.tyInt Syntax.w64) 50)) 3)) (Reads.room-gone 𝓤 H A ty0·1) tt Path'.refl Path'.refl λ b o k. tt) d33
 
           d35 : Typed.Typed 𝓤 H A 𝓣 E G29 b34 Δ0 (at35 bs)
           d35 = Typed.s-seq 𝓤 H A W 𝓣 E G29 G30 b18 b33 Δ0 (Typed.give (s28 bs)) (at34 bs) (Borrow.t-arr-borrow 𝓤 H A W E 𝓣 (Referent.rtF
-              (Referent.fInt Syntax.w64)) G29 4 18 48 3 (Syntax.tyRef Syntax.erased Syntax.mut (Syntax.tyArray (Syntax.tyInt Syntax.w64) 48)) (λ x. x)
-              (Reads.as-is 𝓤 H A (Rows.arrF (Referent.rtF (Referent.fInt Syntax.w64)) 48 0)) (Reads.room-gone 𝓤 H A (Syntax.tyRef Syntax.erased
-              Syntax.mut (Syntax.tyArray (Syntax.tyInt Syntax.w64) 48))) Path'.refl (λ b o. tt) (Dec'.lit< tt, Dec'.lit< tt)) d34
+              (Referent.fInt Syntax.w64)) G29 4 18 50 3 (Syntax.tyRef Syntax.erased Syntax.mut (Syntax.tyArray (Syntax.tyInt Syntax.w64) 50)) (λ x. x)
+              (Reads.as-is 𝓤 H A (Rows.arrF (Referent.rtF (Referent.fInt Syntax.w64)) 50 0)) (Reads.room-gone 𝓤 H A (Syntax.tyRef Syntax.erased
+              Syntax.mut (Syntax.tyArray (Syntax.tyInt Syntax.w64) 50))) Path'.refl (λ b o. tt) (Dec'.lit< tt, Dec'.lit< tt)) d34
 
           d36 : Typed.Typed 𝓤 H A 𝓣 E G28 b34 Δ0 (at36 bs)
           d36 = Typed.g-pre 𝓤 H A W 𝓣 E G28 G29 b34 Δ0 (λ Ψ. Ψ) (at35 bs) (Lifetime.g-begin 𝓤 H A W E G28 3 (
@@ -2205,24 +2205,24 @@ module _ (claims· : Claims) where
 
           d52 : Typed.Typed 𝓤 H A 𝓣 E G12 b44 Δ0 (at52 bs)
           d52 = Typed.g-pre 𝓤 H A W 𝓣 E G12 G13 b44 Δ0 (Typed.pass T12 T13 (s11 bs)) (at51 bs) (Scalar.g-room 𝓤 H A W E G12 9 (Syntax.tyArray
-              (Syntax.tyInt Syntax.w64) 48) (Init.room-arr 𝓤 H A W (Referent.rtF (Referent.fInt Syntax.w64)) 48 0 48 Path'.refl)) d51
+              (Syntax.tyInt Syntax.w64) 50) (Init.room-arr 𝓤 H A W (Referent.rtF (Referent.fInt Syntax.w64)) 50 0 50 Path'.refl)) d51
 
           d53 : Typed.Typed 𝓤 H A 𝓣 E G11 b45 Δ0 (at53 bs)
           d53 = Typed.s-seq 𝓤 H A W 𝓣 E G11 G12 b7 b44 Δ0 (Typed.pass T11 T12 (s10 bs)) (at52 bs) (LocalCopy.t-val-copy 𝓤 H A W E 𝓣 (λ ρ. Unit) G11 9
-              4 (Array'.Array (Referent.rtF (Referent.fInt Syntax.w64)) 48) (Syntax.tyArray (Syntax.tyInt Syntax.w64) 48) (Syntax.tyArray
-              (Syntax.tyInt Syntax.w64) 48) (Rows.arrF (Referent.rtF (Referent.fInt Syntax.w64)) 48 0) (Rows.arrF (Referent.rtF (Referent.fInt
-              Syntax.w64)) 48 0) (λ x. x) (λ x. x) (λ x. x) Path'.refl (Own.told-none 𝓤 H A (G11 .slots)) (Yields.yields-copy 𝓤 H A W (λ ρ. Unit)
-              (Array'.Array (Referent.rtF (Referent.fInt Syntax.w64)) 48) Path'.refl (Copies.cArr (Referent.rtF (Referent.fInt Syntax.w64))
-              (Copies.cRf (Referent.fInt Syntax.w64)) 48 .copy 𝓤 H A W) (Rows.arrF (Referent.rtF (Referent.fInt Syntax.w64)) 48 0) (λ x. x) (λ x. x)
-              (λ ρ told. Whole.mem-arr 𝓤 H A W (Referent.rtF (Referent.fInt Syntax.w64)) 48 ρ) λ ρ told. Whole.arr-mem 𝓤 H A W (Referent.rtF
-              (Referent.fInt Syntax.w64)) 48 tt ρ) (Reads.room-gone 𝓤 H A (Syntax.tyArray (Syntax.tyInt Syntax.w64) 48)) (Yields.makes-mem 𝓤 H A W (λ
-              ρ. Unit) (Array'.Array (Referent.rtF (Referent.fInt Syntax.w64)) 48) Path'.refl (Rows.arrF (Referent.rtF (Referent.fInt Syntax.w64)) 48
-              0) (λ x. x) λ ρ told. Whole.arr-mem 𝓤 H A W (Referent.rtF (Referent.fInt Syntax.w64)) 48 tt ρ) Path'.refl Path'.refl) d52
+              4 (Array'.Array (Referent.rtF (Referent.fInt Syntax.w64)) 50) (Syntax.tyArray (Syntax.tyInt Syntax.w64) 50) (Syntax.tyArray
+              (Syntax.tyInt Syntax.w64) 50) (Rows.arrF (Referent.rtF (Referent.fInt Syntax.w64)) 50 0) (Rows.arrF (Referent.rtF (Referent.fInt
+              Syntax.w64)) 50 0) (λ x. x) (λ x. x) (λ x. x) Path'.refl (Own.told-none 𝓤 H A (G11 .slots)) (Yields.yields-copy 𝓤 H A W (λ ρ. Unit)
+              (Array'.Array (Referent.rtF (Referent.fInt Syntax.w64)) 50) Path'.refl (Copies.cArr (Referent.rtF (Referent.fInt Syntax.w64))
+              (Copies.cRf (Referent.fInt Syntax.w64)) 50 .copy 𝓤 H A W) (Rows.arrF (Referent.rtF (Referent.fInt Syntax.w64)) 50 0) (λ x. x) (λ x. x)
+              (λ ρ told. Whole.mem-arr 𝓤 H A W (Referent.rtF (Referent.fInt Syntax.w64)) 50 ρ) λ ρ told. Whole.arr-mem 𝓤 H A W (Referent.rtF
+              (Referent.fInt Syntax.w64)) 50 tt ρ) (Reads.room-gone 𝓤 H A (Syntax.tyArray (Syntax.tyInt Syntax.w64) 50)) (Yields.makes-mem 𝓤 H A W (λ
+              ρ. Unit) (Array'.Array (Referent.rtF (Referent.fInt Syntax.w64)) 50) Path'.refl (Rows.arrF (Referent.rtF (Referent.fInt Syntax.w64)) 50
+              0) (λ x. x) λ ρ told. Whole.arr-mem 𝓤 H A W (Referent.rtF (Referent.fInt Syntax.w64)) 50 tt ρ) Path'.refl Path'.refl) d52
 
           d54 : Typed.Typed 𝓤 H A 𝓣 E G10 b46 Δ0 (at54 bs)
           d54 = Typed.s-seq 𝓤 H A W 𝓣 E G10 G11 b6 b45 Δ0 (Typed.both (s9 bs)) (at53 bs) (Plain.t-call-plain 𝓤 H A W 𝓣 0 ps·2 r·2 (claims· .4)
               (claims· .5) "probe::kept::first" (known .2) E (λ pos β. β) G10 tt 9 List.[] (Call.sub-id 𝓤 H A W (G10 .slots)) tt (Reads.room-gone 𝓤 H
-              A (Syntax.tyArray (Syntax.tyInt Syntax.w64) 48)) tt Path'.refl) d53
+              A (Syntax.tyArray (Syntax.tyInt Syntax.w64) 50)) tt Path'.refl) d53
 
           d55 : Typed.Typed 𝓤 H A 𝓣 E G9 b46 Δ0 (at55 bs)
           d55 = Typed.g-pre 𝓤 H A W 𝓣 E G9 G10 b46 Δ0 (Typed.pass T9 T10 (s8 bs)) (at54 bs) (Scalar.g-room 𝓤 H A W E G9 7 (Syntax.tyArray
@@ -2549,7 +2549,7 @@ module _ (claims· : Claims) where
         pub kept : After-kept·own before
 
       abbrev pub Need-slice-aggregate-run-4 : Type 0
-      Need-slice-aggregate-run-4 = (c : After-kept) → Relend.CountIs T30 18 19 (λ x. x) (λ u. 48) (m25 (c .before) (c .kept .given))
+      Need-slice-aggregate-run-4 = (c : After-kept) → Relend.CountIs T30 18 19 (λ x. x) (λ u. 50) (m25 (c .before) (c .kept .given))
 
       abbrev pub m26 : (before : After-lent) → (given : s28 (before .before .before .before .before .before .before .before .before .before .blocks)
           .gives (m24 (before .before) (before .lent .given))) → Typed.Mo T31
@@ -2921,7 +2921,7 @@ module _ (claims· : Claims) where
                   }),
               λ g'3. (
                 Relend.count-is T30 18 19 (λ x. x)
-                    (λ u. 48) (m25 record {
+                    (λ u. 50) (m25 record {
                       before = record {
                         before = record {
                           before = record { before = c .before; places = c .places };

@@ -10,8 +10,10 @@ use mir.Syntax
 abbrev pub ps : List.List (Kinds.PK 1)
 ps =
     List._∷_
+    (Kinds.pNum Syntax.w64)
+    (List._∷_
     (ShrSlice.pShrS (Elem.the-row) 0 tt)
-    List.[]
+    List.[])
 
 abbrev pub r : Kinds.RK 1
 r = Kinds.rBool

@@ -99,14 +99,24 @@ module _ (κs : Lifetimes.Lfts 1) where
       (w .𝓜 .mem)
       (w .𝓡 .run)
       (a .0)
+      (a .1 .0)
       record { entry = a .0; exit = s .0 }
+      record { entry = a .1 .0; exit = s .1 .0 }
       r
   ensures-1·read =
       λ a g r s. Read.all-models
-      (λ w. all_stand.ensures-1 (w .𝓤) (w .H) κs (w .𝓖 .A) (w .𝓜 .mem) (w .𝓡 .run) (a .0) record {
-        entry = a .0;
-        exit = s .0;
-      } r)
+      (λ w. all_stand.ensures-1
+      (w .𝓤)
+      (w .H)
+      κs
+      (w .𝓖 .A)
+      (w .𝓜 .mem)
+      (w .𝓡 .run)
+      (a .0)
+      (a .1 .0)
+      record { entry = a .0; exit = s .0 }
+      record { entry = a .1 .0; exit = s .1 .0 }
+      r)
       (λ w. search Read.reads)
       (λ w. Path'.refl)
       (λ w. Path'.refl)

@@ -12,8 +12,10 @@ ps =
     List._∷_
     (Kinds.pNum Syntax.w64)
     (List._∷_
+    (Kinds.pNum Syntax.w64)
+    (List._∷_
     (ShrSlice.pShrS (Elem.the-row) 0 tt)
-    List.[])
+    List.[]))
 
 abbrev pub r : Kinds.RK 1
 r = Kinds.rBool

@@ -100,8 +100,10 @@ module _ (κs : Lifetimes.Lfts 1) where
       (w .𝓡 .run)
       (a .0)
       (a .1 .0)
+      (a .1 .1 .0)
       record { entry = a .0; exit = s .0 }
       record { entry = a .1 .0; exit = s .1 .0 }
+      record { entry = a .1 .1 .0; exit = s .1 .1 .0 }
       r
   ensures-1·read =
       λ a g r s. Read.all-models
@@ -114,8 +116,10 @@ module _ (κs : Lifetimes.Lfts 1) where
       (w .𝓡 .run)
       (a .0)
       (a .1 .0)
+      (a .1 .1 .0)
       record { entry = a .0; exit = s .0 }
       record { entry = a .1 .0; exit = s .1 .0 }
+      record { entry = a .1 .1 .0; exit = s .1 .1 .0 }
       r)
       (λ w. search Read.reads)
       (λ w. Path'.refl)

@@ -40,6 +40,7 @@ use mathlib.Core.List
 use mathlib.Core.Option
 use mathlib.Core.Path as Path'
 use mir.Syntax
+use mir.Val
 use prog.Wp
 use types.Kit
 
@@ -55,55 +56,11 @@ ty0·1 = (Syntax.tyStruct (List._∷_ 98 (List._∷_ 117 (List._∷_ 110 (List._
 abbrev ty1·0 : Syntax.Ty
 ty1·0 = (Syntax.tyStruct (List._∷_ 114 (List._∷_ 101 (List._∷_ 99 (List._∷_ 111 (List._∷_ 114 (List._∷_ 100 (List._∷_ 58 (List._∷_ 58 (List._∷_ 82
     (List._∷_ 101 (List._∷_ 99 (List._∷_ 111 (List._∷_ 114 (List._∷_ 100 List.[])))))))))))))) (Syntax.tcons (Syntax.tyInt Syntax.w64) (Syntax.tcons
-    (Syntax.tyInt Syntax.w64) (Syntax.tcons ty0·0 (Syntax.tcons (Syntax.tyInt Syntax.w64) (Syntax.tcons ty0·1 (Syntax.tcons ty0·1 Syntax.tnil)))))))
-
-abbrev row·0 : Row.Entry
-row·0 = (4, Rows.any-gone ty1·0)
-
-abbrev row·1 : Row.Entry
-row·1 = (4, Rows.whole (Declared.row Record.the-type))
-
-abbrev row·2 : Row.Entry
-row·2 = (6, Rows.any-gone Syntax.tyBool)
-
-abbrev row·3 : Row.Entry
-row·3 = (6, Rows.sc-here Row.sBool)
-
-abbrev row·4 : Row.Entry
-row·4 = (1, Rows.sslice (Record.the-row) (Syntax.tyRef (Syntax.named 0) Syntax.imm (Memory·.pointee (Record.the-row .written))) 0)
-
-abbrev row·5 : Row.Entry
-row·5 = (3, Rows.any-gone (Syntax.tyInt Syntax.w64))
-
-abbrev row·6 : Row.Entry
-row·6 = (0, Rows.any-gone Syntax.tyBool)
-
-abbrev row·7 : Row.Entry
-row·7 = (0, Rows.sc-here Row.sBool)
-
-abbrev row·8 : Row.Entry
-row·8 = (2, Rows.any-gone Syntax.tyBool)
-
-abbrev row·9 : Row.Entry
-row·9 = (2, Rows.sc-here Row.sBool)
-
-abbrev row·10 : Row.Entry
-row·10 = (3, Rows.any-gone (Syntax.tyInt Syntax.w64))
-
-abbrev row·11 : Row.Entry
-row·11 = (3, Rows.sc-here (Row.sInt Syntax.w64))
-
-abbrev row·12 : Row.Entry
-row·12 = (5, Rows.any-gone (Syntax.tyInt Syntax.w64))
-
-abbrev row·13 : Row.Entry
-row·13 = (5, Rows.sc-here (Row.sInt Syntax.w64))
-
-abbrev row·14 : Row.Entry
-row·14 = (6, Rows.sc-here Row.sBool)
+    (Syntax.tyInt Syntax.w64) (Syntax.tcons (Syntax.tyInt Syntax.w64) (Syntax.tcons ty0·0 (Syntax.tcons (Syntax.tyInt Syntax.w64) (Syntax.tcons ty0·1
+    (Syntax.tcons ty0·1 Syntax.tnil))))))))
 
 abbrev pub ps : List.List (Kinds.PK 1)
-ps = List._∷_ (ShrSlice.pShrS (Record.the-row) 0 tt) List.[]
+ps = List._∷_ (Num.pNum Syntax.w64) (List._∷_ (ShrSlice.pShrS (Record.the-row) 0 tt) List.[])
 
 abbrev pub r : Kinds.RK 1
 r = Bool.rBool
@@ -140,46 +97,46 @@ r·0 = Value.rVal record {
 }
 
 abbrev pub ps·1 : List.List (Kinds.PK 0)
-ps·1 = List._∷_ (Value.pVal record {
+ps·1 = List._∷_ (Num.pNum Syntax.w64) (List._∷_ (Value.pVal record {
   ty = Declared.row Record.the-type;
   one = Path'.refl;
-  val = Laws'.val Record.the-type Laws.the-laws;
-  tells =
-      Laws'.tells Record.the-type Laws.the-laws;
+  val = Laws'.val
+      Record.the-type Laws.the-laws;
+  tells = Laws'.tells Record.the-type Laws.the-laws;
   still = Laws'.still Record.the-type Laws.the-copy Exit.yes;
-  row = Rows.whole (Declared.row
-      Record.the-type);
+  row
+      = Rows.whole (Declared.row Record.the-type);
   rd = λ x. x;
   mk = λ x. x;
 } λ M 𝓤 H A W. record {
-  copies = Laws'.copy Record.the-type Laws.the-copy 𝓤 H A W;
-  lawful =
-      Laws'.lawful Record.the-type Laws.the-laws 𝓤 H A W;
+  copies = Laws'.copy Record.the-type Laws.the-copy 𝓤
+      H A W;
+  lawful = Laws'.lawful Record.the-type Laws.the-laws 𝓤 H A W;
   makes = Laws'.makes Record.the-type Laws.the-plain 𝓤 H A;
-  in-mem = Local.mem-whole 𝓤 H A W
-      (Declared.row Record.the-type);
+  in-mem =
+      Local.mem-whole 𝓤 H A W (Declared.row Record.the-type);
   of-mem = Local.whole-mem 𝓤 H A W (Declared.row Record.the-type);
-}) List.[]
+}) List.[])
 
 abbrev pub r·1 : Kinds.RK 0
 r·1 = Bool.rBool
 
 abbrev pub hs : List.List Syntax.Home
 hs = List._∷_ Syntax.valueLocal (List._∷_ Syntax.valueLocal (List._∷_ Syntax.valueLocal (List._∷_ Syntax.valueLocal (List._∷_ Syntax.valueLocal
-    (List._∷_ Syntax.valueLocal (List._∷_ Syntax.valueLocal List.[]))))))
+    (List._∷_ Syntax.valueLocal (List._∷_ Syntax.valueLocal (List._∷_ Syntax.valueLocal List.[])))))))
 
 abbrev b0 : Syntax.Body
-b0 = Syntax.assign (Syntax.place 2 List.[]) (Syntax.rvOpd Syntax.opdTrue)
+b0 = Syntax.assign (Syntax.place 3 List.[]) (Syntax.rvOpd Syntax.opdTrue)
 
 abbrev b1 : Syntax.Body
-b1 = Syntax.assign (Syntax.place 3 List.[]) (Syntax.rvOpd (Syntax.int Syntax.w64 0))
+b1 = Syntax.assign (Syntax.place 4 List.[]) (Syntax.rvOpd (Syntax.int Syntax.w64 0))
 
 abbrev b2 : Syntax.Body
-b2 = Syntax.assign (Syntax.place 5 List.[]) (Syntax.rvOpd (Syntax.copy (Syntax.place 1 (List._∷_ (Syntax.field 1) List.[]))))
+b2 = Syntax.assign (Syntax.place 6 List.[]) (Syntax.rvOpd (Syntax.copy (Syntax.place 2 (List._∷_ (Syntax.field 1) List.[]))))
 
 abbrev b3 : Syntax.Body
-b3 = Syntax.assign (Syntax.place 6 List.[]) (Syntax.op2 (Syntax.lt Syntax.unsigned) (Syntax.copy (Syntax.place 3 List.[])) (Syntax.copy (Syntax.place
-    5 List.[])))
+b3 = Syntax.assign (Syntax.place 7 List.[]) (Syntax.op2 (Syntax.lt Syntax.unsigned) (Syntax.copy (Syntax.place 4 List.[])) (Syntax.copy (Syntax.place
+    6 List.[])))
 
 abbrev b4 : Syntax.Body
 b4 = Syntax.skip
@@ -188,20 +145,21 @@ abbrev b5 : Syntax.Body
 b5 = Syntax.exit 1
 
 abbrev b6 : Syntax.Body
-b6 = Syntax.cond (Syntax.copy (Syntax.place 6 List.[])) b4 b5
+b6 = Syntax.cond (Syntax.copy (Syntax.place 7 List.[])) b4 b5
 
 abbrev b7 : Syntax.Body
-b7 = Syntax.call "records::get_at" (List._∷_ (Syntax.copy (Syntax.place 1 List.[])) (List._∷_ (Syntax.copy (Syntax.place 3 List.[])) List.[]))
-    (Syntax.place 4 List.[])
+b7 = Syntax.call "records::get_at" (List._∷_ (Syntax.copy (Syntax.place 2 List.[])) (List._∷_ (Syntax.copy (Syntax.place 4 List.[])) List.[]))
+    (Syntax.place 5 List.[])
 
 abbrev b8 : Syntax.Body
-b8 = Syntax.call "records::stands" (List._∷_ (Syntax.copy (Syntax.place 4 List.[])) List.[]) (Syntax.place 6 List.[])
+b8 = Syntax.call "records::stands" (List._∷_ (Syntax.copy (Syntax.place 1 List.[])) (List._∷_ (Syntax.copy (Syntax.place 5 List.[])) List.[]))
+    (Syntax.place 7 List.[])
 
 abbrev b9 : Syntax.Body
-b9 = Syntax.assign (Syntax.place 2 List.[]) (Syntax.op2 Syntax.bitAnd (Syntax.copy (Syntax.place 2 List.[])) (Syntax.copy (Syntax.place 6 List.[])))
+b9 = Syntax.assign (Syntax.place 3 List.[]) (Syntax.op2 Syntax.bitAnd (Syntax.copy (Syntax.place 3 List.[])) (Syntax.copy (Syntax.place 7 List.[])))
 
 abbrev b10 : Syntax.Body
-b10 = Syntax.assign (Syntax.place 3 List.[]) (Syntax.op2 (Syntax.add Syntax.unsigned) (Syntax.copy (Syntax.place 3 List.[])) (Syntax.int Syntax.w64
+b10 = Syntax.assign (Syntax.place 4 List.[]) (Syntax.op2 (Syntax.add Syntax.unsigned) (Syntax.copy (Syntax.place 4 List.[])) (Syntax.int Syntax.w64
     1))
 
 abbrev b11 : Syntax.Body
@@ -229,7 +187,7 @@ abbrev b18 : Syntax.Body
 b18 = Syntax.block b17
 
 abbrev b19 : Syntax.Body
-b19 = Syntax.assign (Syntax.place 0 List.[]) (Syntax.rvOpd (Syntax.copy (Syntax.place 2 List.[])))
+b19 = Syntax.assign (Syntax.place 0 List.[]) (Syntax.rvOpd (Syntax.copy (Syntax.place 3 List.[])))
 
 abbrev b20 : Syntax.Body
 b20 = Syntax.return
@@ -253,37 +211,156 @@ abbrev pub Claims : Type 1
 Claims = Kinds.In 1 ps·0 × Kinds.Out 1 ps·0 r·0 × Kinds.In 0 ps·1 × Kinds.Out 0 ps·1 r·1
 
 abbrev pub t0 : List.List Row.Entry
-t0 = List._∷_ row·6 (List._∷_ row·4 (List._∷_ row·8 (List._∷_ row·5 (List._∷_ row·0 (List._∷_ row·12 (List._∷_ row·2 List.[]))))))
+t0 = List._∷_ (0, Rows.any-gone Syntax.tyBool) (List._∷_ (1, Rows.sc-here (Row.sInt Syntax.w64)) (List._∷_ (
+  2,
+  Rows.sslice (Record.the-row)
+      (Syntax.tyRef (Syntax.named 0) Syntax.imm (Memory·.pointee (Record.the-row .written))) 0,
+) (List._∷_ (3, Rows.any-gone Syntax.tyBool) (List._∷_ (
+  4,
+  Rows.any-gone (Syntax.tyInt Syntax.w64),
+) (List._∷_ (5, Rows.any-gone ty1·0) (List._∷_ (6, Rows.any-gone (Syntax.tyInt Syntax.w64))
+    (List._∷_ (7, Rows.any-gone Syntax.tyBool) List.[])))))))
 
 abbrev pub t1 : List.List Row.Entry
-t1 = List._∷_ row·7 (List._∷_ row·4 (List._∷_ row·8 (List._∷_ row·5 (List._∷_ row·0 (List._∷_ row·12 (List._∷_ row·2 List.[]))))))
+t1 = List._∷_ (0, Rows.sc-here Row.sBool) (List._∷_ (1, Rows.any-gone (Syntax.tyInt Syntax.w64)) (List._∷_ (
+  2,
+  Rows.sslice (Record.the-row)
+      (Syntax.tyRef (Syntax.named 0) Syntax.imm (Memory·.pointee (Record.the-row .written))) 0,
+) (List._∷_ (3, Rows.any-gone Syntax.tyBool) (List._∷_ (
+  4,
+  Rows.any-gone (Syntax.tyInt Syntax.w64),
+) (List._∷_ (5, Rows.any-gone ty1·0) (List._∷_ (6, Rows.any-gone (Syntax.tyInt Syntax.w64))
+    (List._∷_ (7, Rows.any-gone Syntax.tyBool) List.[])))))))
 
 abbrev pub t2 : List.List Row.Entry
-t2 = List._∷_ row·6 (List._∷_ row·4 (List._∷_ row·9 (List._∷_ row·10 (List._∷_ row·0 (List._∷_ row·12 (List._∷_ row·2 List.[]))))))
+t2 = List._∷_ (0, Rows.any-gone Syntax.tyBool) (List._∷_ (1, Rows.sc-here (Row.sInt Syntax.w64)) (List._∷_ (
+  2,
+  Rows.sslice (Record.the-row)
+      (Syntax.tyRef (Syntax.named 0) Syntax.imm (Memory·.pointee (Record.the-row .written))) 0,
+) (List._∷_ (3, Rows.sc-here Row.sBool) (List._∷_ (
+  4,
+  Rows.any-gone (Syntax.tyInt Syntax.w64),
+) (List._∷_ (5, Rows.any-gone ty1·0) (List._∷_ (6, Rows.any-gone (Syntax.tyInt Syntax.w64)) (List._∷_
+    (7, Rows.any-gone Syntax.tyBool) List.[])))))))
 
 abbrev pub t3 : List.List Row.Entry
-t3 = List._∷_ row·6 (List._∷_ row·4 (List._∷_ row·9 (List._∷_ row·11 (List._∷_ row·0 (List._∷_ row·12 (List._∷_ row·2 List.[]))))))
+t3 = List._∷_ (0, Rows.any-gone Syntax.tyBool) (List._∷_ (1, Rows.sc-here (Row.sInt Syntax.w64)) (List._∷_ (
+  2,
+  Rows.sslice (Record.the-row)
+      (Syntax.tyRef (Syntax.named 0) Syntax.imm (Memory·.pointee (Record.the-row .written))) 0,
+) (List._∷_ (3, Rows.sc-here Row.sBool) (List._∷_ (
+  4,
+  Rows.sc-here (Row.sInt Syntax.w64),
+) (List._∷_ (5, Rows.any-gone ty1·0) (List._∷_ (6, Rows.any-gone (Syntax.tyInt Syntax.w64)) (List._∷_ (
+  7,
+  Rows.any-gone Syntax.tyBool,
+) List.[])))))))
 
 abbrev pub t4 : List.List Row.Entry
-t4 = List._∷_ row·6 (List._∷_ row·4 (List._∷_ row·9 (List._∷_ row·11 (List._∷_ row·0 (List._∷_ row·13 (List._∷_ row·2 List.[]))))))
+t4 = List._∷_ (0, Rows.any-gone Syntax.tyBool) (List._∷_ (1, Rows.sc-here (Row.sInt Syntax.w64)) (List._∷_ (
+  2,
+  Rows.sslice (Record.the-row)
+      (Syntax.tyRef (Syntax.named 0) Syntax.imm (Memory·.pointee (Record.the-row .written))) 0,
+) (List._∷_ (3, Rows.sc-here Row.sBool) (List._∷_ (
+  4,
+  Rows.sc-here (Row.sInt Syntax.w64),
+) (List._∷_ (5, Rows.any-gone ty1·0) (List._∷_ (6, Rows.sc-here (Row.sInt Syntax.w64)) (List._∷_ (
+  7,
+  Rows.any-gone Syntax.tyBool,
+) List.[])))))))
 
 abbrev pub t5 : List.List Row.Entry
-t5 = List._∷_ row·6 (List._∷_ row·4 (List._∷_ row·9 (List._∷_ row·11 (List._∷_ row·0 (List._∷_ row·13 (List._∷_ row·14 List.[]))))))
+t5 = List._∷_ (0, Rows.any-gone Syntax.tyBool) (List._∷_ (1, Rows.sc-here (Row.sInt Syntax.w64)) (List._∷_ (
+  2,
+  Rows.sslice (Record.the-row)
+      (Syntax.tyRef (Syntax.named 0) Syntax.imm (Memory·.pointee (Record.the-row .written))) 0,
+) (List._∷_ (3, Rows.sc-here Row.sBool) (List._∷_ (
+  4,
+  Rows.sc-here (Row.sInt Syntax.w64),
+) (List._∷_ (5, Rows.any-gone ty1·0) (List._∷_ (6, Rows.sc-here (Row.sInt Syntax.w64)) (List._∷_ (
+  7,
+  Rows.sc-here Row.sBool,
+) List.[])))))))
 
 abbrev pub t6 : List.List Row.Entry
-t6 = List._∷_ row·6 (List._∷_ row·4 (List._∷_ row·9 (List._∷_ row·11 (List._∷_ row·0 (List._∷_ row·12 (List._∷_ row·3 List.[]))))))
+t6 = List._∷_ (0, Rows.any-gone Syntax.tyBool) (List._∷_ (1, Rows.sc-here (Row.sInt Syntax.w64)) (List._∷_ (
+  2,
+  Rows.sslice (Record.the-row)
+      (Syntax.tyRef (Syntax.named 0) Syntax.imm (Memory·.pointee (Record.the-row .written))) 0,
+) (List._∷_ (3, Rows.sc-here Row.sBool) (List._∷_ (
+  4,
+  Rows.sc-here (Row.sInt Syntax.w64),
+) (List._∷_ (5, Rows.any-gone ty1·0) (List._∷_ (6, Rows.any-gone (Syntax.tyInt Syntax.w64)) (List._∷_ (
+  7,
+  Rows.sc-here Row.sBool,
+) List.[])))))))
 
 abbrev pub t7 : List.List Row.Entry
-t7 = List._∷_ row·6 (List._∷_ row·4 (List._∷_ row·9 (List._∷_ row·11 (List._∷_ row·1 (List._∷_ row·12 (List._∷_ row·2 List.[]))))))
+t7 = List._∷_ (0, Rows.any-gone Syntax.tyBool) (List._∷_ (1, Rows.sc-here (Row.sInt Syntax.w64)) (List._∷_ (
+  2,
+  Rows.sslice (Record.the-row)
+      (Syntax.tyRef (Syntax.named 0) Syntax.imm (Memory·.pointee (Record.the-row .written))) 0,
+) (List._∷_ (3, Rows.sc-here Row.sBool) (List._∷_ (
+  4,
+  Rows.sc-here (Row.sInt Syntax.w64),
+) (List._∷_ (5, Rows.whole (Declared.row Record.the-type)) (List._∷_ (
+  6,
+  Rows.any-gone (Syntax.tyInt
+      Syntax.w64),
+) (List._∷_ (7, Rows.any-gone Syntax.tyBool) List.[])))))))
 
 abbrev pub t8 : List.List Row.Entry
-t8 = List._∷_ row·6 (List._∷_ row·4 (List._∷_ row·9 (List._∷_ row·11 (List._∷_ row·1 (List._∷_ row·12 (List._∷_ row·3 List.[]))))))
+t8 = List._∷_ (0, Rows.any-gone Syntax.tyBool) (List._∷_ (1, Rows.sc-here (Row.sInt Syntax.w64)) (List._∷_ (
+  2,
+  Rows.sslice (Record.the-row)
+      (Syntax.tyRef (Syntax.named 0) Syntax.imm (Memory·.pointee (Record.the-row .written))) 0,
+) (List._∷_ (3, Rows.sc-here Row.sBool) (List._∷_ (
+  4,
+  Rows.sc-here (Row.sInt Syntax.w64),
+) (List._∷_ (5, Rows.whole (Declared.row Record.the-type)) (List._∷_ (
+  6,
+  Rows.any-gone (Syntax.tyInt
+      Syntax.w64),
+) (List._∷_ (7, Rows.sc-here Row.sBool) List.[])))))))
 
 abbrev pub t9 : List.List Row.Entry
-t9 = List._∷_ row·7 (List._∷_ row·4 (List._∷_ row·9 (List._∷_ row·11 (List._∷_ row·0 (List._∷_ row·12 (List._∷_ row·2 List.[]))))))
+t9 = List._∷_ (0, Rows.sc-here Row.sBool) (List._∷_ (1, Rows.sc-here (Row.sInt Syntax.w64)) (List._∷_ (
+  2,
+  Rows.sslice (Record.the-row) (Syntax.tyRef
+      (Syntax.named 0) Syntax.imm (Memory·.pointee (Record.the-row .written))) 0,
+) (List._∷_ (3, Rows.sc-here Row.sBool) (List._∷_ (
+  4,
+  Rows.sc-here
+      (Row.sInt Syntax.w64),
+) (List._∷_ (5, Rows.any-gone ty1·0) (List._∷_ (6, Rows.any-gone (Syntax.tyInt Syntax.w64)) (List._∷_ (
+  7,
+  Rows.any-gone
+      Syntax.tyBool,
+) List.[])))))))
 
 abbrev pub t10 : List.List Row.Entry
-t10 = List._∷_ row·7 (List._∷_ row·4 (List._∷_ row·8 (List._∷_ row·11 (List._∷_ row·0 (List._∷_ row·12 (List._∷_ row·2 List.[]))))))
+t10 = List._∷_ (0, Rows.sc-here Row.sBool) (List._∷_ (1, Rows.sc-here (Row.sInt Syntax.w64)) (List._∷_ (
+  2,
+  Rows.sslice (Record.the-row) (Syntax.tyRef
+      (Syntax.named 0) Syntax.imm (Memory·.pointee (Record.the-row .written))) 0,
+) (List._∷_ (3, Rows.any-gone Syntax.tyBool) (List._∷_ (
+  4,
+  Rows.sc-here (Row.sInt Syntax.w64),
+) (List._∷_ (5, Rows.any-gone ty1·0) (List._∷_ (6, Rows.any-gone (Syntax.tyInt Syntax.w64)) (List._∷_ (
+  7,
+  Rows.any-gone Syntax.tyBool,
+) List.[])))))))
+
+abbrev pub t11 : List.List Row.Entry
+t11 = List._∷_ (0, Rows.sc-here Row.sBool) (List._∷_ (1, Rows.sc-here (Row.sInt Syntax.w64)) (List._∷_ (
+  2,
+  Rows.sslice (Record.the-row) (Syntax.tyRef
+      (Syntax.named 0) Syntax.imm (Memory·.pointee (Record.the-row .written))) 0,
+) (List._∷_ (3, Rows.any-gone Syntax.tyBool) (List._∷_ (
+  4,
+  Rows.any-gone (Syntax.tyInt Syntax.w64),
+) (List._∷_ (5, Rows.any-gone ty1·0) (List._∷_ (6, Rows.any-gone (Syntax.tyInt Syntax.w64)) (List._∷_
+    (7, Rows.any-gone Syntax.tyBool) List.[])))))))
 
 abbrev pub T0 : Row.Cx
 T0 = record { locals = t0; slots = List.[] }
@@ -343,7 +420,10 @@ abbrev pub T18 : Row.Cx
 T18 = record { locals = t10; slots = List.[] }
 
 abbrev pub T19 : Row.Cx
-T19 = record { locals = t1; slots = List.[] }
+T19 = record { locals = t11; slots = List.[] }
+
+abbrev pub T20 : Row.Cx
+T20 = record { locals = t1; slots = List.[] }
 
 abbrev pub O0 : Typed.Outs
 O0 = record { next = Option.none; exits = List.[]; returns = Option.some T1 }
@@ -361,76 +441,81 @@ abbrev pub O4 : Typed.Outs
 O4 = Typed.withNext (Option.some T7) O3
 
 abbrev pub InvT-loop : Type 1
-InvT-loop = List.List (Record.the-row .Denot) → Rows.sc-here Row.sBool .Mod → Rows.sc-here (Row.sInt Syntax.w64) .Mod → Rows.sc-here Row.sBool .Mod →
-    Rows.sc-here (Row.sInt Syntax.w64) .Mod → Type 0
+InvT-loop = Rows.sc-here (Row.sInt Syntax.w64) .Mod → List.List (Record.the-row .Denot) → Rows.sc-here Row.sBool .Mod → Rows.sc-here (Row.sInt
+    Syntax.w64) .Mod → Rows.sc-here Row.sBool .Mod → Rows.sc-here (Row.sInt Syntax.w64) .Mod → Type 0
 
 abbrev pub MeasureT-loop : Type 0
-MeasureT-loop = List.List (Record.the-row .Denot) → Rows.sc-here Row.sBool .Mod → Rows.sc-here (Row.sInt Syntax.w64) .Mod → Rows.sc-here Row.sBool
-    .Mod → Rows.sc-here (Row.sInt Syntax.w64) .Mod → Nat.ℕ
+MeasureT-loop = Rows.sc-here (Row.sInt Syntax.w64) .Mod → List.List (Record.the-row .Denot) → Rows.sc-here Row.sBool .Mod → Rows.sc-here (Row.sInt
+    Syntax.w64) .Mod → Rows.sc-here Row.sBool .Mod → Rows.sc-here (Row.sInt Syntax.w64) .Mod → Nat.ℕ
 
 module _ (claims· : Claims) where
   abbrev s0 : Typed.Mo T0 → Typed.Mo T2
-  s0 = Scalar.n-use T0 (Scalar.oBool Bool'.true) 2 (Rows.sc-here Row.sBool) (Row.sBool .of)
+  s0 = Scalar.n-use T0 (Scalar.oBool Bool'.true) 3 (Rows.sc-here Row.sBool) (Row.sBool .of)
 
   abbrev s1 : Typed.Mo T2 → Typed.Mo T3
-  s1 = Scalar.n-use T2 (Scalar.oInt Syntax.w64 0) 3 (Rows.sc-here (Row.sInt Syntax.w64)) (Row.sInt Syntax.w64 .of)
+  s1 = Scalar.n-use T2 (Scalar.oInt Syntax.w64 0) 4 (Rows.sc-here (Row.sInt Syntax.w64)) (Row.sInt Syntax.w64 .of)
 
   abbrev s2 : Typed.Mo T3 → Typed.Mo T5
-  s2 = Scalar.n-use T3 (Scalar.oFld 1 (List._∷_ (Syntax.field 1) List.[]) (Syntax.tyInt Syntax.w64) 8 Shared.lenV) 5 (Rows.sc-here (Row.sInt
+  s2 = Scalar.n-use T3 (Scalar.oFld 2 (List._∷_ (Syntax.field 1) List.[]) (Syntax.tyInt Syntax.w64) 8 Shared.lenV) 6 (Rows.sc-here (Row.sInt
       Syntax.w64)) (Row.sInt Syntax.w64 .of)
 
   abbrev s3 : Typed.Asks T5 T6
-  s3 = Scalar.k-op2 T5 (Syntax.lt Syntax.unsigned) (Scalar.oAt 3 (Syntax.tyInt Syntax.w64) (Row.valS (Row.sInt Syntax.w64))) (Scalar.oAt 5
-      (Syntax.tyInt Syntax.w64) (Row.valS (Row.sInt Syntax.w64))) 6 (Rows.sc-here Row.sBool) (Row.sBool .of)
+  s3 = Scalar.k-op2 T5 (Syntax.lt Syntax.unsigned) (Scalar.oAt 4 (Syntax.tyInt Syntax.w64) (Row.valS (Row.sInt Syntax.w64))) (Scalar.oAt 6
+      (Syntax.tyInt Syntax.w64) (Row.valS (Row.sInt Syntax.w64))) 7 (Rows.sc-here Row.sBool) (Row.sBool .of)
 
   abbrev s4 : Typed.Mo T6 → Typed.Mo T8
-  s4 = Scalar.n-room T6 5 (Syntax.tyInt Syntax.w64)
+  s4 = Scalar.n-room T6 6 (Syntax.tyInt Syntax.w64)
 
   abbrev s5 : Typed.Mo T8 → Typed.Mo T9
-  s5 = Scalar.n-room T8 6 Syntax.tyBool
+  s5 = Scalar.n-room T8 7 Syntax.tyBool
 
   abbrev s6 : Typed.Mo T8 → Typed.Mo T10
-  s6 = Scalar.n-room T8 6 Syntax.tyBool
+  s6 = Scalar.n-room T8 7 Syntax.tyBool
 
   abbrev s7 : Typed.Both T7 T11
   s7 = Call.callB ps·0 r·0 (claims· .0) (claims· .1) T7 (
     record {
-      pos = 1;
+      pos = 2;
       ty = Syntax.tyRef (Syntax.named 0) Syntax.imm (Memory·.pointee
           (Record.the-row .written));
       ref = λ x. x;
     },
-    (Num.vAt 3 λ x. x, tt),
-  ) 4 (List._∷_ 0 List.[]) ty1·0
+    (Num.vAt 4 λ x. x, tt),
+  ) 5 (List._∷_ 0 List.[]) ty1·0
 
   abbrev s8 : Typed.Both T11 T12
-  s8 = Call.callB ps·1 r·1 (claims· .2) (claims· .3) T11 (record { pos = 4; st = List.[]; d = 0; at = λ x. x }, tt) 6 List.[] Syntax.tyBool
+  s8 = Call.callB ps·1 r·1 (claims· .2) (claims· .3) T11 (Num.vAt 1 λ x. x, (record { pos = 5; st = List.[]; d = 0; at = λ x. x }, tt)) 7 List.[]
+      Syntax.tyBool
 
   abbrev s9 : Typed.Mo T12 → Typed.Mo T13
-  s9 = Scalar.n-room T12 4 ty1·0
+  s9 = Scalar.n-room T12 5 ty1·0
 
   abbrev s10 : Typed.Asks T13 T14
-  s10 = Scalar.k-op2 T13 Syntax.bitAnd (Scalar.oAt 2 Syntax.tyBool (Row.valS Row.sBool)) (Scalar.oAt 6 Syntax.tyBool (Row.valS Row.sBool)) 2
+  s10 = Scalar.k-op2 T13 Syntax.bitAnd (Scalar.oAt 3 Syntax.tyBool (Row.valS Row.sBool)) (Scalar.oAt 7 Syntax.tyBool (Row.valS Row.sBool)) 3
       (Rows.sc-here Row.sBool) (Row.sBool .of)
 
   abbrev s11 : Typed.Mo T14 → Typed.Mo T15
-  s11 = Scalar.n-room T14 6 Syntax.tyBool
+  s11 = Scalar.n-room T14 7 Syntax.tyBool
 
   abbrev s12 : Typed.Asks T15 T16
-  s12 = Scalar.k-op2 T15 (Syntax.add Syntax.unsigned) (Scalar.oAt 3 (Syntax.tyInt Syntax.w64) (Row.valS (Row.sInt Syntax.w64))) (Scalar.oInt
-      Syntax.w64 1) 3 (Rows.sc-here (Row.sInt Syntax.w64)) (Row.sInt Syntax.w64 .of)
+  s12 = Scalar.k-op2 T15 (Syntax.add Syntax.unsigned) (Scalar.oAt 4 (Syntax.tyInt Syntax.w64) (Row.valS (Row.sInt Syntax.w64))) (Scalar.oInt
+      Syntax.w64 1) 4 (Rows.sc-here (Row.sInt Syntax.w64)) (Row.sInt Syntax.w64 .of)
 
   abbrev s13 : Typed.Mo T4 → Typed.Mo T17
-  s13 = Scalar.n-use T4 (Scalar.oAt 2 Syntax.tyBool (Row.valS Row.sBool)) 0 (Rows.sc-here Row.sBool) (Row.sBool .of)
+  s13 = Scalar.n-use T4 (Scalar.oAt 3 Syntax.tyBool (Row.valS Row.sBool)) 0 (Rows.sc-here Row.sBool) (Row.sBool .of)
 
   abbrev s14 : Typed.Mo T17 → Typed.Mo T18
-  s14 = Scalar.n-room T17 2 Syntax.tyBool
+  s14 = Scalar.n-room T17 3 Syntax.tyBool
 
   abbrev s15 : Typed.Mo T18 → Typed.Mo T19
-  s15 = Scalar.n-room T18 3 (Syntax.tyInt Syntax.w64)
+  s15 = Scalar.n-room T18 4 (Syntax.tyInt Syntax.w64)
+
+  abbrev s16 : Typed.Mo T19 → Typed.Mo T20
+  s16 = Scalar.n-room T19 1 (Syntax.tyInt Syntax.w64)
 
   abbrev put0 : Rows.sc-here Row.sBool .Mod × Rows.sc-here (Row.sInt Syntax.w64) .Mod → Typed.Mo T3 → Typed.Mo T3
-  put0 = λ vs u. Row.set 3 row·11 (vs .1) (T3 .locals) (Row.set 2 (2, Rows.sc-here Row.sBool) (vs .0) (T3 .locals) u)
+  put0 = λ vs u. Row.set 4 (4, Rows.sc-here (Row.sInt Syntax.w64)) (vs .1) (T3 .locals) (Row.set 3 (3, Rows.sc-here Row.sBool) (vs .0) (T3 .locals)
+      u)
 
   module _ (Pre· : (κs : Lifetimes.Lfts 1) → Kinds.Dens κs ps → Type 0) (Post· : (κs : Lifetimes.Lfts 1) → (a : Kinds.Dens κs ps) → Kinds.Plain 1 ps r
       κs) where
@@ -454,7 +539,7 @@ module _ (claims· : Claims) where
       at3 = λ Ψ. Typed.pass T8 T10 s6 (at2 Ψ)
 
       abbrev at4 : Typed.TF T8 O4
-      at4 = Scalar.Φcond T8 O4 6 (λ x. x) at1 at3
+      at4 = Scalar.Φcond T8 O4 7 (λ x. x) at1 at3
 
       abbrev at5 : Typed.TF T6 O4
       at5 = λ Ψ. Typed.pass T6 T8 s4 (at4 Ψ)
@@ -487,35 +572,39 @@ module _ (claims· : Claims) where
       at14 = λ Ψ. Typed.pass T3 T5 s2 (at13 Ψ)
 
       abbrev at15 : Typed.TF T3 O2
-      at15 = Typed.LoopBy T3 O2 put0 (λ u vs. Inv·0 (Row.get 1 (T3 .locals) u .now) (Row.get 2 (T3 .locals) u) (Row.get 3 (T3 .locals) u) (vs .0) (vs
-          .1)) (λ u vs. μ·0 (Row.get 1 (T3 .locals) u .now) (Row.get 2 (T3 .locals) u) (Row.get 3 (T3 .locals) u) (vs .0) (vs .1)) at14
+      at15 = Typed.LoopBy T3 O2 put0 (λ u vs. Inv·0 (Row.get 1 (T3 .locals) u) (Row.get 2 (T3 .locals) u .now) (Row.get 3 (T3 .locals) u) (Row.get 4
+          (T3 .locals) u) (vs .0) (vs .1)) (λ u vs. μ·0 (Row.get 1 (T3 .locals) u) (Row.get 2 (T3 .locals) u .now) (Row.get 3 (T3 .locals) u) (Row.get
+          4 (T3 .locals) u) (vs .0) (vs .1)) at14
 
       abbrev at16 : Typed.TF T3 O1
       at16 = λ Ψ. at15 (Typed.inBlock O1 Ψ)
 
-      abbrev at17 : Typed.TF T19 O0
+      abbrev at17 : Typed.TF T20 O0
       at17 = Typed.atRet O0
 
-      abbrev at18 : Typed.TF T18 O0
-      at18 = λ Ψ. Typed.pass T18 T19 s15 (at17 Ψ)
+      abbrev at18 : Typed.TF T19 O0
+      at18 = λ Ψ. Typed.pass T19 T20 s16 (at17 Ψ)
 
-      abbrev at19 : Typed.TF T17 O0
-      at19 = λ Ψ. Typed.pass T17 T18 s14 (at18 Ψ)
+      abbrev at19 : Typed.TF T18 O0
+      at19 = λ Ψ. Typed.pass T18 T19 s15 (at18 Ψ)
 
-      abbrev at20 : Typed.TF T4 O0
-      at20 = λ Ψ. Typed.pass T4 T17 s13 (at19 Ψ)
+      abbrev at20 : Typed.TF T17 O0
+      at20 = λ Ψ. Typed.pass T17 T18 s14 (at19 Ψ)
 
-      abbrev at21 : Typed.TF T3 O0
-      at21 = λ Ψ. at16 (Typed.wantNext T4 O0 (at20 Ψ) Ψ)
+      abbrev at21 : Typed.TF T4 O0
+      at21 = λ Ψ. Typed.pass T4 T17 s13 (at20 Ψ)
 
-      abbrev at22 : Typed.TF T2 O0
-      at22 = λ Ψ. Typed.pass T2 T3 s1 (at21 Ψ)
+      abbrev at22 : Typed.TF T3 O0
+      at22 = λ Ψ. at16 (Typed.wantNext T4 O0 (at21 Ψ) Ψ)
 
-      abbrev at23 : Typed.TF T0 O0
-      at23 = λ Ψ. Typed.pass T0 T2 s0 (at22 Ψ)
+      abbrev at23 : Typed.TF T2 O0
+      at23 = λ Ψ. Typed.pass T2 T3 s1 (at22 Ψ)
+
+      abbrev at24 : Typed.TF T0 O0
+      at24 = λ Ψ. Typed.pass T0 T2 s0 (at23 Ψ)
 
       abbrev pub Φ : Typed.TF T0 O0
-      Φ = at23
+      Φ = at24
 
       module _ {M : Type 1} (𝓤 : URA.URA M) (H : Wp.Heap 𝓤) (A : Atoms.Atoms 𝓤) (W : Kit.Given 𝓤 H A) (𝓣 : Wp.Tables 𝓤 H) where
         abbrev Knowns : Type 1
@@ -581,7 +670,10 @@ module _ (claims· : Claims) where
         G18 = record { locals = t10; slots = List._∷_ (Row.lease (κs .0) (qs .0)) List.[] }
 
         abbrev G19 : Row.Cx
-        G19 = record { locals = t1; slots = List._∷_ (Row.lease (κs .0) (qs .0)) List.[] }
+        G19 = record { locals = t11; slots = List._∷_ (Row.lease (κs .0) (qs .0)) List.[] }
+
+        abbrev G20 : Row.Cx
+        G20 = record { locals = t1; slots = List._∷_ (Row.lease (κs .0) (qs .0)) List.[] }
 
         abbrev Δ0 : Typed.Outs
         Δ0 = record { next = Option.none; exits = List.[]; returns = Option.some G1 }
@@ -607,26 +699,26 @@ module _ (claims· : Claims) where
           d0 = Typed.t-skip 𝓤 H A W 𝓣 E Δ4 tt
 
           d1 : Typed.Typed 𝓤 H A 𝓣 E G8 b4 Δ4 at1
-          d1 = Typed.g-pre 𝓤 H A W 𝓣 E G8 G9 b4 Δ4 (Typed.pass T8 T9 s5) at0 (Scalar.g-room 𝓤 H A W E G8 6 Syntax.tyBool (Scalar.room-sc 𝓤 H A W
+          d1 = Typed.g-pre 𝓤 H A W 𝓣 E G8 G9 b4 Δ4 (Typed.pass T8 T9 s5) at0 (Scalar.g-room 𝓤 H A W E G8 7 Syntax.tyBool (Scalar.room-sc 𝓤 H A W
               Row.sBool)) d0
 
           d2 : Typed.Typed 𝓤 H A 𝓣 E G10 b5 Δ4 at2
           d2 = Typed.t-exit 𝓤 H A W 𝓣 E 1 Δ4 tt
 
           d3 : Typed.Typed 𝓤 H A 𝓣 E G8 b5 Δ4 at3
-          d3 = Typed.g-pre 𝓤 H A W 𝓣 E G8 G10 b5 Δ4 (Typed.pass T8 T10 s6) at2 (Scalar.g-room 𝓤 H A W E G8 6 Syntax.tyBool (Scalar.room-sc 𝓤 H A W
+          d3 = Typed.g-pre 𝓤 H A W 𝓣 E G8 G10 b5 Δ4 (Typed.pass T8 T10 s6) at2 (Scalar.g-room 𝓤 H A W E G8 7 Syntax.tyBool (Scalar.room-sc 𝓤 H A W
               Row.sBool)) d2
 
           d4 : Typed.Typed 𝓤 H A 𝓣 E G8 b6 Δ4 at4
-          d4 = Scalar.t-cond 𝓤 H A W E 𝓣 G8 6 (λ x. x) b4 b5 Δ4 at1 at3 (Scalar.reads-sc 𝓤 H A W Row.sBool) Path'.refl d1 d3
+          d4 = Scalar.t-cond 𝓤 H A W E 𝓣 G8 7 (λ x. x) b4 b5 Δ4 at1 at3 (Scalar.reads-sc 𝓤 H A W Row.sBool) Path'.refl d1 d3
 
           d5 : Typed.Typed 𝓤 H A 𝓣 E G6 b6 Δ4 at5
-          d5 = Typed.g-pre 𝓤 H A W 𝓣 E G6 G8 b6 Δ4 (Typed.pass T6 T8 s4) at4 (Scalar.g-room 𝓤 H A W E G6 5 (Syntax.tyInt Syntax.w64) (Scalar.room-sc 𝓤
+          d5 = Typed.g-pre 𝓤 H A W 𝓣 E G6 G8 b6 Δ4 (Typed.pass T6 T8 s4) at4 (Scalar.g-room 𝓤 H A W E G6 6 (Syntax.tyInt Syntax.w64) (Scalar.room-sc 𝓤
               H A W (Row.sInt Syntax.w64))) d4
 
           d6 : Typed.Typed 𝓤 H A 𝓣 E G15 b10 Δ3 at6
-          d6 = Typed.s-typed 𝓤 H A W 𝓣 E G15 b10 Δ3 (Typed.ask s12) tt (Scalar.t-op2 𝓤 H A W E 𝓣 G15 (Syntax.add Syntax.unsigned) (Scalar.oAt 3
-              (Syntax.tyInt Syntax.w64) (Row.valS (Row.sInt Syntax.w64))) (Scalar.oInt Syntax.w64 1) 3 (Rows.sc-here (Row.sInt Syntax.w64))
+          d6 = Typed.s-typed 𝓤 H A W 𝓣 E G15 b10 Δ3 (Typed.ask s12) tt (Scalar.t-op2 𝓤 H A W E 𝓣 G15 (Syntax.add Syntax.unsigned) (Scalar.oAt 4
+              (Syntax.tyInt Syntax.w64) (Row.valS (Row.sInt Syntax.w64))) (Scalar.oInt Syntax.w64 1) 4 (Rows.sc-here (Row.sInt Syntax.w64))
               (Syntax.tyInt Syntax.w64) (Row.valS (Row.sInt Syntax.w64)) (Row.sInt Syntax.w64 .of) (
                 Scalar.reads-sc 𝓤 H A W (Row.sInt Syntax.w64),
                 Path'.refl,
@@ -634,44 +726,48 @@ module _ (claims· : Claims) where
               Path'.refl) λ u. tt)
 
           d7 : Typed.Typed 𝓤 H A 𝓣 E G14 b10 Δ3 at7
-          d7 = Typed.g-pre 𝓤 H A W 𝓣 E G14 G15 b10 Δ3 (Typed.pass T14 T15 s11) at6 (Scalar.g-room 𝓤 H A W E G14 6 Syntax.tyBool (Scalar.room-sc 𝓤 H A
+          d7 = Typed.g-pre 𝓤 H A W 𝓣 E G14 G15 b10 Δ3 (Typed.pass T14 T15 s11) at6 (Scalar.g-room 𝓤 H A W E G14 7 Syntax.tyBool (Scalar.room-sc 𝓤 H A
               W Row.sBool)) d6
 
           d8 : Typed.Typed 𝓤 H A 𝓣 E G13 b11 Δ3 at8
-          d8 = Typed.s-seq 𝓤 H A W 𝓣 E G13 G14 b9 b10 Δ3 (Typed.ask s10) at7 (Scalar.t-op2 𝓤 H A W E 𝓣 G13 Syntax.bitAnd (Scalar.oAt 2 Syntax.tyBool
-              (Row.valS Row.sBool)) (Scalar.oAt 6 Syntax.tyBool (Row.valS Row.sBool)) 2 (Rows.sc-here Row.sBool) Syntax.tyBool (Row.valS Row.sBool)
+          d8 = Typed.s-seq 𝓤 H A W 𝓣 E G13 G14 b9 b10 Δ3 (Typed.ask s10) at7 (Scalar.t-op2 𝓤 H A W E 𝓣 G13 Syntax.bitAnd (Scalar.oAt 3 Syntax.tyBool
+              (Row.valS Row.sBool)) (Scalar.oAt 7 Syntax.tyBool (Row.valS Row.sBool)) 3 (Rows.sc-here Row.sBool) Syntax.tyBool (Row.valS Row.sBool)
               (Row.sBool .of) (Scalar.reads-sc 𝓤 H A W Row.sBool, Path'.refl) (Scalar.reads-sc 𝓤 H A W Row.sBool, Path'.refl) (Scalar.room-sc 𝓤 H A W
               Row.sBool) (Scalar.holds-sc 𝓤 H A W Row.sBool) Path'.refl (λ u. Path'.refl) λ u. tt) d7
 
           d9 : Typed.Typed 𝓤 H A 𝓣 E G12 b11 Δ3 at9
-          d9 = Typed.g-pre 𝓤 H A W 𝓣 E G12 G13 b11 Δ3 (Typed.pass T12 T13 s9) at8 (Scalar.g-room 𝓤 H A W E G12 4 ty1·0 (Local.room-whole 𝓤 H A W
+          d9 = Typed.g-pre 𝓤 H A W 𝓣 E G12 G13 b11 Δ3 (Typed.pass T12 T13 s9) at8 (Scalar.g-room 𝓤 H A W E G12 5 ty1·0 (Local.room-whole 𝓤 H A W
               (Declared.row Record.the-type) ty1·0 Path'.refl)) d8
 
           d10 : Typed.Typed 𝓤 H A 𝓣 E G11 b12 Δ3 at10
           d10 = Typed.s-seq 𝓤 H A W 𝓣 E G11 G12 b8 b11 Δ3 (Typed.both s8) at9 (Plain.t-call-plain 𝓤 H A W 𝓣 0 ps·1 r·1 (claims· .2) (claims· .3)
-              "records::stands" (known .1) E (λ pos β. β) G11 (record { pos = 4; st = List.[]; d = 0; at = λ x. x }, tt) 6 List.[] (Call.sub-id 𝓤 H A
-              W (G11 .slots)) (
+              "records::stands" (known .1) E (λ pos β. β) G11 (Num.vAt 1 λ x. x, (record { pos = 5; st = List.[]; d = 0; at = λ x. x }, tt)) 7 List.[]
+              (Call.sub-id 𝓤 H A W (G11 .slots)) (
+                (Scalar.reads-sc 𝓤 H A W (Row.sInt Syntax.w64), Path'.refl),
                 (
-                  Yields.yields-copy 𝓤 H A W (λ ρ. Unit) (Declared.row Record.the-type) Path'.refl (Copies.cStruct Record.the-type
-                      Laws.the-laws Laws.the-copy .copy 𝓤 H A W) (Rows.whole (Declared.row Record.the-type)) (λ x. x) (λ x. x) (λ ρ told. Local.mem-whole 𝓤 H
-                      A W (Declared.row Record.the-type) ρ) λ ρ told. Local.whole-mem 𝓤 H A W (Declared.row Record.the-type) ρ,
-                  Path'.refl,
+                  (
+                    Yields.yields-copy 𝓤 H A W (λ ρ.
+                        Unit) (Declared.row Record.the-type) Path'.refl (Copies.cStruct Record.the-type Laws.the-laws Laws.the-copy .copy 𝓤 H A W) (Rows.whole
+                        (Declared.row Record.the-type)) (λ x. x) (λ x. x) (λ ρ told. Local.mem-whole 𝓤 H A W (Declared.row Record.the-type) ρ) λ ρ told.
+                        Local.whole-mem 𝓤 H A W (Declared.row Record.the-type) ρ,
+                    Path'.refl,
+                  ),
+                  tt,
                 ),
-                tt,
-              )
-              (Reads.room-gone 𝓤 H A Syntax.tyBool) tt Path'.refl) d9
+              ) (Reads.room-gone 𝓤 H A Syntax.tyBool) tt Path'.refl)
+              d9
 
           d11 : Typed.Typed 𝓤 H A 𝓣 E G7 b13 Δ3 at11
           d11 = Typed.s-seq 𝓤 H A W 𝓣 E G7 G11 b7 b12 Δ3 (Typed.both s7) at10 (Plain.t-call-plain 𝓤 H A W 𝓣 1 ps·0 r·0 (claims· .0) (claims· .1)
               "records::get_at" (known .0) E (λ pos β. β) G7 (
                 record {
-                  pos = 1;
+                  pos = 2;
                   ty = Syntax.tyRef (Syntax.named 0) Syntax.imm (Memory·.pointee
                       (Record.the-row .written));
                   ref = λ x. x;
                 },
-                (Num.vAt 3 λ x. x, tt),
-              ) 4 (List._∷_ 0 List.[]) (Call.sub-id 𝓤 H A W (G7 .slots)) (
+                (Num.vAt 4 λ x. x, tt),
+              ) 5 (List._∷_ 0 List.[]) (Call.sub-id 𝓤 H A W (G7 .slots)) (
                 ShrSlice.spares-sslice 𝓤 H A W (Record.the-row) (Syntax.tyRef (Syntax.named 0) Syntax.imm (Memory·.pointee (Record.the-row .written)))
                     0,
                 Shared.reads-sslice 𝓤 H A W (Record.the-row) (Syntax.tyRef (Syntax.named 0) Syntax.imm (Memory·.pointee (Record.the-row .written)))
@@ -685,15 +781,15 @@ module _ (claims· : Claims) where
           d12 = Typed.t-seq 𝓤 H A W 𝓣 E G6 G7 b6 b13 Δ3 at5 at11 d5 d11
 
           d13 : Typed.Typed 𝓤 H A 𝓣 E G5 b15 Δ3 at13
-          d13 = Typed.s-seq 𝓤 H A W 𝓣 E G5 G6 b3 b14 Δ3 (Typed.ask s3) at12 (Scalar.t-op2 𝓤 H A W E 𝓣 G5 (Syntax.lt Syntax.unsigned) (Scalar.oAt 3
-              (Syntax.tyInt Syntax.w64) (Row.valS (Row.sInt Syntax.w64))) (Scalar.oAt 5 (Syntax.tyInt Syntax.w64) (Row.valS (Row.sInt Syntax.w64))) 6
+          d13 = Typed.s-seq 𝓤 H A W 𝓣 E G5 G6 b3 b14 Δ3 (Typed.ask s3) at12 (Scalar.t-op2 𝓤 H A W E 𝓣 G5 (Syntax.lt Syntax.unsigned) (Scalar.oAt 4
+              (Syntax.tyInt Syntax.w64) (Row.valS (Row.sInt Syntax.w64))) (Scalar.oAt 6 (Syntax.tyInt Syntax.w64) (Row.valS (Row.sInt Syntax.w64))) 7
               (Rows.sc-here Row.sBool) Syntax.tyBool (Row.valS Row.sBool) (Row.sBool .of) (Scalar.reads-sc 𝓤 H A W (Row.sInt Syntax.w64), Path'.refl)
               (Scalar.reads-sc 𝓤 H A W (Row.sInt Syntax.w64), Path'.refl) (Reads.room-gone 𝓤 H A Syntax.tyBool) (Scalar.holds-sc 𝓤 H A W Row.sBool)
               Path'.refl (λ u. Path'.refl) λ u. tt) d12
 
           d14 : Typed.Typed 𝓤 H A 𝓣 E G3 b16 Δ3 at14
-          d14 = Typed.s-seq 𝓤 H A W 𝓣 E G3 G5 b2 b15 Δ3 (Typed.pass T3 T5 s2) at13 (Scalar.t-use 𝓤 H A W E 𝓣 G3 (Scalar.oFld 1 (List._∷_ (Syntax.field
-              1) List.[]) (Syntax.tyInt Syntax.w64) 8 Shared.lenV) 5 (Rows.sc-here (Row.sInt Syntax.w64)) (Syntax.tyInt Syntax.w64) (Row.valS
+          d14 = Typed.s-seq 𝓤 H A W 𝓣 E G3 G5 b2 b15 Δ3 (Typed.pass T3 T5 s2) at13 (Scalar.t-use 𝓤 H A W E 𝓣 G3 (Scalar.oFld 2 (List._∷_ (Syntax.field
+              1) List.[]) (Syntax.tyInt Syntax.w64) 8 Shared.lenV) 6 (Rows.sc-here (Row.sInt Syntax.w64)) (Syntax.tyInt Syntax.w64) (Row.valS
               (Row.sInt Syntax.w64)) (Row.sInt Syntax.w64 .of) (
                 Shared.reads-sslice-len 𝓤 H A W (Record.the-row) (Syntax.tyRef (Syntax.named 0)
                     Syntax.imm (Memory·.pointee (Record.the-row .written))) 0 8 Path'.refl,
@@ -702,54 +798,63 @@ module _ (claims· : Claims) where
               (Scalar.holds-sc 𝓤 H A W (Row.sInt Syntax.w64)) Path'.refl (λ u. Path'.refl) λ u. tt) d13
 
           d15 : Typed.Typed 𝓤 H A 𝓣 E G3 b17 Δ2 at15
-          d15 = Typed.t-loop-by 𝓤 H A W 𝓣 E G3 b16 Δ2 put0 (λ u vs. Inv·0 (Row.get 1 (T3 .locals) u .now) (Row.get 2 (T3 .locals) u) (Row.get 3 (T3
-              .locals) u) (vs .0) (vs .1)) (λ u vs. μ·0 (Row.get 1 (T3 .locals) u .now) (Row.get 2 (T3 .locals) u) (Row.get 3 (T3 .locals) u) (vs .0)
-              (vs .1)) at14 d14
+          d15 = Typed.t-loop-by 𝓤 H A W 𝓣 E G3 b16 Δ2 put0 (λ u vs. Inv·0 (Row.get 1 (T3 .locals) u) (Row.get 2 (T3 .locals) u .now) (Row.get 3 (T3
+              .locals) u) (Row.get 4 (T3 .locals) u) (vs .0) (vs .1)) (λ u vs. μ·0 (Row.get 1 (T3 .locals) u) (Row.get 2 (T3 .locals) u .now) (Row.get
+              3 (T3 .locals) u) (Row.get 4 (T3 .locals) u) (vs .0) (vs .1)) at14 d14
 
           d16 : Typed.Typed 𝓤 H A 𝓣 E G3 b18 Δ1 at16
           d16 = Typed.t-block 𝓤 H A W 𝓣 E G3 b17 Δ1 at15 d15
 
-          d17 : Typed.Typed 𝓤 H A 𝓣 E G19 b20 Δ0 at17
+          d17 : Typed.Typed 𝓤 H A 𝓣 E G20 b20 Δ0 at17
           d17 = Typed.t-return 𝓤 H A W 𝓣 E Δ0 tt
 
-          d18 : Typed.Typed 𝓤 H A 𝓣 E G18 b20 Δ0 at18
-          d18 = Typed.g-pre 𝓤 H A W 𝓣 E G18 G19 b20 Δ0 (Typed.pass T18 T19 s15) at17 (Scalar.g-room 𝓤 H A W E G18 3 (Syntax.tyInt Syntax.w64)
+          d18 : Typed.Typed 𝓤 H A 𝓣 E G19 b20 Δ0 at18
+          d18 = Typed.g-pre 𝓤 H A W 𝓣 E G19 G20 b20 Δ0 (Typed.pass T19 T20 s16) at17 (Scalar.g-room 𝓤 H A W E G19 1 (Syntax.tyInt Syntax.w64)
               (Scalar.room-sc 𝓤 H A W (Row.sInt Syntax.w64))) d17
 
-          d19 : Typed.Typed 𝓤 H A 𝓣 E G17 b20 Δ0 at19
-          d19 = Typed.g-pre 𝓤 H A W 𝓣 E G17 G18 b20 Δ0 (Typed.pass T17 T18 s14) at18 (Scalar.g-room 𝓤 H A W E G17 2 Syntax.tyBool (Scalar.room-sc 𝓤 H
-              A W Row.sBool)) d18
+          d19 : Typed.Typed 𝓤 H A 𝓣 E G18 b20 Δ0 at19
+          d19 = Typed.g-pre 𝓤 H A W 𝓣 E G18 G19 b20 Δ0 (Typed.pass T18 T19 s15) at18 (Scalar.g-room 𝓤 H A W E G18 4 (Syntax.tyInt Syntax.w64)
+              (Scalar.room-sc 𝓤 H A W (Row.sInt Syntax.w64))) d18
 
-          d20 : Typed.Typed 𝓤 H A 𝓣 E G4 b21 Δ0 at20
-          d20 = Typed.s-seq 𝓤 H A W 𝓣 E G4 G17 b19 b20 Δ0 (Typed.pass T4 T17 s13) at19 (Scalar.t-use 𝓤 H A W E 𝓣 G4 (Scalar.oAt 2 Syntax.tyBool
+          d20 : Typed.Typed 𝓤 H A 𝓣 E G17 b20 Δ0 at20
+          d20 = Typed.g-pre 𝓤 H A W 𝓣 E G17 G18 b20 Δ0 (Typed.pass T17 T18 s14) at19 (Scalar.g-room 𝓤 H A W E G17 3 Syntax.tyBool (Scalar.room-sc 𝓤 H
+              A W Row.sBool)) d19
+
+          d21 : Typed.Typed 𝓤 H A 𝓣 E G4 b21 Δ0 at21
+          d21 = Typed.s-seq 𝓤 H A W 𝓣 E G4 G17 b19 b20 Δ0 (Typed.pass T4 T17 s13) at20 (Scalar.t-use 𝓤 H A W E 𝓣 G4 (Scalar.oAt 3 Syntax.tyBool
               (Row.valS Row.sBool)) 0 (Rows.sc-here Row.sBool) Syntax.tyBool (Row.valS Row.sBool) (Row.sBool .of) (
                 Scalar.reads-sc 𝓤 H A W Row.sBool,
                 Path'.refl,
-              ) (Reads.room-gone 𝓤 H A Syntax.tyBool) (Scalar.holds-sc 𝓤 H A W Row.sBool) Path'.refl (λ u. Path'.refl) λ u. tt) d19
+              ) (Reads.room-gone 𝓤 H A Syntax.tyBool) (Scalar.holds-sc 𝓤 H A W Row.sBool) Path'.refl (λ u. Path'.refl) λ u. tt) d20
 
-          d21 : Typed.Typed 𝓤 H A 𝓣 E G3 b22 Δ0 at21
-          d21 = Typed.t-seq 𝓤 H A W 𝓣 E G3 G4 b18 b21 Δ0 at16 at20 d16 d20
+          d22 : Typed.Typed 𝓤 H A 𝓣 E G3 b22 Δ0 at22
+          d22 = Typed.t-seq 𝓤 H A W 𝓣 E G3 G4 b18 b21 Δ0 at16 at21 d16 d21
 
-          d22 : Typed.Typed 𝓤 H A 𝓣 E G2 b23 Δ0 at22
-          d22 = Typed.s-seq 𝓤 H A W 𝓣 E G2 G3 b1 b22 Δ0 (Typed.pass T2 T3 s1) at21 (Scalar.t-use 𝓤 H A W E 𝓣 G2 (Scalar.oInt Syntax.w64 0) 3
+          d23 : Typed.Typed 𝓤 H A 𝓣 E G2 b23 Δ0 at23
+          d23 = Typed.s-seq 𝓤 H A W 𝓣 E G2 G3 b1 b22 Δ0 (Typed.pass T2 T3 s1) at22 (Scalar.t-use 𝓤 H A W E 𝓣 G2 (Scalar.oInt Syntax.w64 0) 4
               (Rows.sc-here (Row.sInt Syntax.w64)) (Syntax.tyInt Syntax.w64) (Row.valS (Row.sInt Syntax.w64)) (Row.sInt Syntax.w64 .of) tt
               (Reads.room-gone 𝓤 H A (Syntax.tyInt Syntax.w64)) (Scalar.holds-sc 𝓤 H A W (Row.sInt Syntax.w64)) Path'.refl (λ u. Path'.refl) λ u. tt)
-              d21
+              d22
 
-          d23 : Typed.Typed 𝓤 H A 𝓣 E G0 b24 Δ0 at23
-          d23 = Typed.s-seq 𝓤 H A W 𝓣 E G0 G2 b0 b23 Δ0 (Typed.pass T0 T2 s0) at22 (Scalar.t-use 𝓤 H A W E 𝓣 G0 (Scalar.oBool Bool'.true) 2
+          d24 : Typed.Typed 𝓤 H A 𝓣 E G0 b24 Δ0 at24
+          d24 = Typed.s-seq 𝓤 H A W 𝓣 E G0 G2 b0 b23 Δ0 (Typed.pass T0 T2 s0) at23 (Scalar.t-use 𝓤 H A W E 𝓣 G0 (Scalar.oBool Bool'.true) 3
               (Rows.sc-here Row.sBool) Syntax.tyBool (Row.valS Row.sBool) (Row.sBool .of) tt (Reads.room-gone 𝓤 H A Syntax.tyBool) (Scalar.holds-sc 𝓤
-              H A W Row.sBool) Path'.refl (λ u. Path'.refl) λ u. tt) d22
+              H A W Row.sBool) Path'.refl (λ u. Path'.refl) λ u. tt) d23
 
           pub typed : Typed.Typed 𝓤 H A 𝓣 E (Function.Γin 1 ps r xs m κs qs) b24 (Function.Δret 1 ps r xs m κs qs) Φ
-          typed = d23
+          typed = d24
 
       module _ (κs : Lifetimes.Lfts 1) where
         pub record Args : Type 0 where
+          pub party : Kinds.Den {n = 1} κs (Num.pNum Syntax.w64)
           pub records : Kinds.Den {n = 1} κs (ShrSlice.pShrS (Record.the-row) 0 tt)
 
         abbrev pub dens : (a : Args) → Kinds.Dens κs ps
-        dens = λ a. (a .records, tt)
+        dens = λ a. (a .party, (a .records, tt))
+
+        module _ (args· : Args) where
+          pub record Ranges : Type 0 where
+            pub party : Val.Fits Syntax.w64 (args· .party)
 
       abbrev pub m0 : (κs : Lifetimes.Lfts 1) → (args : Args κs) → Typed.Mo T0
       m0 = λ κs args. (tt, Enter.partsP κs 1 ps xs (dens κs args))
@@ -766,6 +871,7 @@ module _ (claims· : Claims) where
         pub κs : Lifetimes.Lfts 1
         pub args : Args κs
         pub good : Kinds.GoodsP κs ps (dens κs args)
+        pub fits : Ranges κs args
         pub pre : Pre· κs (dens κs args)
 
       abbrev pub m1 : (κs : Lifetimes.Lfts 1) → (args : Args κs) → Typed.Mo T2
@@ -775,24 +881,25 @@ module _ (claims· : Claims) where
       m2 = λ κs args. s1 (m1 κs args)
 
       abbrev W1 : (κs : Lifetimes.Lfts 1) → (args : Args κs) → Typed.Want O1
-      W1 = λ κs args. Typed.wantNext T4 O0 (at20 (W0 κs args)) (W0 κs args)
+      W1 = λ κs args. Typed.wantNext T4 O0 (at21 (W0 κs args)) (W0 κs args)
 
       abbrev W2 : (κs : Lifetimes.Lfts 1) → (args : Args κs) → Typed.Want O2
       W2 = λ κs args. Typed.inBlock O1 (W1 κs args)
 
       abbrev pub Need-loop-holds : Type 0
-      Need-loop-holds = (c : Start) → Inv·0 (Row.get 1 (T3 .locals) (m2 (c .κs) (c .args)) .now) (Row.get 2 (T3 .locals) (m2 (c .κs) (c .args)))
-          (Row.get 3 (T3 .locals) (m2 (c .κs) (c .args))) (Row.get 2 (T3 .locals) (m2 (c .κs) (c .args))) (Row.get 3 (T3 .locals) (m2 (c .κs) (c
-          .args)))
+      Need-loop-holds = (c : Start) → Inv·0 (Row.get 1 (T3 .locals) (m2 (c .κs) (c .args))) (Row.get 2 (T3 .locals) (m2 (c .κs) (c .args)) .now)
+          (Row.get 3 (T3 .locals) (m2 (c .κs) (c .args))) (Row.get 4 (T3 .locals) (m2 (c .κs) (c .args))) (Row.get 3 (T3 .locals) (m2 (c .κs) (c
+          .args))) (Row.get 4 (T3 .locals) (m2 (c .κs) (c .args)))
 
       abbrev pub m3 : (before : Start) → (stand : Rows.sc-here Row.sBool .Mod) → (place : Rows.sc-here (Row.sInt Syntax.w64) .Mod) → Typed.Mo T3
-      m3 = λ before stand place. Row.set 3 row·11 place (Row.setRow 2 row·9 (T3 .locals)) (Row.set 2 row·9 stand (T3 .locals) (m2 (before .κs) (before
-          .args)))
+      m3 = λ before stand place. Row.set 4 (4, Rows.sc-here (Row.sInt Syntax.w64)) place (Row.setRow 3 (3, Rows.sc-here Row.sBool) (T3 .locals))
+          (Row.set 3 (3, Rows.sc-here Row.sBool) stand (T3 .locals) (m2 (before .κs) (before .args)))
 
       abbrev W3 : (before : Start) → (stand : Rows.sc-here Row.sBool .Mod) → (place : Rows.sc-here (Row.sInt Syntax.w64) .Mod) → Typed.Want O3
-      W3 = λ before stand place. Typed.inLoop T3 O2 (Typed.Round T3 O2 put0 (λ u vs. Inv·0 (Row.get 1 (T3 .locals) u .now) (Row.get 2 (T3 .locals) u)
-          (Row.get 3 (T3 .locals) u) (vs .0) (vs .1)) (λ u vs. μ·0 (Row.get 1 (T3 .locals) u .now) (Row.get 2 (T3 .locals) u) (Row.get 3 (T3 .locals)
-          u) (vs .0) (vs .1)) at14 (m2 (before .κs) (before .args)) (stand, place)) (W2 (before .κs) (before .args))
+      W3 = λ before stand place. Typed.inLoop T3 O2 (Typed.Round T3 O2 put0 (λ u vs. Inv·0 (Row.get 1 (T3 .locals) u) (Row.get 2 (T3 .locals) u .now)
+          (Row.get 3 (T3 .locals) u) (Row.get 4 (T3 .locals) u) (vs .0) (vs .1)) (λ u vs. μ·0 (Row.get 1 (T3 .locals) u) (Row.get 2 (T3 .locals) u
+          .now) (Row.get 3 (T3 .locals) u) (Row.get 4 (T3 .locals) u) (vs .0) (vs .1)) at14 (m2 (before .κs) (before .args)) (stand, place)) (W2
+          (before .κs) (before .args))
 
       abbrev pub m4 : (before : Start) → (stand : Rows.sc-here Row.sBool .Mod) → (place : Rows.sc-here (Row.sInt Syntax.w64) .Mod) → Typed.Mo T5
       m4 = λ before stand place. s2 (m3 before stand place)
@@ -810,8 +917,8 @@ module _ (claims· : Claims) where
         pub record At-loop·own : Type 0 where
           pub stand : Rows.sc-here Row.sBool .Mod
           pub place : Rows.sc-here (Row.sInt Syntax.w64) .Mod
-          pub inv : Inv·0 (Row.get 1 (T3 .locals) (m2 (before· .κs) (before· .args)) .now) (Row.get 2 (T3 .locals) (m2 (before· .κs) (before· .args)))
-              (Row.get 3 (T3 .locals) (m2 (before· .κs) (before· .args))) stand place
+          pub inv : Inv·0 (Row.get 1 (T3 .locals) (m2 (before· .κs) (before· .args))) (Row.get 2 (T3 .locals) (m2 (before· .κs) (before· .args)) .now)
+              (Row.get 3 (T3 .locals) (m2 (before· .κs) (before· .args))) (Row.get 4 (T3 .locals) (m2 (before· .κs) (before· .args))) stand place
 
       pub record At-loop : Type 0 where
         pub before : Start
@@ -819,7 +926,7 @@ module _ (claims· : Claims) where
 
       module _ (before· : At-loop) where
         pub record In-loop·own : Type 0 where
-          pub taken : Nat._<_ (Row.get 3 (T5 .locals) (m4 (before· .before) (before· .loop .stand) (before· .loop .place))) (Row.get 5 (T5 .locals)
+          pub taken : Nat._<_ (Row.get 4 (T5 .locals) (m4 (before· .before) (before· .loop .stand) (before· .loop .place))) (Row.get 6 (T5 .locals)
               (m4 (before· .before) (before· .loop .stand) (before· .loop .place)))
 
       pub record In-loop : Type 0 where
@@ -831,7 +938,7 @@ module _ (claims· : Claims) where
 
       module _ (before· : At-loop) where
         pub record After-loop·own : Type 0 where
-          pub left : Nat._≤_ (Row.get 5 (T5 .locals) (m4 (before· .before) (before· .loop .stand) (before· .loop .place))) (Row.get 3 (T5 .locals) (m4
+          pub left : Nat._≤_ (Row.get 6 (T5 .locals) (m4 (before· .before) (before· .loop .stand) (before· .loop .place))) (Row.get 4 (T5 .locals) (m4
               (before· .before) (before· .loop .stand) (before· .loop .place)))
 
       pub record After-loop : Type 0 where
@@ -851,12 +958,12 @@ module _ (claims· : Claims) where
         abbrev pub After-get-at·own : Type 0
         After-get-at·own = Called.Called ps·0 r·0 (claims· .1) T7 (
           record {
-            pos = 1;
+            pos = 2;
             ty = Syntax.tyRef (Syntax.named 0) Syntax.imm (Memory·.pointee
                 (Record.the-row .written));
             ref = λ x. x;
           },
-          (Num.vAt 3 λ x. x, tt),
+          (Num.vAt 4 λ x. x, tt),
         ) (m7 (before· .before))
 
       pub record After-get-at : Type 0 where
@@ -866,12 +973,12 @@ module _ (claims· : Claims) where
       abbrev pub After-get-at·gave : (c : After-get-at) → s7 .gives (m7 (c .before .before))
       After-get-at·gave = λ c. Called.given ps·0 r·0 (claims· .1) T7 (
         record {
-          pos = 1;
+          pos = 2;
           ty = Syntax.tyRef (Syntax.named 0) Syntax.imm
               (Memory·.pointee (Record.the-row .written));
           ref = λ x. x;
         },
-        (Num.vAt 3 λ x. x, tt),
+        (Num.vAt 4 λ x. x, tt),
       ) (m7 (c .before .before)) (c .get-at)
 
       abbrev pub Need-stands-requires : Type 0
@@ -882,16 +989,18 @@ module _ (claims· : Claims) where
 
       module _ (before· : After-get-at) where
         abbrev pub After-stands·own : Type 0
-        After-stands·own = Called.Called ps·1 r·1 (claims· .3) T11 (record { pos = 4; st = List.[]; d = 0; at = λ x. x }, tt) (m9 (before· .before)
-            (After-get-at·gave before·))
+        After-stands·own = Called.Called ps·1 r·1 (claims· .3) T11 (Num.vAt 1 λ x. x, (record { pos = 5; st = List.[]; d = 0; at = λ x. x }, tt))
+            (m9 (before· .before) (After-get-at·gave before·))
 
       pub record After-stands : Type 0 where
         pub before : After-get-at
         pub stands : After-stands·own before
 
       abbrev pub After-stands·gave : (c : After-stands) → s8 .gives (m9 (c .before .before) (After-get-at·gave (c .before)))
-      After-stands·gave = λ c. Called.given ps·1 r·1 (claims· .3) T11 (record { pos = 4; st = List.[]; d = 0; at = λ x. x }, tt) (m9 (c .before
-          .before) (After-get-at·gave (c .before))) (c .stands)
+      After-stands·gave = λ c. Called.given ps·1 r·1 (claims· .3) T11 (
+        Num.vAt 1 λ x. x,
+        (record { pos = 5; st = List.[]; d = 0; at = λ x. x }, tt),
+      ) (m9 (c .before .before) (After-get-at·gave (c .before))) (c .stands)
 
       abbrev pub m11 : (before : After-get-at) → (given : s8 .gives (m9 (before .before) (After-get-at·gave before))) → Typed.Mo T13
       m11 = λ before given. s9 (m10 before given)
@@ -910,18 +1019,21 @@ module _ (claims· : Claims) where
 
       abbrev pub Need-loop-less : Type 0
       Need-loop-less = (c : After-stands) → Nat._<_ (μ·0 (Row.get 1 (T3 .locals) (m2 (c .before .before .before .before .κs) (c .before .before
-          .before .before .args)) .now) (Row.get 2 (T3 .locals) (m2 (c .before .before .before .before .κs) (c .before .before .before .before
-          .args))) (Row.get 3 (T3 .locals) (m2 (c .before .before .before .before .κs) (c .before .before .before .before .args))) (Row.get 2 (T3
-          .locals) (m14 (c .before) (After-stands·gave c))) (Row.get 3 (T3 .locals) (m14 (c .before) (After-stands·gave c)))) (μ·0 (Row.get 1 (T3
-          .locals) (m2 (c .before .before .before .before .κs) (c .before .before .before .before .args)) .now) (Row.get 2 (T3 .locals) (m2 (c .before
-          .before .before .before .κs) (c .before .before .before .before .args))) (Row.get 3 (T3 .locals) (m2 (c .before .before .before .before .κs)
-          (c .before .before .before .before .args))) (c .before .before .before .loop .stand) (c .before .before .before .loop .place))
+          .before .before .args))) (Row.get 2 (T3 .locals) (m2 (c .before .before .before .before .κs) (c .before .before .before .before .args))
+          .now) (Row.get 3 (T3 .locals) (m2 (c .before .before .before .before .κs) (c .before .before .before .before .args))) (Row.get 4 (T3
+          .locals) (m2 (c .before .before .before .before .κs) (c .before .before .before .before .args))) (Row.get 3 (T3 .locals) (m14 (c .before)
+          (After-stands·gave c))) (Row.get 4 (T3 .locals) (m14 (c .before) (After-stands·gave c)))) (μ·0 (Row.get 1 (T3 .locals) (m2 (c .before
+          .before .before .before .κs) (c .before .before .before .before .args))) (Row.get 2 (T3 .locals) (m2 (c .before .before .before .before .κs)
+          (c .before .before .before .before .args)) .now) (Row.get 3 (T3 .locals) (m2 (c .before .before .before .before .κs) (c .before .before
+          .before .before .args))) (Row.get 4 (T3 .locals) (m2 (c .before .before .before .before .κs) (c .before .before .before .before .args))) (c
+          .before .before .before .loop .stand) (c .before .before .before .loop .place))
 
       abbrev pub Need-loop-again : Type 0
       Need-loop-again = (c : After-stands) → Inv·0 (Row.get 1 (T3 .locals) (m2 (c .before .before .before .before .κs) (c .before .before .before
-          .before .args)) .now) (Row.get 2 (T3 .locals) (m2 (c .before .before .before .before .κs) (c .before .before .before .before .args)))
-          (Row.get 3 (T3 .locals) (m2 (c .before .before .before .before .κs) (c .before .before .before .before .args))) (Row.get 2 (T3 .locals) (m14
-          (c .before) (After-stands·gave c))) (Row.get 3 (T3 .locals) (m14 (c .before) (After-stands·gave c)))
+          .before .args))) (Row.get 2 (T3 .locals) (m2 (c .before .before .before .before .κs) (c .before .before .before .before .args)) .now)
+          (Row.get 3 (T3 .locals) (m2 (c .before .before .before .before .κs) (c .before .before .before .before .args))) (Row.get 4 (T3 .locals) (m2
+          (c .before .before .before .before .κs) (c .before .before .before .before .args))) (Row.get 3 (T3 .locals) (m14 (c .before)
+          (After-stands·gave c))) (Row.get 4 (T3 .locals) (m14 (c .before) (After-stands·gave c)))
 
       abbrev pub m15 : (before : At-loop) → Typed.Mo T17
       m15 = λ before. s13 (m8 before)
@@ -932,16 +1044,19 @@ module _ (claims· : Claims) where
       abbrev pub m17 : (before : At-loop) → Typed.Mo T19
       m17 = λ before. s15 (m16 before)
 
+      abbrev pub m18 : (before : At-loop) → Typed.Mo T20
+      m18 = λ before. s16 (m17 before)
+
       abbrev pub Need-returns : Type 0
       Need-returns = (c : After-loop) → Post· (c .before .before .κs) (dens (c .before .before .κs) (c .before .before .args)) (Function.resV r (c
-          .before .before .κs) (m17 (c .before) .0)) (Clauses.atExit (Kinds.endedOf 1 ps r) (c .before .before .κs) (dens (c .before .before .κs) (c
-          .before .before .args)) (Enter.lastsP (c .before .before .κs) 1 ps xs (dens (c .before .before .κs) (c .before .before .args)) (m17 (c
+          .before .before .κs) (m18 (c .before) .0)) (Clauses.atExit (Kinds.endedOf 1 ps r) (c .before .before .κs) (dens (c .before .before .κs) (c
+          .before .before .args)) (Enter.lastsP (c .before .before .κs) 1 ps xs (dens (c .before .before .κs) (c .before .before .args)) (m18 (c
           .before) .1)))
 
       module _ (loop-holds : Need-loop-holds) (get-at-requires : Need-get-at-requires) (stands-requires : Need-stands-requires) (add-place :
           Need-add-place) (loop-less : Need-loop-less) (loop-again : Need-loop-again) (returns : Need-returns) where
-        lay6 : (c : After-loop) → at20 (W0 (c .before .before .κs) (c .before .before .args)) (m8 (c .before))
-        lay6 = λ c. ((Path'.refl, tt), returns record { before = c .before; loop-test = c .loop-test })
+        lay6 : (c : After-loop) → at21 (W0 (c .before .before .κs) (c .before .before .args)) (m8 (c .before))
+        lay6 = λ c. ((tt, (Path'.refl, tt)), returns record { before = c .before; loop-test = c .loop-test })
 
         lay5 : (c : After-stands) → at9 (W3 (c .before .before .before .before) (c .before .before .before .loop .stand) (c .before .before .before
             .loop .place)) (m10 (c .before) (After-stands·gave c))
@@ -951,25 +1066,29 @@ module _ (claims· : Claims) where
             add-place record { before = c .before; stands = c .stands },
             (
               μ·0 (Row.get 1 (T3 .locals) (m2 (c .before .before .before
-                  .before .κs) (c .before .before .before .before .args)) .now) (Row.get 2 (T3 .locals) (m2 (c .before .before .before .before .κs) (c
-                  .before .before .before .before .args))) (Row.get 3 (T3 .locals) (m2 (c .before .before .before .before .κs) (c .before .before .before
-                  .before .args))) (Row.get 2 (T3 .locals) (m14 (c .before) (After-stands·gave c))) (Row.get 3 (T3 .locals) (m14 (c .before)
-                  (After-stands·gave c))),
-              loop-less record { before = c .before; stands = c .stands },
+                  .before .κs) (c .before .before .before .before .args))) (Row.get 2 (T3 .locals) (m2 (c .before .before .before .before .κs) (c .before
+                  .before .before .before .args)) .now) (Row.get 3 (T3 .locals) (m2 (c .before .before .before .before .κs) (c .before .before .before
+                  .before .args))) (Row.get 4 (T3 .locals) (m2 (c .before .before .before .before .κs) (c .before .before .before .before .args))) (Row.get
+                  3 (T3 .locals) (m14 (c .before) (After-stands·gave c))) (Row.get 4 (T3 .locals) (m14 (c .before) (After-stands·gave c))),
+              loop-less record
+                  { before = c .before; stands = c .stands },
               (
                 (
-                  Row.get 2 (T3 .locals) (m14 (c .before)
-                      (After-stands·gave c)),
                   Row.get 3 (T3 .locals) (m14 (c .before) (After-stands·gave c)),
+                  Row.get 4 (T3 .locals)
+                      (m14 (c .before) (After-stands·gave c)),
                 ),
-                Path'.refl {a = m14 (c .before)
-                    (After-stands·gave c)},
-                loop-again record { before = c .before; stands = c .stands },
-                Path'.refl {a = μ·0 (Row.get 1 (T3 .locals) (m2 (c
-                    .before .before .before .before .κs) (c .before .before .before .before .args)) .now) (Row.get 2 (T3 .locals) (m2 (c .before .before
-                    .before .before .κs) (c .before .before .before .before .args))) (Row.get 3 (T3 .locals) (m2 (c .before .before .before .before .κs) (c
-                    .before .before .before .before .args))) (Row.get 2 (T3 .locals) (m14 (c .before) (After-stands·gave c))) (Row.get 3 (T3 .locals) (m14 (c
-                    .before) (After-stands·gave c)))},
+                Path'.refl {a = m14 (c .before) (After-stands·gave c)},
+                loop-again record {
+                  before = c
+                      .before;
+                  stands = c .stands;
+                },
+                Path'.refl {a = μ·0 (Row.get 1 (T3 .locals) (m2 (c .before .before .before .before .κs) (c .before .before
+                    .before .before .args))) (Row.get 2 (T3 .locals) (m2 (c .before .before .before .before .κs) (c .before .before .before .before .args))
+                    .now) (Row.get 3 (T3 .locals) (m2 (c .before .before .before .before .κs) (c .before .before .before .before .args))) (Row.get 4 (T3
+                    .locals) (m2 (c .before .before .before .before .κs) (c .before .before .before .before .args))) (Row.get 3 (T3 .locals) (m14 (c .before)
+                    (After-stands·gave c))) (Row.get 4 (T3 .locals) (m14 (c .before) (After-stands·gave c)))},
               ),
             ),
           ),
@@ -984,8 +1103,19 @@ module _ (claims· : Claims) where
               before = c .before;
               get-at = c .get-at;
             };
-            stands = Called.called ps·1 r·1 (claims· .3) T11 (record { pos = 4; st = List.[]; d = 0; at = λ x. x }, tt) (m9
-                (c .before) (After-get-at·gave c)) g;
+            stands = Called.called ps·1 r·1 (claims· .3) T11 (
+              Num.vAt 1 λ x. x,
+              (
+                record {
+                  pos = 5;
+                  st = List.[];
+                  d = 0;
+                  at = λ
+                      x. x;
+                },
+                tt,
+              ),
+            ) (m9 (c .before) (After-get-at·gave c)) g;
           },
         )
 
@@ -1000,12 +1130,12 @@ module _ (claims· : Claims) where
             };
             get-at = Called.called ps·0 r·0 (claims· .1) T7 (
               record {
-                pos = 1;
+                pos = 2;
                 ty = Syntax.tyRef (Syntax.named
                     0) Syntax.imm (Memory·.pointee (Record.the-row .written));
                 ref = λ x. x;
               },
-              (Num.vAt 3 λ x. x, tt),
+              (Num.vAt 4 λ x. x, tt),
             ) (m7 (c .before)) g;
           },
         )
@@ -1018,10 +1148,10 @@ module _ (claims· : Claims) where
             .stand) (c .before .loop .place))
         lay1 = λ c. lay3 record { before = c .before; loop-test = c .loop-test }
 
-        pub laid : (c : Start) → at23 (W0 (c .κs) (c .args)) (m0 (c .κs) (c .args))
+        pub laid : (c : Start) → at24 (W0 (c .κs) (c .args)) (m0 (c .κs) (c .args))
         laid = λ c. (
           (
-            (Row.get 2 (T3 .locals) (m2 (c .κs) (c .args)), Row.get 3 (T3 .locals) (m2 (c .κs) (c .args))),
+            (Row.get 3 (T3 .locals) (m2 (c .κs) (c .args)), Row.get 4 (T3 .locals) (m2 (c .κs) (c .args))),
             Path'.refl {a = m2 (c .κs)
                 (c .args)},
             loop-holds c,
@@ -1040,7 +1170,7 @@ module _ (claims· : Claims) where
                   };
                 };
                 loop-test = record {
-                  taken = Tests.ltb-true (Row.get 3 (T5 .locals) (m4 c (vs .0) (vs .1))) (Row.get 5 (T5 .locals)
+                  taken = Tests.ltb-true (Row.get 4 (T5 .locals) (m4 c (vs .0) (vs .1))) (Row.get 6 (T5 .locals)
                       (m4 c (vs .0) (vs .1))) taken;
                 };
               },
@@ -1055,7 +1185,7 @@ module _ (claims· : Claims) where
                   };
                 };
                 loop-test = record {
-                  left = Tests.ltb-false (Row.get 3 (T5 .locals) (m4 c (vs .0) (vs .1))) (Row.get 5 (T5 .locals) (m4 c (vs
+                  left = Tests.ltb-false (Row.get 4 (T5 .locals) (m4 c (vs .0) (vs .1))) (Row.get 6 (T5 .locals) (m4 c (vs
                       .0) (vs .1))) left;
                 };
               },
@@ -1066,7 +1196,16 @@ module _ (claims· : Claims) where
         module _ (κs : Lifetimes.Lfts 1) (qs : Lifetimes.Shares 1) where
           pub asked : (a : Kinds.Dens κs ps) → (good : Kinds.GoodsP κs ps a) → (pre : Pre· κs a) → (bs : List.List Nat.ℕ) → Φ (Any.wantQ 1 ps r xs m
               κs qs a (Post· κs a)) (Function.init 1 ps r xs m κs qs a)
-          asked = λ a good pre bs. laid record { κs = κs; args = record { records = a .0 }; good = good; pre = pre }
+          asked = λ a good pre bs. laid record {
+            κs = κs;
+            args = record { party = a .0; records = a .1 .0 };
+            good = good;
+            fits = record {
+              party =
+                  record { fits = good .0 .1 };
+            };
+            pre = pre;
+          }
 
         module _ {M : Type 1} (𝓤 : URA.URA M) (H : Wp.Heap 𝓤) (A : Atoms.Atoms 𝓤) (W : Kit.Given 𝓤 H A) (𝓣 : Wp.Tables 𝓤 H) (known0 : Plain.Known 𝓤 H
             A W 𝓣 1 ps·0 r·0 (claims· .0) (claims· .1) "records::get_at") (known1 : Plain.Known 𝓤 H A W 𝓣 0 ps·1 r·1 (claims· .2) (claims· .3)

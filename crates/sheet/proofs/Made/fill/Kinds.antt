@@ -22,6 +22,8 @@ ps =
     List._∷_
     (MutSlice.pMutS (Elem.the-row) 0 tt)
     (List._∷_
+    (Kinds.pNum Syntax.w64)
+    (List._∷_
     (ShrSlice.pShrS (Referent.rtF (Referent.fInt Syntax.w8)) 1 tt)
     (List._∷_ (Value.pVal record {
       ty = Declared.row Found.the-type;
@@ -38,7 +40,7 @@ ps =
       makes = Laws'.makes Found.the-type Laws.the-plain 𝓤 H A;
       in-mem = Local.mem-whole 𝓤 H A W (Declared.row Found.the-type);
       of-mem = Local.whole-mem 𝓤 H A W (Declared.row Found.the-type);
-    }) List.[]))
+    }) List.[])))
 
 abbrev pub r : Kinds.RK 2
 r = Kinds.rUnit

@@ -58,6 +58,7 @@ use mathlib.Core.List
 use mathlib.Core.Option
 use mathlib.Core.Path as Path'
 use mir.Syntax
+use mir.Val
 use prog.Wp
 use types.Kit
 
@@ -82,7 +83,8 @@ ty0·3 = (Syntax.tyStruct (List._∷_ 98 (List._∷_ 117 (List._∷_ 110 (List._
 abbrev ty1·0 : Syntax.Ty
 ty1·0 = (Syntax.tyStruct (List._∷_ 114 (List._∷_ 101 (List._∷_ 99 (List._∷_ 111 (List._∷_ 114 (List._∷_ 100 (List._∷_ 58 (List._∷_ 58 (List._∷_ 82
     (List._∷_ 101 (List._∷_ 99 (List._∷_ 111 (List._∷_ 114 (List._∷_ 100 List.[])))))))))))))) (Syntax.tcons (Syntax.tyInt Syntax.w64) (Syntax.tcons
-    (Syntax.tyInt Syntax.w64) (Syntax.tcons ty0·2 (Syntax.tcons (Syntax.tyInt Syntax.w64) (Syntax.tcons ty0·3 (Syntax.tcons ty0·3 Syntax.tnil)))))))
+    (Syntax.tyInt Syntax.w64) (Syntax.tcons (Syntax.tyInt Syntax.w64) (Syntax.tcons ty0·2 (Syntax.tcons (Syntax.tyInt Syntax.w64) (Syntax.tcons ty0·3
+    (Syntax.tcons ty0·3 Syntax.tnil))))))))
 
 abbrev ty1·1 : Syntax.Ty
 ty1·1 = (Syntax.tyStruct (List._∷_ 115 (List._∷_ 104 (List._∷_ 101 (List._∷_ 101 (List._∷_ 116 (List._∷_ 58 (List._∷_ 58 (List._∷_ 108 (List._∷_ 111
@@ -96,40 +98,40 @@ ty2·0 = (Syntax.tyStruct (List._∷_ 115 (List._∷_ 104 (List._∷_ 101 (List.
     (Syntax.tcons ty1·0 (Syntax.tcons (Syntax.tyInt Syntax.w64) Syntax.tnil)))
 
 abbrev row·0 : Row.Entry
-row·0 = (10, Rows.any-gone Syntax.tyUnit)
+row·0 = (11, Rows.any-gone Syntax.tyUnit)
 
 abbrev row·1 : Row.Entry
-row·1 = (11, Relend.msptr (Record.the-row) (Syntax.tyRef Syntax.erased Syntax.mut (Memory·.pointee (Record.the-row .written))) 2)
+row·1 = (12, Relend.msptr (Record.the-row) (Syntax.tyRef Syntax.erased Syntax.mut (Memory·.pointee (Record.the-row .written))) 2)
 
 abbrev row·2 : Row.Entry
-row·2 = (11, Rows.any-gone (Syntax.tyRef Syntax.erased Syntax.mut (Memory·.pointee (Record.the-row .written))))
+row·2 = (12, Rows.any-gone (Syntax.tyRef Syntax.erased Syntax.mut (Memory·.pointee (Record.the-row .written))))
 
 abbrev row·3 : Row.Entry
-row·3 = (12, Mut.msleft (Record.the-row) (Syntax.tyRef Syntax.erased Syntax.mut (Memory·.pointee (Record.the-row .written))))
+row·3 = (13, Mut.msleft (Record.the-row) (Syntax.tyRef Syntax.erased Syntax.mut (Memory·.pointee (Record.the-row .written))))
 
 abbrev row·4 : Row.Entry
-row·4 = (12, Mut.mslice (Record.the-row) (Syntax.tyRef Syntax.erased Syntax.mut (Memory·.pointee (Record.the-row .written))) 2)
+row·4 = (13, Mut.mslice (Record.the-row) (Syntax.tyRef Syntax.erased Syntax.mut (Memory·.pointee (Record.the-row .written))) 2)
 
 abbrev row·5 : Row.Entry
-row·5 = (12, Rows.any-gone ty0·1)
+row·5 = (13, Rows.any-gone ty0·1)
 
 abbrev row·6 : Row.Entry
-row·6 = (2, Rows.sslice (Referent.rtF (Referent.fInt Syntax.w8)) (Syntax.tyRef (Syntax.named 1) Syntax.imm (Syntax.tyInt Syntax.w8)) 1)
+row·6 = (10, Rows.any-gone Syntax.tyBool)
 
 abbrev row·7 : Row.Entry
-row·7 = (4, Rows.any-gone (Syntax.tyInt Syntax.w64))
+row·7 = (3, Rows.sslice (Referent.rtF (Referent.fInt Syntax.w8)) (Syntax.tyRef (Syntax.named 1) Syntax.imm (Syntax.tyInt Syntax.w8)) 1)
 
 abbrev row·8 : Row.Entry
-row·8 = (6, Rows.whole (Declared.row Next.the-type))
+row·8 = (5, Rows.any-gone (Syntax.tyInt Syntax.w64))
 
 abbrev row·9 : Row.Entry
-row·9 = (7, Rows.any-gone ty1·0)
+row·9 = (7, Rows.whole (Declared.row Next.the-type))
 
 abbrev row·10 : Row.Entry
-row·10 = (8, Rows.any-gone (Syntax.tyInt Syntax.w64))
+row·10 = (8, Rows.any-gone ty1·0)
 
 abbrev row·11 : Row.Entry
-row·11 = (9, Rows.any-gone Syntax.tyBool)
+row·11 = (9, Rows.any-gone (Syntax.tyInt Syntax.w64))
 
 abbrev row·12 : Row.Entry
 row·12 = (1, Mut.mslice (Record.the-row) (Syntax.tyRef (Syntax.named 0) Syntax.mut (Memory·.pointee (Record.the-row .written))) 0)
@@ -141,19 +143,19 @@ row·13 = (
 )
 
 abbrev row·14 : Row.Entry
-row·14 = (3, Rows.any-gone ty1·1)
+row·14 = (4, Rows.any-gone ty1·1)
 
 abbrev row·15 : Row.Entry
-row·15 = (4, Rows.sc-here (Row.sInt Syntax.w64))
+row·15 = (5, Rows.sc-here (Row.sInt Syntax.w64))
 
 abbrev row·16 : Row.Entry
-row·16 = (5, Rows.any-gone (Syntax.tyInt Syntax.w64))
+row·16 = (6, Rows.any-gone (Syntax.tyInt Syntax.w64))
 
 abbrev row·17 : Row.Entry
-row·17 = (5, Rows.sc-here (Row.sInt Syntax.w64))
+row·17 = (6, Rows.sc-here (Row.sInt Syntax.w64))
 
 abbrev row·18 : Row.Entry
-row·18 = (6, Rows.any-gone ty2·0)
+row·18 = (7, Rows.any-gone ty2·0)
 
 abbrev row·19 : Row.Entry
 row·19 = (0, Rows.any-gone Syntax.tyUnit)
@@ -162,69 +164,74 @@ abbrev row·20 : Row.Entry
 row·20 = (0, Rows.sc-here Row.sUnit)
 
 abbrev row·21 : Row.Entry
-row·21 = (10, Rows.any-gone Syntax.tyUnit)
+row·21 = (10, Rows.any-gone Syntax.tyBool)
 
 abbrev row·22 : Row.Entry
-row·22 = (10, Rows.sc-here Row.sUnit)
+row·22 = (10, Rows.sc-here Row.sBool)
 
 abbrev row·23 : Row.Entry
-row·23 = (13, Rows.any-gone (Syntax.tyInt Syntax.w64))
+row·23 = (11, Rows.any-gone Syntax.tyUnit)
 
 abbrev row·24 : Row.Entry
-row·24 = (13, Rows.sc-here (Row.sInt Syntax.w64))
+row·24 = (11, Rows.sc-here Row.sUnit)
 
 abbrev row·25 : Row.Entry
-row·25 = (3, Rows.whole (Declared.row Found.the-type))
+row·25 = (14, Rows.any-gone (Syntax.tyInt Syntax.w64))
 
 abbrev row·26 : Row.Entry
-row·26 = (4, Rows.any-gone (Syntax.tyInt Syntax.w64))
+row·26 = (14, Rows.sc-here (Row.sInt Syntax.w64))
 
 abbrev row·27 : Row.Entry
-row·27 = (4, Rows.sc-here (Row.sInt Syntax.w64))
+row·27 = (2, Rows.any-gone (Syntax.tyInt Syntax.w64))
 
 abbrev row·28 : Row.Entry
-row·28 = (5, Rows.any-gone (Syntax.tyInt Syntax.w64))
+row·28 = (2, Rows.sc-here (Row.sInt Syntax.w64))
 
 abbrev row·29 : Row.Entry
-row·29 = (5, Rows.sc-here (Row.sInt Syntax.w64))
+row·29 = (4, Rows.whole (Declared.row Found.the-type))
 
 abbrev row·30 : Row.Entry
-row·30 = (7, Rows.whole (Declared.row Record.the-type))
+row·30 = (5, Rows.any-gone (Syntax.tyInt Syntax.w64))
 
 abbrev row·31 : Row.Entry
-row·31 = (8, Rows.any-gone (Syntax.tyInt Syntax.w64))
+row·31 = (5, Rows.sc-here (Row.sInt Syntax.w64))
 
 abbrev row·32 : Row.Entry
-row·32 = (8, Rows.sc-here (Row.sInt Syntax.w64))
+row·32 = (6, Rows.any-gone (Syntax.tyInt Syntax.w64))
 
 abbrev row·33 : Row.Entry
-row·33 = (9, Rows.any-gone Syntax.tyBool)
+row·33 = (6, Rows.sc-here (Row.sInt Syntax.w64))
 
 abbrev row·34 : Row.Entry
-row·34 = (9, Rows.sc-here Row.sBool)
+row·34 = (8, Rows.whole (Declared.row Record.the-type))
+
+abbrev row·35 : Row.Entry
+row·35 = (9, Rows.any-gone (Syntax.tyInt Syntax.w64))
+
+abbrev row·36 : Row.Entry
+row·36 = (9, Rows.sc-here (Row.sInt Syntax.w64))
 
 abbrev pub ps : List.List (Kinds.PK 2)
-ps = List._∷_ (MutSlice.pMutS (Record.the-row) 0 tt) (List._∷_ (ShrSlice.pShrS (Referent.rtF (Referent.fInt Syntax.w8)) 1 tt) (List._∷_ (Value.pVal
-    record {
+ps = List._∷_ (MutSlice.pMutS (Record.the-row) 0 tt) (List._∷_ (Num.pNum Syntax.w64) (List._∷_ (ShrSlice.pShrS (Referent.rtF (Referent.fInt
+    Syntax.w8)) 1 tt) (List._∷_ (Value.pVal record {
       ty = Declared.row Found.the-type;
       one = Path'.refl;
-      val = Laws'3.val Found.the-type Laws'.the-laws;
-      tells = Laws'3.tells Found.the-type
+      val = Laws'3.val Found.the-type
           Laws'.the-laws;
+      tells = Laws'3.tells Found.the-type Laws'.the-laws;
       still = Laws'3.still Found.the-type Laws'.the-copy Exit.yes;
-      row = Rows.whole (Declared.row Found.the-type);
+      row = Rows.whole
+          (Declared.row Found.the-type);
       rd = λ x. x;
-      mk = λ
-          x. x;
+      mk = λ x. x;
     } λ M 𝓤 H A W. record {
       copies = Laws'3.copy Found.the-type Laws'.the-copy 𝓤 H A W;
-      lawful = Laws'3.lawful Found.the-type Laws'.the-laws 𝓤 H
-          A W;
+      lawful = Laws'3.lawful Found.the-type Laws'.the-laws 𝓤 H A W;
       makes = Laws'3.makes Found.the-type Laws'.the-plain 𝓤 H A;
-      in-mem = Local.mem-whole 𝓤 H A W (Declared.row Found.the-type);
-      of-mem =
-          Local.whole-mem 𝓤 H A W (Declared.row Found.the-type);
-    }) List.[]))
+      in-mem = Local.mem-whole
+          𝓤 H A W (Declared.row Found.the-type);
+      of-mem = Local.whole-mem 𝓤 H A W (Declared.row Found.the-type);
+    }) List.[])))
 
 abbrev pub r : Kinds.RK 2
 r = Unit'.rUnit
@@ -238,27 +245,26 @@ abbrev pub m : Nat.ℕ
 m = 1
 
 abbrev pub ps·0 : List.List (Kinds.PK 1)
-ps·0 = List._∷_ (ShrSlice.pShrS (Referent.rtF (Referent.fInt Syntax.w8)) 0 tt) (List._∷_ (Num.pNum Syntax.w64) (List._∷_ (Num.pNum Syntax.w64)
-    (List._∷_ (Value.pVal record {
+ps·0 = List._∷_ (Num.pNum Syntax.w64) (List._∷_ (ShrSlice.pShrS (Referent.rtF (Referent.fInt Syntax.w8)) 0 tt) (List._∷_ (Num.pNum Syntax.w64)
+    (List._∷_ (Num.pNum Syntax.w64) (List._∷_ (Value.pVal record {
       ty = Declared.row Found.the-type;
       one = Path'.refl;
-      val = Laws'3.val Found.the-type Laws'.the-laws;
-      tells =
-          Laws'3.tells Found.the-type Laws'.the-laws;
+      val = Laws'3.val Found.the-type
+          Laws'.the-laws;
+      tells = Laws'3.tells Found.the-type Laws'.the-laws;
       still = Laws'3.still Found.the-type Laws'.the-copy Exit.yes;
-      row = Rows.whole (Declared.row
-          Found.the-type);
+      row = Rows.whole
+          (Declared.row Found.the-type);
       rd = λ x. x;
       mk = λ x. x;
     } λ M 𝓤 H A W. record {
       copies = Laws'3.copy Found.the-type Laws'.the-copy 𝓤 H A W;
-      lawful =
-          Laws'3.lawful Found.the-type Laws'.the-laws 𝓤 H A W;
+      lawful = Laws'3.lawful Found.the-type Laws'.the-laws 𝓤 H A W;
       makes = Laws'3.makes Found.the-type Laws'.the-plain 𝓤 H A;
-      in-mem = Local.mem-whole 𝓤 H A W
-          (Declared.row Found.the-type);
+      in-mem = Local.mem-whole
+          𝓤 H A W (Declared.row Found.the-type);
       of-mem = Local.whole-mem 𝓤 H A W (Declared.row Found.the-type);
-    }) List.[])))
+    }) List.[]))))
 
 abbrev pub r·0 : Kinds.RK 1
 r·0 = Value.rVal record {
@@ -310,20 +316,21 @@ r·1 = Unit'.rUnit
 abbrev pub hs : List.List Syntax.Home
 hs = List._∷_ Syntax.valueLocal (List._∷_ Syntax.valueLocal (List._∷_ Syntax.valueLocal (List._∷_ Syntax.valueLocal (List._∷_ Syntax.valueLocal
     (List._∷_ Syntax.valueLocal (List._∷_ Syntax.valueLocal (List._∷_ Syntax.valueLocal (List._∷_ Syntax.valueLocal (List._∷_ Syntax.valueLocal
-    (List._∷_ Syntax.valueLocal (List._∷_ Syntax.valueLocal (List._∷_ Syntax.valueLocal (List._∷_ Syntax.valueLocal List.[])))))))))))))
+    (List._∷_ Syntax.valueLocal (List._∷_ Syntax.valueLocal (List._∷_ Syntax.valueLocal (List._∷_ Syntax.valueLocal (List._∷_ Syntax.valueLocal
+    List.[]))))))))))))))
 
 abbrev b0 : Syntax.Body
-b0 = Syntax.assign (Syntax.place 4 List.[]) (Syntax.rvOpd (Syntax.copy (Syntax.place 3 (List._∷_ (Syntax.field 2) List.[]))))
+b0 = Syntax.assign (Syntax.place 5 List.[]) (Syntax.rvOpd (Syntax.copy (Syntax.place 4 (List._∷_ (Syntax.field 2) List.[]))))
 
 abbrev b1 : Syntax.Body
-b1 = Syntax.assign (Syntax.place 5 List.[]) (Syntax.rvOpd (Syntax.int Syntax.w64 0))
+b1 = Syntax.assign (Syntax.place 6 List.[]) (Syntax.rvOpd (Syntax.int Syntax.w64 0))
 
 abbrev b2 : Syntax.Body
-b2 = Syntax.assign (Syntax.place 8 List.[]) (Syntax.rvOpd (Syntax.copy (Syntax.place 1 (List._∷_ (Syntax.field 1) List.[]))))
+b2 = Syntax.assign (Syntax.place 9 List.[]) (Syntax.rvOpd (Syntax.copy (Syntax.place 1 (List._∷_ (Syntax.field 1) List.[]))))
 
 abbrev b3 : Syntax.Body
-b3 = Syntax.assign (Syntax.place 9 List.[]) (Syntax.op2 (Syntax.lt Syntax.unsigned) (Syntax.copy (Syntax.place 5 List.[])) (Syntax.copy (Syntax.place
-    8 List.[])))
+b3 = Syntax.assign (Syntax.place 10 List.[]) (Syntax.op2 (Syntax.lt Syntax.unsigned) (Syntax.copy (Syntax.place 6 List.[])) (Syntax.copy (Syntax.place
+    9 List.[])))
 
 abbrev b4 : Syntax.Body
 b4 = Syntax.skip
@@ -332,34 +339,35 @@ abbrev b5 : Syntax.Body
 b5 = Syntax.exit 1
 
 abbrev b6 : Syntax.Body
-b6 = Syntax.cond (Syntax.copy (Syntax.place 9 List.[])) b4 b5
+b6 = Syntax.cond (Syntax.copy (Syntax.place 10 List.[])) b4 b5
 
 abbrev b7 : Syntax.Body
-b7 = Syntax.call "sheet::look::next_line" (List._∷_ (Syntax.copy (Syntax.place 2 List.[])) (List._∷_ (Syntax.copy (Syntax.place 4 List.[])) (List._∷_
-    (Syntax.copy (Syntax.place 5 List.[])) (List._∷_ (Syntax.copy (Syntax.place 3 List.[])) List.[])))) (Syntax.place 6 List.[])
+b7 = Syntax.call "sheet::look::next_line" (List._∷_ (Syntax.copy (Syntax.place 2 List.[])) (List._∷_ (Syntax.copy (Syntax.place 3 List.[])) (List._∷_
+    (Syntax.copy (Syntax.place 5 List.[])) (List._∷_ (Syntax.copy (Syntax.place 6 List.[])) (List._∷_ (Syntax.copy (Syntax.place 4 List.[]))
+    List.[]))))) (Syntax.place 7 List.[])
 
 abbrev b8 : Syntax.Body
-b8 = Syntax.assign (Syntax.place 7 List.[]) (Syntax.rvOpd (Syntax.copy (Syntax.place 6 (List._∷_ (Syntax.field 0) List.[]))))
+b8 = Syntax.assign (Syntax.place 8 List.[]) (Syntax.rvOpd (Syntax.copy (Syntax.place 7 (List._∷_ (Syntax.field 0) List.[]))))
 
 abbrev b9 : Syntax.Body
-b9 = Syntax.assign (Syntax.place 11 List.[]) (Syntax.addrOf (Syntax.place 1 (List._∷_ (Syntax.field 0) (List._∷_ (Syntax.deref (Laws.mir)) List.[]))))
+b9 = Syntax.assign (Syntax.place 12 List.[]) (Syntax.addrOf (Syntax.place 1 (List._∷_ (Syntax.field 0) (List._∷_ (Syntax.deref (Laws.mir)) List.[]))))
 
 abbrev b10 : Syntax.Body
-b10 = Syntax.assign (Syntax.place 12 List.[]) (Syntax.aggregate (List._∷_ (Syntax.copy (Syntax.place 11 List.[])) (List._∷_ (Syntax.copy (Syntax.place
+b10 = Syntax.assign (Syntax.place 13 List.[]) (Syntax.aggregate (List._∷_ (Syntax.copy (Syntax.place 12 List.[])) (List._∷_ (Syntax.copy (Syntax.place
     1 (List._∷_ (Syntax.field 1) List.[]))) List.[])))
 
 abbrev b11 : Syntax.Body
-b11 = Syntax.assign (Syntax.place 13 List.[]) (Syntax.rvOpd (Syntax.copy (Syntax.place 5 List.[])))
+b11 = Syntax.assign (Syntax.place 14 List.[]) (Syntax.rvOpd (Syntax.copy (Syntax.place 6 List.[])))
 
 abbrev b12 : Syntax.Body
-b12 = Syntax.call "records::put" (List._∷_ (Syntax.copy (Syntax.place 12 List.[])) (List._∷_ (Syntax.copy (Syntax.place 13 List.[])) (List._∷_
-    (Syntax.copy (Syntax.place 7 List.[])) List.[]))) (Syntax.place 10 List.[])
+b12 = Syntax.call "records::put" (List._∷_ (Syntax.copy (Syntax.place 13 List.[])) (List._∷_ (Syntax.copy (Syntax.place 14 List.[])) (List._∷_
+    (Syntax.copy (Syntax.place 8 List.[])) List.[]))) (Syntax.place 11 List.[])
 
 abbrev b13 : Syntax.Body
-b13 = Syntax.assign (Syntax.place 4 List.[]) (Syntax.rvOpd (Syntax.copy (Syntax.place 6 (List._∷_ (Syntax.field 1) List.[]))))
+b13 = Syntax.assign (Syntax.place 5 List.[]) (Syntax.rvOpd (Syntax.copy (Syntax.place 7 (List._∷_ (Syntax.field 1) List.[]))))
 
 abbrev b14 : Syntax.Body
-b14 = Syntax.assign (Syntax.place 5 List.[]) (Syntax.op2 (Syntax.add Syntax.unsigned) (Syntax.copy (Syntax.place 5 List.[])) (Syntax.int Syntax.w64
+b14 = Syntax.assign (Syntax.place 6 List.[]) (Syntax.op2 (Syntax.add Syntax.unsigned) (Syntax.copy (Syntax.place 6 List.[])) (Syntax.int Syntax.w64
     1))
 
 abbrev b15 : Syntax.Body
@@ -423,88 +431,92 @@ abbrev pub Claims : Type 1
 Claims = Kinds.In 1 ps·0 × Kinds.Out 1 ps·0 r·0 × Kinds.In 1 ps·1 × Kinds.Out 1 ps·1 r·1
 
 abbrev pub t0 : List.List Row.Entry
-t0 = List._∷_ row·19 (List._∷_ row·12 (List._∷_ row·6 (List._∷_ row·25 (List._∷_ row·7 (List._∷_ row·28 (List._∷_ row·18 (List._∷_ row·9 (List._∷_
-    row·31 (List._∷_ row·11 (List._∷_ row·21 (List._∷_ row·2 (List._∷_ row·5 (List._∷_ row·23 List.[])))))))))))))
+t0 = List._∷_ row·19 (List._∷_ row·12 (List._∷_ row·28 (List._∷_ row·7 (List._∷_ row·29 (List._∷_ row·8 (List._∷_ row·32 (List._∷_ row·18 (List._∷_
+    row·10 (List._∷_ row·35 (List._∷_ row·6 (List._∷_ row·23 (List._∷_ row·2 (List._∷_ row·5 (List._∷_ row·25 List.[]))))))))))))))
 
 abbrev pub t1 : List.List Row.Entry
-t1 = List._∷_ row·20 (List._∷_ row·12 (List._∷_ row·6 (List._∷_ row·14 (List._∷_ row·26 (List._∷_ row·16 (List._∷_ row·18 (List._∷_ row·9 (List._∷_
-    row·31 (List._∷_ row·11 (List._∷_ row·21 (List._∷_ row·2 (List._∷_ row·5 (List._∷_ row·23 List.[])))))))))))))
+t1 = List._∷_ row·20 (List._∷_ row·12 (List._∷_ row·27 (List._∷_ row·7 (List._∷_ row·14 (List._∷_ row·30 (List._∷_ row·16 (List._∷_ row·18 (List._∷_
+    row·10 (List._∷_ row·35 (List._∷_ row·6 (List._∷_ row·23 (List._∷_ row·2 (List._∷_ row·5 (List._∷_ row·25 List.[]))))))))))))))
 
 abbrev pub t2 : List.List Row.Entry
-t2 = List._∷_ row·19 (List._∷_ row·12 (List._∷_ row·6 (List._∷_ row·25 (List._∷_ row·15 (List._∷_ row·28 (List._∷_ row·18 (List._∷_ row·9 (List._∷_
-    row·31 (List._∷_ row·11 (List._∷_ row·21 (List._∷_ row·2 (List._∷_ row·5 (List._∷_ row·23 List.[])))))))))))))
+t2 = List._∷_ row·19 (List._∷_ row·12 (List._∷_ row·28 (List._∷_ row·7 (List._∷_ row·29 (List._∷_ row·15 (List._∷_ row·32 (List._∷_ row·18 (List._∷_
+    row·10 (List._∷_ row·35 (List._∷_ row·6 (List._∷_ row·23 (List._∷_ row·2 (List._∷_ row·5 (List._∷_ row·25 List.[]))))))))))))))
 
 abbrev pub t3 : List.List Row.Entry
-t3 = List._∷_ row·19 (List._∷_ row·12 (List._∷_ row·6 (List._∷_ row·25 (List._∷_ row·15 (List._∷_ row·29 (List._∷_ row·18 (List._∷_ row·9 (List._∷_
-    row·31 (List._∷_ row·11 (List._∷_ row·21 (List._∷_ row·2 (List._∷_ row·5 (List._∷_ row·23 List.[])))))))))))))
+t3 = List._∷_ row·19 (List._∷_ row·12 (List._∷_ row·28 (List._∷_ row·7 (List._∷_ row·29 (List._∷_ row·15 (List._∷_ row·33 (List._∷_ row·18 (List._∷_
+    row·10 (List._∷_ row·35 (List._∷_ row·6 (List._∷_ row·23 (List._∷_ row·2 (List._∷_ row·5 (List._∷_ row·25 List.[]))))))))))))))
 
 abbrev pub t4 : List.List Row.Entry
-t4 = List._∷_ row·19 (List._∷_ row·12 (List._∷_ row·6 (List._∷_ row·14 (List._∷_ row·27 (List._∷_ row·17 (List._∷_ row·18 (List._∷_ row·9 (List._∷_
-    row·31 (List._∷_ row·11 (List._∷_ row·21 (List._∷_ row·2 (List._∷_ row·5 (List._∷_ row·23 List.[])))))))))))))
+t4 = List._∷_ row·19 (List._∷_ row·12 (List._∷_ row·28 (List._∷_ row·7 (List._∷_ row·14 (List._∷_ row·31 (List._∷_ row·17 (List._∷_ row·18 (List._∷_
+    row·10 (List._∷_ row·35 (List._∷_ row·6 (List._∷_ row·23 (List._∷_ row·2 (List._∷_ row·5 (List._∷_ row·25 List.[]))))))))))))))
 
 abbrev pub t5 : List.List Row.Entry
-t5 = List._∷_ row·19 (List._∷_ row·12 (List._∷_ row·6 (List._∷_ row·25 (List._∷_ row·15 (List._∷_ row·29 (List._∷_ row·18 (List._∷_ row·9 (List._∷_
-    row·32 (List._∷_ row·33 (List._∷_ row·21 (List._∷_ row·2 (List._∷_ row·5 (List._∷_ row·23 List.[])))))))))))))
+t5 = List._∷_ row·19 (List._∷_ row·12 (List._∷_ row·28 (List._∷_ row·7 (List._∷_ row·29 (List._∷_ row·15 (List._∷_ row·33 (List._∷_ row·18 (List._∷_
+    row·10 (List._∷_ row·36 (List._∷_ row·21 (List._∷_ row·23 (List._∷_ row·2 (List._∷_ row·5 (List._∷_ row·25 List.[]))))))))))))))
 
 abbrev pub t6 : List.List Row.Entry
-t6 = List._∷_ row·19 (List._∷_ row·12 (List._∷_ row·6 (List._∷_ row·25 (List._∷_ row·15 (List._∷_ row·29 (List._∷_ row·18 (List._∷_ row·9 (List._∷_
-    row·32 (List._∷_ row·34 (List._∷_ row·21 (List._∷_ row·2 (List._∷_ row·5 (List._∷_ row·23 List.[])))))))))))))
+t6 = List._∷_ row·19 (List._∷_ row·12 (List._∷_ row·28 (List._∷_ row·7 (List._∷_ row·29 (List._∷_ row·15 (List._∷_ row·33 (List._∷_ row·18 (List._∷_
+    row·10 (List._∷_ row·36 (List._∷_ row·22 (List._∷_ row·23 (List._∷_ row·2 (List._∷_ row·5 (List._∷_ row·25 List.[]))))))))))))))
 
 abbrev pub t7 : List.List Row.Entry
-t7 = List._∷_ row·19 (List._∷_ row·12 (List._∷_ row·6 (List._∷_ row·25 (List._∷_ row·15 (List._∷_ row·29 (List._∷_ row·18 (List._∷_ row·9 (List._∷_
-    row·31 (List._∷_ row·34 (List._∷_ row·21 (List._∷_ row·2 (List._∷_ row·5 (List._∷_ row·23 List.[])))))))))))))
+t7 = List._∷_ row·19 (List._∷_ row·12 (List._∷_ row·28 (List._∷_ row·7 (List._∷_ row·29 (List._∷_ row·15 (List._∷_ row·33 (List._∷_ row·18 (List._∷_
+    row·10 (List._∷_ row·35 (List._∷_ row·22 (List._∷_ row·23 (List._∷_ row·2 (List._∷_ row·5 (List._∷_ row·25 List.[]))))))))))))))
 
 abbrev pub t8 : List.List Row.Entry
-t8 = List._∷_ row·19 (List._∷_ row·12 (List._∷_ row·6 (List._∷_ row·14 (List._∷_ row·27 (List._∷_ row·17 (List._∷_ row·18 (List._∷_ row·9 (List._∷_
-    row·31 (List._∷_ row·34 (List._∷_ row·21 (List._∷_ row·2 (List._∷_ row·5 (List._∷_ row·23 List.[])))))))))))))
+t8 = List._∷_ row·19 (List._∷_ row·12 (List._∷_ row·28 (List._∷_ row·7 (List._∷_ row·14 (List._∷_ row·31 (List._∷_ row·17 (List._∷_ row·18 (List._∷_
+    row·10 (List._∷_ row·35 (List._∷_ row·22 (List._∷_ row·23 (List._∷_ row·2 (List._∷_ row·5 (List._∷_ row·25 List.[]))))))))))))))
 
 abbrev pub t9 : List.List Row.Entry
-t9 = List._∷_ row·19 (List._∷_ row·12 (List._∷_ row·6 (List._∷_ row·25 (List._∷_ row·15 (List._∷_ row·29 (List._∷_ row·8 (List._∷_ row·9 (List._∷_
-    row·31 (List._∷_ row·11 (List._∷_ row·21 (List._∷_ row·2 (List._∷_ row·5 (List._∷_ row·23 List.[])))))))))))))
+t9 = List._∷_ row·19 (List._∷_ row·12 (List._∷_ row·28 (List._∷_ row·7 (List._∷_ row·29 (List._∷_ row·15 (List._∷_ row·33 (List._∷_ row·9 (List._∷_
+    row·10 (List._∷_ row·35 (List._∷_ row·6 (List._∷_ row·23 (List._∷_ row·2 (List._∷_ row·5 (List._∷_ row·25 List.[]))))))))))))))
 
 abbrev pub t10 : List.List Row.Entry
-t10 = List._∷_ row·19 (List._∷_ row·12 (List._∷_ row·6 (List._∷_ row·25 (List._∷_ row·7 (List._∷_ row·29 (List._∷_ row·8 (List._∷_ row·9 (List._∷_
-    row·31 (List._∷_ row·11 (List._∷_ row·21 (List._∷_ row·2 (List._∷_ row·5 (List._∷_ row·23 List.[])))))))))))))
+t10 = List._∷_ row·19 (List._∷_ row·12 (List._∷_ row·28 (List._∷_ row·7 (List._∷_ row·29 (List._∷_ row·8 (List._∷_ row·33 (List._∷_ row·9 (List._∷_
+    row·10 (List._∷_ row·35 (List._∷_ row·6 (List._∷_ row·23 (List._∷_ row·2 (List._∷_ row·5 (List._∷_ row·25 List.[]))))))))))))))
 
 abbrev pub t11 : List.List Row.Entry
-t11 = List._∷_ row·19 (List._∷_ row·12 (List._∷_ row·6 (List._∷_ row·25 (List._∷_ row·7 (List._∷_ row·29 (List._∷_ row·8 (List._∷_ row·30 (List._∷_
-    row·10 (List._∷_ row·33 (List._∷_ row·21 (List._∷_ row·2 (List._∷_ row·5 (List._∷_ row·23 List.[])))))))))))))
+t11 = List._∷_ row·19 (List._∷_ row·12 (List._∷_ row·28 (List._∷_ row·7 (List._∷_ row·29 (List._∷_ row·8 (List._∷_ row·33 (List._∷_ row·9 (List._∷_
+    row·34 (List._∷_ row·11 (List._∷_ row·21 (List._∷_ row·23 (List._∷_ row·2 (List._∷_ row·5 (List._∷_ row·25 List.[]))))))))))))))
 
 abbrev pub t12 : List.List Row.Entry
-t12 = List._∷_ row·19 (List._∷_ row·13 (List._∷_ row·6 (List._∷_ row·25 (List._∷_ row·7 (List._∷_ row·29 (List._∷_ row·8 (List._∷_ row·30 (List._∷_
-    row·10 (List._∷_ row·33 (List._∷_ row·21 (List._∷_ row·1 (List._∷_ row·5 (List._∷_ row·23 List.[])))))))))))))
+t12 = List._∷_ row·19 (List._∷_ row·13 (List._∷_ row·28 (List._∷_ row·7 (List._∷_ row·29 (List._∷_ row·8 (List._∷_ row·33 (List._∷_ row·9 (List._∷_
+    row·34 (List._∷_ row·11 (List._∷_ row·21 (List._∷_ row·23 (List._∷_ row·1 (List._∷_ row·5 (List._∷_ row·25 List.[]))))))))))))))
 
 abbrev pub t13 : List.List Row.Entry
-t13 = List._∷_ row·19 (List._∷_ row·13 (List._∷_ row·6 (List._∷_ row·25 (List._∷_ row·7 (List._∷_ row·29 (List._∷_ row·8 (List._∷_ row·30 (List._∷_
-    row·10 (List._∷_ row·33 (List._∷_ row·21 (List._∷_ row·2 (List._∷_ row·4 (List._∷_ row·23 List.[])))))))))))))
+t13 = List._∷_ row·19 (List._∷_ row·13 (List._∷_ row·28 (List._∷_ row·7 (List._∷_ row·29 (List._∷_ row·8 (List._∷_ row·33 (List._∷_ row·9 (List._∷_
+    row·34 (List._∷_ row·11 (List._∷_ row·21 (List._∷_ row·23 (List._∷_ row·2 (List._∷_ row·4 (List._∷_ row·25 List.[]))))))))))))))
 
 abbrev pub t14 : List.List Row.Entry
-t14 = List._∷_ row·19 (List._∷_ row·13 (List._∷_ row·6 (List._∷_ row·25 (List._∷_ row·7 (List._∷_ row·29 (List._∷_ row·8 (List._∷_ row·30 (List._∷_
-    row·10 (List._∷_ row·33 (List._∷_ row·21 (List._∷_ row·2 (List._∷_ row·4 (List._∷_ row·24 List.[])))))))))))))
+t14 = List._∷_ row·19 (List._∷_ row·13 (List._∷_ row·28 (List._∷_ row·7 (List._∷_ row·29 (List._∷_ row·8 (List._∷_ row·33 (List._∷_ row·9 (List._∷_
+    row·34 (List._∷_ row·11 (List._∷_ row·21 (List._∷_ row·23 (List._∷_ row·2 (List._∷_ row·4 (List._∷_ row·26 List.[]))))))))))))))
 
 abbrev pub t15 : List.List Row.Entry
-t15 = List._∷_ row·19 (List._∷_ row·13 (List._∷_ row·6 (List._∷_ row·25 (List._∷_ row·7 (List._∷_ row·29 (List._∷_ row·8 (List._∷_ row·30 (List._∷_
-    row·10 (List._∷_ row·33 (List._∷_ row·22 (List._∷_ row·2 (List._∷_ row·3 (List._∷_ row·24 List.[])))))))))))))
+t15 = List._∷_ row·19 (List._∷_ row·13 (List._∷_ row·28 (List._∷_ row·7 (List._∷_ row·29 (List._∷_ row·8 (List._∷_ row·33 (List._∷_ row·9 (List._∷_
+    row·34 (List._∷_ row·11 (List._∷_ row·21 (List._∷_ row·24 (List._∷_ row·2 (List._∷_ row·3 (List._∷_ row·26 List.[]))))))))))))))
 
 abbrev pub t16 : List.List Row.Entry
-t16 = List._∷_ row·19 (List._∷_ row·13 (List._∷_ row·6 (List._∷_ row·25 (List._∷_ row·7 (List._∷_ row·29 (List._∷_ row·8 (List._∷_ row·9 (List._∷_
-    row·31 (List._∷_ row·11 (List._∷_ row·22 (List._∷_ row·2 (List._∷_ row·3 (List._∷_ row·24 List.[])))))))))))))
+t16 = List._∷_ row·19 (List._∷_ row·13 (List._∷_ row·28 (List._∷_ row·7 (List._∷_ row·29 (List._∷_ row·8 (List._∷_ row·33 (List._∷_ row·9 (List._∷_
+    row·10 (List._∷_ row·35 (List._∷_ row·6 (List._∷_ row·24 (List._∷_ row·2 (List._∷_ row·3 (List._∷_ row·26 List.[]))))))))))))))
 
 abbrev pub t17 : List.List Row.Entry
-t17 = List._∷_ row·19 (List._∷_ row·13 (List._∷_ row·6 (List._∷_ row·25 (List._∷_ row·7 (List._∷_ row·29 (List._∷_ row·8 (List._∷_ row·9 (List._∷_
-    row·31 (List._∷_ row·11 (List._∷_ row·21 (List._∷_ row·2 (List._∷_ row·3 (List._∷_ row·24 List.[])))))))))))))
+t17 = List._∷_ row·19 (List._∷_ row·13 (List._∷_ row·28 (List._∷_ row·7 (List._∷_ row·29 (List._∷_ row·8 (List._∷_ row·33 (List._∷_ row·9 (List._∷_
+    row·10 (List._∷_ row·35 (List._∷_ row·6 (List._∷_ row·23 (List._∷_ row·2 (List._∷_ row·3 (List._∷_ row·26 List.[]))))))))))))))
 
 abbrev pub t18 : List.List Row.Entry
-t18 = List._∷_ row·19 (List._∷_ row·13 (List._∷_ row·6 (List._∷_ row·25 (List._∷_ row·7 (List._∷_ row·29 (List._∷_ row·8 (List._∷_ row·9 (List._∷_
-    row·31 (List._∷_ row·11 (List._∷_ row·21 (List._∷_ row·2 (List._∷_ row·3 (List._∷_ row·23 List.[])))))))))))))
+t18 = List._∷_ row·19 (List._∷_ row·13 (List._∷_ row·28 (List._∷_ row·7 (List._∷_ row·29 (List._∷_ row·8 (List._∷_ row·33 (List._∷_ row·9 (List._∷_
+    row·10 (List._∷_ row·35 (List._∷_ row·6 (List._∷_ row·23 (List._∷_ row·2 (List._∷_ row·3 (List._∷_ row·25 List.[]))))))))))))))
 
 abbrev pub t19 : List.List Row.Entry
-t19 = List._∷_ row·20 (List._∷_ row·12 (List._∷_ row·6 (List._∷_ row·14 (List._∷_ row·27 (List._∷_ row·17 (List._∷_ row·18 (List._∷_ row·9 (List._∷_
-    row·31 (List._∷_ row·11 (List._∷_ row·21 (List._∷_ row·2 (List._∷_ row·5 (List._∷_ row·23 List.[])))))))))))))
+t19 = List._∷_ row·20 (List._∷_ row·12 (List._∷_ row·28 (List._∷_ row·7 (List._∷_ row·14 (List._∷_ row·31 (List._∷_ row·17 (List._∷_ row·18 (List._∷_
+    row·10 (List._∷_ row·35 (List._∷_ row·6 (List._∷_ row·23 (List._∷_ row·2 (List._∷_ row·5 (List._∷_ row·25 List.[]))))))))))))))
 
 abbrev pub t20 : List.List Row.Entry
-t20 = List._∷_ row·20 (List._∷_ row·12 (List._∷_ row·6 (List._∷_ row·14 (List._∷_ row·26 (List._∷_ row·17 (List._∷_ row·18 (List._∷_ row·9 (List._∷_
-    row·31 (List._∷_ row·11 (List._∷_ row·21 (List._∷_ row·2 (List._∷_ row·5 (List._∷_ row·23 List.[])))))))))))))
+t20 = List._∷_ row·20 (List._∷_ row·12 (List._∷_ row·28 (List._∷_ row·7 (List._∷_ row·14 (List._∷_ row·30 (List._∷_ row·17 (List._∷_ row·18 (List._∷_
+    row·10 (List._∷_ row·35 (List._∷_ row·6 (List._∷_ row·23 (List._∷_ row·2 (List._∷_ row·5 (List._∷_ row·25 List.[]))))))))))))))
+
+abbrev pub t21 : List.List Row.Entry
+t21 = List._∷_ row·20 (List._∷_ row·12 (List._∷_ row·28 (List._∷_ row·7 (List._∷_ row·14 (List._∷_ row·30 (List._∷_ row·16 (List._∷_ row·18 (List._∷_
+    row·10 (List._∷_ row·35 (List._∷_ row·6 (List._∷_ row·23 (List._∷_ row·2 (List._∷_ row·5 (List._∷_ row·25 List.[]))))))))))))))
 
 abbrev pub T0 : Row.Cx
 T0 = record { locals = t0; slots = List.[] }
@@ -594,7 +606,10 @@ abbrev pub T31 : Row.Cx
 T31 = record { locals = t20; slots = List.[] }
 
 abbrev pub T32 : Row.Cx
-T32 = record { locals = t1; slots = List.[] }
+T32 = record { locals = t21; slots = List.[] }
+
+abbrev pub T33 : Row.Cx
+T33 = record { locals = t1; slots = List.[] }
 
 abbrev pub O0 : Typed.Outs
 O0 = record { next = Option.none; exits = List.[]; returns = Option.some T1 }
@@ -612,134 +627,142 @@ abbrev pub O4 : Typed.Outs
 O4 = Typed.withNext (Option.some T8) O3
 
 abbrev pub InvT-loop : Type 1
-InvT-loop = List.List (Record.the-row .Denot) → List.List (Referent.rtF (Referent.fInt Syntax.w8) .Denot) → Rows.whole (Declared.row Found.the-type)
-    .Mod → Rows.sc-here (Row.sInt Syntax.w64) .Mod → Rows.sc-here (Row.sInt Syntax.w64) .Mod → List.List (Record.the-row .Denot) → Rows.sc-here
-    (Row.sInt Syntax.w64) .Mod → Rows.sc-here (Row.sInt Syntax.w64) .Mod → Type 0
+InvT-loop = List.List (Record.the-row .Denot) → Rows.sc-here (Row.sInt Syntax.w64) .Mod → List.List (Referent.rtF (Referent.fInt Syntax.w8) .Denot) →
+    Rows.whole (Declared.row Found.the-type) .Mod → Rows.sc-here (Row.sInt Syntax.w64) .Mod → Rows.sc-here (Row.sInt Syntax.w64) .Mod → List.List
+    (Record.the-row .Denot) → Rows.sc-here (Row.sInt Syntax.w64) .Mod → Rows.sc-here (Row.sInt Syntax.w64) .Mod → Type 0
 
 abbrev pub MeasureT-loop : Type 0
-MeasureT-loop = List.List (Record.the-row .Denot) → List.List (Referent.rtF (Referent.fInt Syntax.w8) .Denot) → Rows.whole (Declared.row
-    Found.the-type) .Mod → Rows.sc-here (Row.sInt Syntax.w64) .Mod → Rows.sc-here (Row.sInt Syntax.w64) .Mod → List.List (Record.the-row .Denot) →
-    Rows.sc-here (Row.sInt Syntax.w64) .Mod → Rows.sc-here (Row.sInt Syntax.w64) .Mod → Nat.ℕ
+MeasureT-loop = List.List (Record.the-row .Denot) → Rows.sc-here (Row.sInt Syntax.w64) .Mod → List.List (Referent.rtF (Referent.fInt Syntax.w8)
+    .Denot) → Rows.whole (Declared.row Found.the-type) .Mod → Rows.sc-here (Row.sInt Syntax.w64) .Mod → Rows.sc-here (Row.sInt Syntax.w64) .Mod →
+    List.List (Record.the-row .Denot) → Rows.sc-here (Row.sInt Syntax.w64) .Mod → Rows.sc-here (Row.sInt Syntax.w64) .Mod → Nat.ℕ
 
 module _ (claims· : Claims) where
   abbrev s0 : (bs : List.List Nat.ℕ) → Typed.Gives T0 T2
-  s0 = λ bs. Know.k-shs-known (Referent.fInt Syntax.w8) T0 2 1 (Syntax.tyRef (Syntax.named 1) Syntax.imm (Syntax.tyInt Syntax.w8)) Row.off 0 λ x. x
+  s0 = λ bs. Know.k-shs-known (Referent.fInt Syntax.w8) T0 3 1 (Syntax.tyRef (Syntax.named 1) Syntax.imm (Syntax.tyInt Syntax.w8)) Row.off 0 λ x. x
 
   abbrev s1 : (bs : List.List Nat.ℕ) → Typed.Mo T2 → Typed.Mo T3
-  s1 = λ bs. Scalar.n-use T2 (Scalar.oFld 3 (List._∷_ (Syntax.field 2) List.[]) (Syntax.tyInt Syntax.w64) 16 (Reads.fieldV Found.the-type
-      Laws'.the-laws 2)) 4 (Rows.sc-here (Row.sInt Syntax.w64)) (Row.sInt Syntax.w64 .of)
+  s1 = λ bs. Scalar.n-use T2 (Scalar.oFld 4 (List._∷_ (Syntax.field 2) List.[]) (Syntax.tyInt Syntax.w64) 16 (Reads.fieldV Found.the-type
+      Laws'.the-laws 2)) 5 (Rows.sc-here (Row.sInt Syntax.w64)) (Row.sInt Syntax.w64 .of)
 
   abbrev s2 : (bs : List.List Nat.ℕ) → Typed.Mo T3 → Typed.Mo T4
-  s2 = λ bs. Scalar.n-use T3 (Scalar.oInt Syntax.w64 0) 5 (Rows.sc-here (Row.sInt Syntax.w64)) (Row.sInt Syntax.w64 .of)
+  s2 = λ bs. Scalar.n-use T3 (Scalar.oInt Syntax.w64 0) 6 (Rows.sc-here (Row.sInt Syntax.w64)) (Row.sInt Syntax.w64 .of)
 
   abbrev s3 : (bs : List.List Nat.ℕ) → Typed.Mo T4 → Typed.Mo T6
-  s3 = λ bs. Scalar.n-use T4 (Scalar.oFld 1 (List._∷_ (Syntax.field 1) List.[]) (Syntax.tyInt Syntax.w64) 8 Shared.lenV) 8 (Rows.sc-here (Row.sInt
+  s3 = λ bs. Scalar.n-use T4 (Scalar.oFld 1 (List._∷_ (Syntax.field 1) List.[]) (Syntax.tyInt Syntax.w64) 8 Shared.lenV) 9 (Rows.sc-here (Row.sInt
       Syntax.w64)) (Row.sInt Syntax.w64 .of)
 
   abbrev s4 : (bs : List.List Nat.ℕ) → Typed.Asks T6 T7
-  s4 = λ bs. Scalar.k-op2 T6 (Syntax.lt Syntax.unsigned) (Scalar.oAt 5 (Syntax.tyInt Syntax.w64) (Row.valS (Row.sInt Syntax.w64))) (Scalar.oAt 8
-      (Syntax.tyInt Syntax.w64) (Row.valS (Row.sInt Syntax.w64))) 9 (Rows.sc-here Row.sBool) (Row.sBool .of)
+  s4 = λ bs. Scalar.k-op2 T6 (Syntax.lt Syntax.unsigned) (Scalar.oAt 6 (Syntax.tyInt Syntax.w64) (Row.valS (Row.sInt Syntax.w64))) (Scalar.oAt 9
+      (Syntax.tyInt Syntax.w64) (Row.valS (Row.sInt Syntax.w64))) 10 (Rows.sc-here Row.sBool) (Row.sBool .of)
 
   abbrev s5 : (bs : List.List Nat.ℕ) → Typed.Mo T7 → Typed.Mo T9
-  s5 = λ bs. Scalar.n-room T7 8 (Syntax.tyInt Syntax.w64)
+  s5 = λ bs. Scalar.n-room T7 9 (Syntax.tyInt Syntax.w64)
 
   abbrev s6 : (bs : List.List Nat.ℕ) → Typed.Mo T9 → Typed.Mo T10
-  s6 = λ bs. Scalar.n-room T9 9 Syntax.tyBool
+  s6 = λ bs. Scalar.n-room T9 10 Syntax.tyBool
 
   abbrev s7 : (bs : List.List Nat.ℕ) → Typed.Mo T9 → Typed.Mo T11
-  s7 = λ bs. Scalar.n-room T9 3 ty1·1
+  s7 = λ bs. Scalar.n-room T9 4 ty1·1
 
   abbrev s8 : (bs : List.List Nat.ℕ) → Typed.Mo T11 → Typed.Mo T12
-  s8 = λ bs. Scalar.n-room T11 9 Syntax.tyBool
+  s8 = λ bs. Scalar.n-room T11 10 Syntax.tyBool
 
   abbrev s9 : (bs : List.List Nat.ℕ) → Typed.Both T8 T13
   s9 = λ bs. Call.callB ps·0 r·0 (claims· .0) (claims· .1) T8 (
-    record {
-      pos = 2;
-      ty = Syntax.tyRef (Syntax.named 1) Syntax.imm (Syntax.tyInt
-          Syntax.w8);
-      ref = λ x. x;
-    },
-    (Num.vAt 4 λ x. x, (Num.vAt 5 λ x. x, (record { pos = 3; st = List.[]; d = 0; at = λ x. x }, tt))),
-  ) 6
-      (List._∷_ 1 List.[]) ty2·0
+    Num.vAt 2 λ x. x,
+    (
+      record {
+        pos = 3;
+        ty = Syntax.tyRef (Syntax.named 1) Syntax.imm
+            (Syntax.tyInt Syntax.w8);
+        ref = λ x. x;
+      },
+      (
+        Num.vAt 5 λ x. x,
+        (Num.vAt 6 λ x. x, (record { pos = 4; st = List.[]; d = 0; at = λ x. x }, tt)),
+      ),
+    ),
+  ) 7 (List._∷_ 1 List.[]) ty2·0
 
   abbrev s10 : (bs : List.List Nat.ℕ) → Typed.Mo T13 → Typed.Mo T14
-  s10 = λ bs. Scalar.n-room T13 4 (Syntax.tyInt Syntax.w64)
+  s10 = λ bs. Scalar.n-room T13 5 (Syntax.tyInt Syntax.w64)
 
   abbrev s11 : (bs : List.List Nat.ℕ) → Typed.Both T14 T15
-  s11 = λ bs. WayStmt.k-way-copy-out T14 (Row.out 6 (T14 .locals)) (λ u. Row.drop 6 (T14 .locals) u) 7 (Rows.whole (Declared.row Record.the-type)) (λ
-      u. At.getAt (Next.the-type .parts) 0 (Next.struct .as-values (u .1 .1 .1 .1 .1 .1 .0))) (λ T′. record {
-        locals = Row.setRow 6 (
-          6,
+  s11 = λ bs. WayStmt.k-way-copy-out T14 (Row.out 7 (T14 .locals)) (λ u. Row.drop 7 (T14 .locals) u) 8 (Rows.whole (Declared.row Record.the-type)) (λ
+      u. At.getAt (Next.the-type .parts) 0 (Next.struct .as-values (u .1 .1 .1 .1 .1 .1 .1 .0))) (λ T′. record {
+        locals = Row.setRow 7 (
+          7,
           Rows.whole
               (Declared.row Next.the-type),
         ) T′;
         slots = List.[];
-      }) (λ u T′ m′. Row.set 6 (6, Rows.whole (Declared.row Next.the-type)) (u .1 .1 .1 .1 .1 .1
+      }) (λ u T′ m′. Row.set 7 (7, Rows.whole (Declared.row Next.the-type)) (u .1 .1 .1 .1 .1 .1 .1
       .0) T′ m′) (λ u. Unit) λ u. Unit
 
   abbrev s13 : (bs : List.List Nat.ℕ) → Typed.Gives T15 T17
-  s13 = λ bs. Relend.k-sl-relend (Record.the-row) T15 1 11 0 2 (Syntax.tyRef (Syntax.named 0) Syntax.mut (Memory·.pointee (Record.the-row .written)))
+  s13 = λ bs. Relend.k-sl-relend (Record.the-row) T15 1 12 0 2 (Syntax.tyRef (Syntax.named 0) Syntax.mut (Memory·.pointee (Record.the-row .written)))
       (Syntax.tyRef Syntax.erased Syntax.mut (Memory·.pointee (Record.the-row .written))) Row.off λ x. x
 
   abbrev s14 : (bs : List.List Nat.ℕ) → Typed.Asks T17 T18
-  s14 = λ bs. Relend.k-sl-aggregate (Record.the-row) (Relend.asMut (Record.the-row)) T17 11 12 2 (Syntax.tyRef Syntax.erased Syntax.mut
+  s14 = λ bs. Relend.k-sl-aggregate (Record.the-row) (Relend.asMut (Record.the-row)) T17 12 13 2 (Syntax.tyRef Syntax.erased Syntax.mut
       (Memory·.pointee (Record.the-row .written))) (Syntax.tyRef Syntax.erased Syntax.mut (Memory·.pointee (Record.the-row .written))) (λ x. x)
       (Scalar.oFld 1 (List._∷_ (Syntax.field 1) List.[]) (Syntax.tyInt Syntax.w64) 8 λ v. Shared.lenV (v .0))
 
   abbrev s15 : (bs : List.List Nat.ℕ) → Typed.Mo T18 → Typed.Mo T19
-  s15 = λ bs. Scalar.n-use T18 (Scalar.oAt 5 (Syntax.tyInt Syntax.w64) (Row.valS (Row.sInt Syntax.w64))) 13 (Rows.sc-here (Row.sInt Syntax.w64))
+  s15 = λ bs. Scalar.n-use T18 (Scalar.oAt 6 (Syntax.tyInt Syntax.w64) (Row.valS (Row.sInt Syntax.w64))) 14 (Rows.sc-here (Row.sInt Syntax.w64))
       (Row.sInt Syntax.w64 .of)
 
   abbrev s16 : (bs : List.List Nat.ℕ) → Typed.Both T19 T20
   s16 = λ bs. Call.callB ps·1 r·1 (claims· .2) (claims· .3) T19 (
     record {
-      pos = 12;
+      pos = 13;
       ty = Syntax.tyRef Syntax.erased Syntax.mut (Memory·.pointee
           (Record.the-row .written));
       ref = λ x. x;
     },
-    (Num.vAt 13 λ x. x, (record { pos = 7; st = List.[]; d = 0; at = λ x. x }, tt)),
-  ) 10 (List._∷_ 2
+    (Num.vAt 14 λ x. x, (record { pos = 8; st = List.[]; d = 0; at = λ x. x }, tt)),
+  ) 11 (List._∷_ 2
       List.[]) Syntax.tyUnit
 
   abbrev s17 : (bs : List.List Nat.ℕ) → Typed.Mo T20 → Typed.Mo T21
-  s17 = λ bs. Scalar.n-room T20 7 ty1·0
+  s17 = λ bs. Scalar.n-room T20 8 ty1·0
 
   abbrev s18 : (bs : List.List Nat.ℕ) → Typed.Mo T21 → Typed.Mo T22
-  s18 = λ bs. Scalar.n-room T21 10 Syntax.tyUnit
+  s18 = λ bs. Scalar.n-room T21 11 Syntax.tyUnit
 
   abbrev s19 : (bs : List.List Nat.ℕ) → Typed.Mo T22 → Typed.Mo T23
-  s19 = λ bs. Scalar.n-room T22 13 (Syntax.tyInt Syntax.w64)
+  s19 = λ bs. Scalar.n-room T22 14 (Syntax.tyInt Syntax.w64)
 
   abbrev s21 : (bs : List.List Nat.ℕ) → Typed.Both T23 T25
-  s21 = λ bs. Relend.k-back-sl (Record.the-row) T23 12 1 0 2 (Syntax.tyRef (Syntax.named 0) Syntax.mut (Memory·.pointee (Record.the-row .written)))
+  s21 = λ bs. Relend.k-back-sl (Record.the-row) T23 13 1 0 2 (Syntax.tyRef (Syntax.named 0) Syntax.mut (Memory·.pointee (Record.the-row .written)))
       (Syntax.tyRef Syntax.erased Syntax.mut (Memory·.pointee (Record.the-row .written))) Row.off (λ x. x) λ x. x
 
   abbrev s23 : (bs : List.List Nat.ℕ) → Typed.Mo T25 → Typed.Mo T27
-  s23 = λ bs. Scalar.n-use T25 (Scalar.oFld 6 (List._∷_ (Syntax.field 1) List.[]) (Syntax.tyInt Syntax.w64) 72 (Reads.fieldV Next.the-type
-      Laws''.the-laws 1)) 4 (Rows.sc-here (Row.sInt Syntax.w64)) (Row.sInt Syntax.w64 .of)
+  s23 = λ bs. Scalar.n-use T25 (Scalar.oFld 7 (List._∷_ (Syntax.field 1) List.[]) (Syntax.tyInt Syntax.w64) 80 (Reads.fieldV Next.the-type
+      Laws''.the-laws 1)) 5 (Rows.sc-here (Row.sInt Syntax.w64)) (Row.sInt Syntax.w64 .of)
 
   abbrev s24 : (bs : List.List Nat.ℕ) → Typed.Mo T27 → Typed.Mo T28
-  s24 = λ bs. Scalar.n-room T27 6 ty2·0
+  s24 = λ bs. Scalar.n-room T27 7 ty2·0
 
   abbrev s25 : (bs : List.List Nat.ℕ) → Typed.Asks T28 T29
-  s25 = λ bs. Scalar.k-op2 T28 (Syntax.add Syntax.unsigned) (Scalar.oAt 5 (Syntax.tyInt Syntax.w64) (Row.valS (Row.sInt Syntax.w64))) (Scalar.oInt
-      Syntax.w64 1) 5 (Rows.sc-here (Row.sInt Syntax.w64)) (Row.sInt Syntax.w64 .of)
+  s25 = λ bs. Scalar.k-op2 T28 (Syntax.add Syntax.unsigned) (Scalar.oAt 6 (Syntax.tyInt Syntax.w64) (Row.valS (Row.sInt Syntax.w64))) (Scalar.oInt
+      Syntax.w64 1) 6 (Rows.sc-here (Row.sInt Syntax.w64)) (Row.sInt Syntax.w64 .of)
 
   abbrev s26 : (bs : List.List Nat.ℕ) → Typed.Mo T5 → Typed.Mo T30
   s26 = λ bs. Scalar.n-use T5 Scalar.oUnit 0 (Rows.sc-here Row.sUnit) (Row.sUnit .of)
 
   abbrev s27 : (bs : List.List Nat.ℕ) → Typed.Mo T30 → Typed.Mo T31
-  s27 = λ bs. Scalar.n-room T30 4 (Syntax.tyInt Syntax.w64)
+  s27 = λ bs. Scalar.n-room T30 5 (Syntax.tyInt Syntax.w64)
 
   abbrev s28 : (bs : List.List Nat.ℕ) → Typed.Mo T31 → Typed.Mo T32
-  s28 = λ bs. Scalar.n-room T31 5 (Syntax.tyInt Syntax.w64)
+  s28 = λ bs. Scalar.n-room T31 6 (Syntax.tyInt Syntax.w64)
+
+  abbrev s29 : (bs : List.List Nat.ℕ) → Typed.Mo T32 → Typed.Mo T33
+  s29 = λ bs. Scalar.n-room T32 2 (Syntax.tyInt Syntax.w64)
 
   abbrev put0 : List.List (Record.the-row .Denot) × Rows.sc-here (Row.sInt Syntax.w64) .Mod × Rows.sc-here (Row.sInt Syntax.w64) .Mod → Typed.Mo T4 →
       Typed.Mo T4
-  put0 = λ vs u. Row.set 5 row·29 (vs .2) (T4 .locals) (Row.set 4 (4, Rows.sc-here (Row.sInt Syntax.w64)) (vs .1) (T4 .locals) (Row.set 1 (
+  put0 = λ vs u. Row.set 6 row·33 (vs .2) (T4 .locals) (Row.set 5 (5, Rows.sc-here (Row.sInt Syntax.w64)) (vs .1) (T4 .locals) (Row.set 1 (
     1,
     Mut.mslice (Record.the-row) (Syntax.tyRef (Syntax.named 0) Syntax.mut (Memory·.pointee (Record.the-row .written))) 0,
   ) record {
@@ -774,7 +797,7 @@ module _ (claims· : Claims) where
       at4 = λ bs. λ Ψ. Typed.pass T9 T11 (s7 bs) (at3 bs Ψ)
 
       abbrev at5 : (bs : List.List Nat.ℕ) → Typed.TF T9 O4
-      at5 = λ bs. Scalar.Φcond T9 O4 9 (λ x. x) (at1 bs) (at4 bs)
+      at5 = λ bs. Scalar.Φcond T9 O4 10 (λ x. x) (at1 bs) (at4 bs)
 
       abbrev at6 : (bs : List.List Nat.ℕ) → Typed.TF T7 O4
       at6 = λ bs. λ Ψ. Typed.pass T7 T9 (s5 bs) (at5 bs Ψ)
@@ -840,39 +863,43 @@ module _ (claims· : Claims) where
       at26 = λ bs. λ Ψ. Typed.pass T4 T6 (s3 bs) (at25 bs Ψ)
 
       abbrev at27 : (bs : List.List Nat.ℕ) → Typed.TF T4 O2
-      at27 = λ bs. Typed.LoopBy T4 O2 put0 (λ u vs. Inv·0 (Row.get 1 (T4 .locals) u .now) (Row.get 2 (T4 .locals) u .now) (Row.get 3 (T4 .locals) u)
-          (Row.get 4 (T4 .locals) u) (Row.get 5 (T4 .locals) u) (vs .0) (vs .1) (vs .2)) (λ u vs. μ·0 (Row.get 1 (T4 .locals) u .now) (Row.get 2 (T4
-          .locals) u .now) (Row.get 3 (T4 .locals) u) (Row.get 4 (T4 .locals) u) (Row.get 5 (T4 .locals) u) (vs .0) (vs .1) (vs .2)) (at26 bs)
+      at27 = λ bs. Typed.LoopBy T4 O2 put0 (λ u vs. Inv·0 (Row.get 1 (T4 .locals) u .now) (Row.get 2 (T4 .locals) u) (Row.get 3 (T4 .locals) u .now)
+          (Row.get 4 (T4 .locals) u) (Row.get 5 (T4 .locals) u) (Row.get 6 (T4 .locals) u) (vs .0) (vs .1) (vs .2)) (λ u vs. μ·0 (Row.get 1 (T4
+          .locals) u .now) (Row.get 2 (T4 .locals) u) (Row.get 3 (T4 .locals) u .now) (Row.get 4 (T4 .locals) u) (Row.get 5 (T4 .locals) u) (Row.get 6
+          (T4 .locals) u) (vs .0) (vs .1) (vs .2)) (at26 bs)
 
       abbrev at28 : (bs : List.List Nat.ℕ) → Typed.TF T4 O1
       at28 = λ bs. λ Ψ. at27 bs (Typed.inBlock O1 Ψ)
 
-      abbrev at29 : (bs : List.List Nat.ℕ) → Typed.TF T32 O0
+      abbrev at29 : (bs : List.List Nat.ℕ) → Typed.TF T33 O0
       at29 = λ bs. Typed.atRet O0
 
-      abbrev at30 : (bs : List.List Nat.ℕ) → Typed.TF T31 O0
-      at30 = λ bs. λ Ψ. Typed.pass T31 T32 (s28 bs) (at29 bs Ψ)
+      abbrev at30 : (bs : List.List Nat.ℕ) → Typed.TF T32 O0
+      at30 = λ bs. λ Ψ. Typed.pass T32 T33 (s29 bs) (at29 bs Ψ)
 
-      abbrev at31 : (bs : List.List Nat.ℕ) → Typed.TF T30 O0
-      at31 = λ bs. λ Ψ. Typed.pass T30 T31 (s27 bs) (at30 bs Ψ)
+      abbrev at31 : (bs : List.List Nat.ℕ) → Typed.TF T31 O0
+      at31 = λ bs. λ Ψ. Typed.pass T31 T32 (s28 bs) (at30 bs Ψ)
 
-      abbrev at32 : (bs : List.List Nat.ℕ) → Typed.TF T5 O0
-      at32 = λ bs. λ Ψ. Typed.pass T5 T30 (s26 bs) (at31 bs Ψ)
+      abbrev at32 : (bs : List.List Nat.ℕ) → Typed.TF T30 O0
+      at32 = λ bs. λ Ψ. Typed.pass T30 T31 (s27 bs) (at31 bs Ψ)
 
-      abbrev at33 : (bs : List.List Nat.ℕ) → Typed.TF T4 O0
-      at33 = λ bs. λ Ψ. at28 bs (Typed.wantNext T5 O0 (at32 bs Ψ) Ψ)
+      abbrev at33 : (bs : List.List Nat.ℕ) → Typed.TF T5 O0
+      at33 = λ bs. λ Ψ. Typed.pass T5 T30 (s26 bs) (at32 bs Ψ)
 
-      abbrev at34 : (bs : List.List Nat.ℕ) → Typed.TF T3 O0
-      at34 = λ bs. λ Ψ. Typed.pass T3 T4 (s2 bs) (at33 bs Ψ)
+      abbrev at34 : (bs : List.List Nat.ℕ) → Typed.TF T4 O0
+      at34 = λ bs. λ Ψ. at28 bs (Typed.wantNext T5 O0 (at33 bs Ψ) Ψ)
 
-      abbrev at35 : (bs : List.List Nat.ℕ) → Typed.TF T2 O0
-      at35 = λ bs. λ Ψ. Typed.pass T2 T3 (s1 bs) (at34 bs Ψ)
+      abbrev at35 : (bs : List.List Nat.ℕ) → Typed.TF T3 O0
+      at35 = λ bs. λ Ψ. Typed.pass T3 T4 (s2 bs) (at34 bs Ψ)
 
-      abbrev at36 : (bs : List.List Nat.ℕ) → Typed.TF T0 O0
-      at36 = λ bs. λ Ψ. Typed.give (s0 bs) (at35 bs Ψ)
+      abbrev at36 : (bs : List.List Nat.ℕ) → Typed.TF T2 O0
+      at36 = λ bs. λ Ψ. Typed.pass T2 T3 (s1 bs) (at35 bs Ψ)
+
+      abbrev at37 : (bs : List.List Nat.ℕ) → Typed.TF T0 O0
+      at37 = λ bs. λ Ψ. Typed.give (s0 bs) (at36 bs Ψ)
 
       abbrev pub Φ : (bs : List.List Nat.ℕ) → Typed.TF T0 O0
-      Φ = λ bs. at36 bs
+      Φ = λ bs. at37 bs
 
       module _ {M : Type 1} (𝓤 : URA.URA M) (H : Wp.Heap 𝓤) (A : Atoms.Atoms 𝓤) (W : Kit.Given 𝓤 H A) (𝓣 : Wp.Tables 𝓤 H) where
         abbrev Knowns : Type 1
@@ -885,63 +912,63 @@ module _ (claims· : Claims) where
           1,
           Relend.mslice-owed (Record.the-row) (Syntax.tyRef (Syntax.named 0) Syntax.mut (Memory·.pointee
               (Record.the-row .written))) 0 2 (Row.lease (κs .0) (qs .0)),
-        ) (List._∷_ row·6 (List._∷_ row·25 (List._∷_ row·7 (List._∷_ row·29 (List._∷_
-            row·8 (List._∷_ row·30 (List._∷_ row·10 (List._∷_ row·33 (List._∷_ row·0 (List._∷_ row·1 (List._∷_ row·5 (List._∷_ row·23
-            List.[])))))))))))))
+        ) (List._∷_ row·28 (List._∷_ row·7 (List._∷_ row·29 (List._∷_ row·8 (List._∷_
+            row·33 (List._∷_ row·9 (List._∷_ row·34 (List._∷_ row·11 (List._∷_ row·21 (List._∷_ row·0 (List._∷_ row·1 (List._∷_ row·5 (List._∷_ row·25
+            List.[]))))))))))))))
 
         abbrev g13 : List.List Row.Entry
         g13 = List._∷_ row·19 (List._∷_ (
           1,
           Relend.mslice-owed (Record.the-row) (Syntax.tyRef (Syntax.named 0) Syntax.mut (Memory·.pointee
               (Record.the-row .written))) 0 2 (Row.lease (κs .0) (qs .0)),
-        ) (List._∷_ row·6 (List._∷_ row·25 (List._∷_ row·7 (List._∷_ row·29 (List._∷_
-            row·8 (List._∷_ row·30 (List._∷_ row·10 (List._∷_ row·33 (List._∷_ row·0 (List._∷_ row·2 (List._∷_ row·4 (List._∷_ row·23
-            List.[])))))))))))))
+        ) (List._∷_ row·28 (List._∷_ row·7 (List._∷_ row·29 (List._∷_ row·8 (List._∷_
+            row·33 (List._∷_ row·9 (List._∷_ row·34 (List._∷_ row·11 (List._∷_ row·21 (List._∷_ row·0 (List._∷_ row·2 (List._∷_ row·4 (List._∷_ row·25
+            List.[]))))))))))))))
 
         abbrev g14 : List.List Row.Entry
         g14 = List._∷_ row·19 (List._∷_ (
           1,
           Relend.mslice-owed (Record.the-row) (Syntax.tyRef (Syntax.named 0) Syntax.mut (Memory·.pointee
               (Record.the-row .written))) 0 2 (Row.lease (κs .0) (qs .0)),
-        ) (List._∷_ row·6 (List._∷_ row·25 (List._∷_ row·7 (List._∷_ row·29 (List._∷_
-            row·8 (List._∷_ row·30 (List._∷_ row·10 (List._∷_ row·33 (List._∷_ row·0 (List._∷_ row·2 (List._∷_ row·4 (List._∷_ row·24
-            List.[])))))))))))))
+        ) (List._∷_ row·28 (List._∷_ row·7 (List._∷_ row·29 (List._∷_ row·8 (List._∷_
+            row·33 (List._∷_ row·9 (List._∷_ row·34 (List._∷_ row·11 (List._∷_ row·21 (List._∷_ row·0 (List._∷_ row·2 (List._∷_ row·4 (List._∷_ row·26
+            List.[]))))))))))))))
 
         abbrev g15 : List.List Row.Entry
         g15 = List._∷_ row·19 (List._∷_ (
           1,
           Relend.mslice-owed (Record.the-row) (Syntax.tyRef (Syntax.named 0) Syntax.mut (Memory·.pointee
               (Record.the-row .written))) 0 2 (Row.lease (κs .0) (qs .0)),
-        ) (List._∷_ row·6 (List._∷_ row·25 (List._∷_ row·7 (List._∷_ row·29 (List._∷_
-            row·8 (List._∷_ row·30 (List._∷_ row·10 (List._∷_ row·33 (List._∷_ row·22 (List._∷_ row·2 (List._∷_ row·3 (List._∷_ row·24
-            List.[])))))))))))))
+        ) (List._∷_ row·28 (List._∷_ row·7 (List._∷_ row·29 (List._∷_ row·8 (List._∷_
+            row·33 (List._∷_ row·9 (List._∷_ row·34 (List._∷_ row·11 (List._∷_ row·21 (List._∷_ row·24 (List._∷_ row·2 (List._∷_ row·3 (List._∷_
+            row·26 List.[]))))))))))))))
 
         abbrev g16 : List.List Row.Entry
         g16 = List._∷_ row·19 (List._∷_ (
           1,
           Relend.mslice-owed (Record.the-row) (Syntax.tyRef (Syntax.named 0) Syntax.mut (Memory·.pointee
               (Record.the-row .written))) 0 2 (Row.lease (κs .0) (qs .0)),
-        ) (List._∷_ row·6 (List._∷_ row·25 (List._∷_ row·7 (List._∷_ row·29 (List._∷_
-            row·8 (List._∷_ row·9 (List._∷_ row·31 (List._∷_ row·11 (List._∷_ row·22 (List._∷_ row·2 (List._∷_ row·3 (List._∷_ row·24
-            List.[])))))))))))))
+        ) (List._∷_ row·28 (List._∷_ row·7 (List._∷_ row·29 (List._∷_ row·8 (List._∷_
+            row·33 (List._∷_ row·9 (List._∷_ row·10 (List._∷_ row·35 (List._∷_ row·6 (List._∷_ row·24 (List._∷_ row·2 (List._∷_ row·3 (List._∷_ row·26
+            List.[]))))))))))))))
 
         abbrev g17 : List.List Row.Entry
         g17 = List._∷_ row·19 (List._∷_ (
           1,
           Relend.mslice-owed (Record.the-row) (Syntax.tyRef (Syntax.named 0) Syntax.mut (Memory·.pointee
               (Record.the-row .written))) 0 2 (Row.lease (κs .0) (qs .0)),
-        ) (List._∷_ row·6 (List._∷_ row·25 (List._∷_ row·7 (List._∷_ row·29 (List._∷_
-            row·8 (List._∷_ row·9 (List._∷_ row·31 (List._∷_ row·11 (List._∷_ row·21 (List._∷_ row·2 (List._∷_ row·3 (List._∷_ row·24
-            List.[])))))))))))))
+        ) (List._∷_ row·28 (List._∷_ row·7 (List._∷_ row·29 (List._∷_ row·8 (List._∷_
+            row·33 (List._∷_ row·9 (List._∷_ row·10 (List._∷_ row·35 (List._∷_ row·6 (List._∷_ row·23 (List._∷_ row·2 (List._∷_ row·3 (List._∷_ row·26
+            List.[]))))))))))))))
 
         abbrev g18 : List.List Row.Entry
         g18 = List._∷_ row·19 (List._∷_ (
           1,
           Relend.mslice-owed (Record.the-row) (Syntax.tyRef (Syntax.named 0) Syntax.mut (Memory·.pointee
               (Record.the-row .written))) 0 2 (Row.lease (κs .0) (qs .0)),
-        ) (List._∷_ row·6 (List._∷_ row·25 (List._∷_ row·7 (List._∷_ row·29 (List._∷_
-            row·8 (List._∷_ row·9 (List._∷_ row·31 (List._∷_ row·11 (List._∷_ row·21 (List._∷_ row·2 (List._∷_ row·3 (List._∷_ row·23
-            List.[])))))))))))))
+        ) (List._∷_ row·28 (List._∷_ row·7 (List._∷_ row·29 (List._∷_ row·8 (List._∷_
+            row·33 (List._∷_ row·9 (List._∷_ row·10 (List._∷_ row·35 (List._∷_ row·6 (List._∷_ row·23 (List._∷_ row·2 (List._∷_ row·3 (List._∷_ row·25
+            List.[]))))))))))))))
 
         abbrev G0 : Row.Cx
         G0 = record {
@@ -1137,6 +1164,13 @@ module _ (claims· : Claims) where
 
         abbrev G32 : Row.Cx
         G32 = record {
+          locals = t21;
+          slots = List._∷_ (Row.lease (κs .0) (qs .0)) (List._∷_ (Row.lease (κs .1 .0) (qs .1 .0)) (List._∷_ Row.off
+              List.[]));
+        }
+
+        abbrev G33 : Row.Cx
+        G33 = record {
           locals = t1;
           slots = List._∷_ (Row.lease (κs .0) (qs .0)) (List._∷_ (Row.lease (κs .1 .0) (qs .1 .0)) (List._∷_ Row.off
               List.[]));
@@ -1166,30 +1200,30 @@ module _ (claims· : Claims) where
           d0 = Typed.t-skip 𝓤 H A W 𝓣 E Δ4 tt
 
           d1 : Typed.Typed 𝓤 H A 𝓣 E G9 b4 Δ4 (at1 bs)
-          d1 = Typed.g-pre 𝓤 H A W 𝓣 E G9 G10 b4 Δ4 (Typed.pass T9 T10 (s6 bs)) (at0 bs) (Scalar.g-room 𝓤 H A W E G9 9 Syntax.tyBool (Scalar.room-sc 𝓤
-              H A W Row.sBool)) d0
+          d1 = Typed.g-pre 𝓤 H A W 𝓣 E G9 G10 b4 Δ4 (Typed.pass T9 T10 (s6 bs)) (at0 bs) (Scalar.g-room 𝓤 H A W E G9 10 Syntax.tyBool (Scalar.room-sc
+              𝓤 H A W Row.sBool)) d0
 
           d2 : Typed.Typed 𝓤 H A 𝓣 E G12 b5 Δ4 (at2 bs)
           d2 = Typed.t-exit 𝓤 H A W 𝓣 E 1 Δ4 tt
 
           d3 : Typed.Typed 𝓤 H A 𝓣 E G11 b5 Δ4 (at3 bs)
-          d3 = Typed.g-pre 𝓤 H A W 𝓣 E G11 G12 b5 Δ4 (Typed.pass T11 T12 (s8 bs)) (at2 bs) (Scalar.g-room 𝓤 H A W E G11 9 Syntax.tyBool
+          d3 = Typed.g-pre 𝓤 H A W 𝓣 E G11 G12 b5 Δ4 (Typed.pass T11 T12 (s8 bs)) (at2 bs) (Scalar.g-room 𝓤 H A W E G11 10 Syntax.tyBool
               (Scalar.room-sc 𝓤 H A W Row.sBool)) d2
 
           d4 : Typed.Typed 𝓤 H A 𝓣 E G9 b5 Δ4 (at4 bs)
-          d4 = Typed.g-pre 𝓤 H A W 𝓣 E G9 G11 b5 Δ4 (Typed.pass T9 T11 (s7 bs)) (at3 bs) (Scalar.g-room 𝓤 H A W E G9 3 ty1·1 (Local.room-whole 𝓤 H A W
+          d4 = Typed.g-pre 𝓤 H A W 𝓣 E G9 G11 b5 Δ4 (Typed.pass T9 T11 (s7 bs)) (at3 bs) (Scalar.g-room 𝓤 H A W E G9 4 ty1·1 (Local.room-whole 𝓤 H A W
               (Declared.row Found.the-type) ty1·1 Path'.refl)) d3
 
           d5 : Typed.Typed 𝓤 H A 𝓣 E G9 b6 Δ4 (at5 bs)
-          d5 = Scalar.t-cond 𝓤 H A W E 𝓣 G9 9 (λ x. x) b4 b5 Δ4 (at1 bs) (at4 bs) (Scalar.reads-sc 𝓤 H A W Row.sBool) Path'.refl d1 d4
+          d5 = Scalar.t-cond 𝓤 H A W E 𝓣 G9 10 (λ x. x) b4 b5 Δ4 (at1 bs) (at4 bs) (Scalar.reads-sc 𝓤 H A W Row.sBool) Path'.refl d1 d4
 
           d6 : Typed.Typed 𝓤 H A 𝓣 E G7 b6 Δ4 (at6 bs)
-          d6 = Typed.g-pre 𝓤 H A W 𝓣 E G7 G9 b6 Δ4 (Typed.pass T7 T9 (s5 bs)) (at5 bs) (Scalar.g-room 𝓤 H A W E G7 8 (Syntax.tyInt Syntax.w64)
+          d6 = Typed.g-pre 𝓤 H A W 𝓣 E G7 G9 b6 Δ4 (Typed.pass T7 T9 (s5 bs)) (at5 bs) (Scalar.g-room 𝓤 H A W E G7 9 (Syntax.tyInt Syntax.w64)
               (Scalar.room-sc 𝓤 H A W (Row.sInt Syntax.w64))) d5
 
           d7 : Typed.Typed 𝓤 H A 𝓣 E G28 b14 Δ3 (at7 bs)
-          d7 = Typed.s-typed 𝓤 H A W 𝓣 E G28 b14 Δ3 (Typed.ask (s25 bs)) tt (Scalar.t-op2 𝓤 H A W E 𝓣 G28 (Syntax.add Syntax.unsigned) (Scalar.oAt 5
-              (Syntax.tyInt Syntax.w64) (Row.valS (Row.sInt Syntax.w64))) (Scalar.oInt Syntax.w64 1) 5 (Rows.sc-here (Row.sInt Syntax.w64))
+          d7 = Typed.s-typed 𝓤 H A W 𝓣 E G28 b14 Δ3 (Typed.ask (s25 bs)) tt (Scalar.t-op2 𝓤 H A W E 𝓣 G28 (Syntax.add Syntax.unsigned) (Scalar.oAt 6
+              (Syntax.tyInt Syntax.w64) (Row.valS (Row.sInt Syntax.w64))) (Scalar.oInt Syntax.w64 1) 6 (Rows.sc-here (Row.sInt Syntax.w64))
               (Syntax.tyInt Syntax.w64) (Row.valS (Row.sInt Syntax.w64)) (Row.sInt Syntax.w64 .of) (
                 Scalar.reads-sc 𝓤 H A W (Row.sInt Syntax.w64),
                 Path'.refl,
@@ -1197,15 +1231,15 @@ module _ (claims· : Claims) where
               Path'.refl) λ u. tt)
 
           d8 : Typed.Typed 𝓤 H A 𝓣 E G27 b14 Δ3 (at8 bs)
-          d8 = Typed.g-pre 𝓤 H A W 𝓣 E G27 G28 b14 Δ3 (Typed.pass T27 T28 (s24 bs)) (at7 bs) (Scalar.g-room 𝓤 H A W E G27 6 ty2·0 (Local.room-whole 𝓤
+          d8 = Typed.g-pre 𝓤 H A W 𝓣 E G27 G28 b14 Δ3 (Typed.pass T27 T28 (s24 bs)) (at7 bs) (Scalar.g-room 𝓤 H A W E G27 7 ty2·0 (Local.room-whole 𝓤
               H A W (Declared.row Next.the-type) ty2·0 Path'.refl)) d7
 
           d9 : Typed.Typed 𝓤 H A 𝓣 E G26 b15 Δ3 (at9 bs)
-          d9 = Typed.s-seq 𝓤 H A W 𝓣 E G26 G27 b13 b14 Δ3 (Typed.pass T25 T27 (s23 bs)) (at8 bs) (Scalar.t-use 𝓤 H A W E 𝓣 G26 (Scalar.oFld 6
-              (List._∷_ (Syntax.field 1) List.[]) (Syntax.tyInt Syntax.w64) 72 (Reads.fieldV Next.the-type Laws''.the-laws 1)) 4 (Rows.sc-here
+          d9 = Typed.s-seq 𝓤 H A W 𝓣 E G26 G27 b13 b14 Δ3 (Typed.pass T25 T27 (s23 bs)) (at8 bs) (Scalar.t-use 𝓤 H A W E 𝓣 G26 (Scalar.oFld 7
+              (List._∷_ (Syntax.field 1) List.[]) (Syntax.tyInt Syntax.w64) 80 (Reads.fieldV Next.the-type Laws''.the-laws 1)) 5 (Rows.sc-here
               (Row.sInt Syntax.w64)) (Syntax.tyInt Syntax.w64) (Row.valS (Row.sInt Syntax.w64)) (Row.sInt Syntax.w64 .of) (
                 Reads.reads-field 𝓤 H A W
-                    Next.the-type Laws''.the-laws 1 (Syntax.tyInt Syntax.w64) 72 Path'.refl,
+                    Next.the-type Laws''.the-laws 1 (Syntax.tyInt Syntax.w64) 80 Path'.refl,
                 Path'.refl,
               ) (Reads'.room-gone 𝓤 H A (Syntax.tyInt
               Syntax.w64)) (Scalar.holds-sc 𝓤 H A W (Row.sInt Syntax.w64)) Path'.refl (λ u. Path'.refl) λ u. tt) d8
@@ -1214,7 +1248,7 @@ module _ (claims· : Claims) where
           d10 = Typed.g-pre 𝓤 H A W 𝓣 E G25 G26 b15 Δ3 (λ Ψ. Ψ) (at9 bs) (Lifetime.g-forget 𝓤 H A W E G25 2 Row.dead Path'.refl) d9
 
           d11 : Typed.Typed 𝓤 H A 𝓣 E G24 b15 Δ3 (at11 bs)
-          d11 = Typed.g-pre 𝓤 H A W 𝓣 E G24 G25 b15 Δ3 (Typed.both (s21 bs)) (at10 bs) (Relend.g-back-sl 𝓤 H A W E (Record.the-row) G24 12 1 0 2
+          d11 = Typed.g-pre 𝓤 H A W 𝓣 E G24 G25 b15 Δ3 (Typed.both (s21 bs)) (at10 bs) (Relend.g-back-sl 𝓤 H A W E (Record.the-row) G24 13 1 0 2
               (Syntax.tyRef (Syntax.named 0) Syntax.mut (Memory·.pointee (Record.the-row .written))) (Syntax.tyRef Syntax.erased Syntax.mut
               (Memory·.pointee (Record.the-row .written))) (Row.lease (κs .0) (qs .0)) (λ x. x) (λ x. x) (Reads'.as-is 𝓤 H A (Mut.msleft
               (Record.the-row) (Syntax.tyRef Syntax.erased Syntax.mut (Memory·.pointee (Record.the-row .written))))) (Reads'.as-is 𝓤 H A
@@ -1225,34 +1259,34 @@ module _ (claims· : Claims) where
           d12 = Typed.g-pre 𝓤 H A W 𝓣 E G23 G24 b15 Δ3 (λ Ψ. Ψ) (at11 bs) (Lifetime.g-end 𝓤 H A W E G23 2 Path'.refl) d11
 
           d13 : Typed.Typed 𝓤 H A 𝓣 E G22 b15 Δ3 (at13 bs)
-          d13 = Typed.g-pre 𝓤 H A W 𝓣 E G22 G23 b15 Δ3 (Typed.pass T22 T23 (s19 bs)) (at12 bs) (Scalar.g-room 𝓤 H A W E G22 13 (Syntax.tyInt
+          d13 = Typed.g-pre 𝓤 H A W 𝓣 E G22 G23 b15 Δ3 (Typed.pass T22 T23 (s19 bs)) (at12 bs) (Scalar.g-room 𝓤 H A W E G22 14 (Syntax.tyInt
               Syntax.w64) (Scalar.room-sc 𝓤 H A W (Row.sInt Syntax.w64))) d12
 
           d14 : Typed.Typed 𝓤 H A 𝓣 E G21 b15 Δ3 (at14 bs)
-          d14 = Typed.g-pre 𝓤 H A W 𝓣 E G21 G22 b15 Δ3 (Typed.pass T21 T22 (s18 bs)) (at13 bs) (Scalar.g-room 𝓤 H A W E G21 10 Syntax.tyUnit
+          d14 = Typed.g-pre 𝓤 H A W 𝓣 E G21 G22 b15 Δ3 (Typed.pass T21 T22 (s18 bs)) (at13 bs) (Scalar.g-room 𝓤 H A W E G21 11 Syntax.tyUnit
               (Scalar.room-sc 𝓤 H A W Row.sUnit)) d13
 
           d15 : Typed.Typed 𝓤 H A 𝓣 E G20 b15 Δ3 (at15 bs)
-          d15 = Typed.g-pre 𝓤 H A W 𝓣 E G20 G21 b15 Δ3 (Typed.pass T20 T21 (s17 bs)) (at14 bs) (Scalar.g-room 𝓤 H A W E G20 7 ty1·0 (Local.room-whole
+          d15 = Typed.g-pre 𝓤 H A W 𝓣 E G20 G21 b15 Δ3 (Typed.pass T20 T21 (s17 bs)) (at14 bs) (Scalar.g-room 𝓤 H A W E G20 8 ty1·0 (Local.room-whole
               𝓤 H A W (Declared.row Record.the-type) ty1·0 Path'.refl)) d14
 
           d16 : Typed.Typed 𝓤 H A 𝓣 E G19 b16 Δ3 (at16 bs)
           d16 = Typed.s-seq 𝓤 H A W 𝓣 E G19 G20 b12 b15 Δ3 (Typed.both (s16 bs)) (at15 bs) (Plain.t-call-plain 𝓤 H A W 𝓣 1 ps·1 r·1 (claims· .2)
               (claims· .3) "records::put" (known .1) E (λ pos β. β) G19 (
                 record {
-                  pos = 12;
+                  pos = 13;
                   ty = Syntax.tyRef Syntax.erased Syntax.mut
                       (Memory·.pointee (Record.the-row .written));
                   ref = λ x. x;
                 },
                 (
-                  Num.vAt 13 λ x. x,
+                  Num.vAt 14 λ x. x,
                   (
-                    record { pos = 7; st = List.[]; d = 0; at = λ x. x },
+                    record { pos = 8; st = List.[]; d = 0; at = λ x. x },
                     tt,
                   ),
                 ),
-              ) 10 (List._∷_ 2 List.[]) (Call.sub-id 𝓤 H A W (G19 .slots)) (
+              ) 11 (List._∷_ 2 List.[]) (Call.sub-id 𝓤 H A W (G19 .slots)) (
                 Reads'.as-is 𝓤 H A (Mut.mslice (Record.the-row) (Syntax.tyRef
                     Syntax.erased Syntax.mut (Memory·.pointee (Record.the-row .written))) 2),
                 Mut.reads-mslice 𝓤 H A W (Record.the-row) (Syntax.tyRef
@@ -1277,14 +1311,14 @@ module _ (claims· : Claims) where
               (Reads'.room-gone 𝓤 H A Syntax.tyUnit) (tt, tt) Path'.refl) d15
 
           d17 : Typed.Typed 𝓤 H A 𝓣 E G18 b17 Δ3 (at17 bs)
-          d17 = Typed.s-seq 𝓤 H A W 𝓣 E G18 G19 b11 b16 Δ3 (Typed.pass T18 T19 (s15 bs)) (at16 bs) (Scalar.t-use 𝓤 H A W E 𝓣 G18 (Scalar.oAt 5
-              (Syntax.tyInt Syntax.w64) (Row.valS (Row.sInt Syntax.w64))) 13 (Rows.sc-here (Row.sInt Syntax.w64)) (Syntax.tyInt Syntax.w64) (Row.valS
+          d17 = Typed.s-seq 𝓤 H A W 𝓣 E G18 G19 b11 b16 Δ3 (Typed.pass T18 T19 (s15 bs)) (at16 bs) (Scalar.t-use 𝓤 H A W E 𝓣 G18 (Scalar.oAt 6
+              (Syntax.tyInt Syntax.w64) (Row.valS (Row.sInt Syntax.w64))) 14 (Rows.sc-here (Row.sInt Syntax.w64)) (Syntax.tyInt Syntax.w64) (Row.valS
               (Row.sInt Syntax.w64)) (Row.sInt Syntax.w64 .of) (Scalar.reads-sc 𝓤 H A W (Row.sInt Syntax.w64), Path'.refl) (Reads'.room-gone 𝓤 H A
               (Syntax.tyInt Syntax.w64)) (Scalar.holds-sc 𝓤 H A W (Row.sInt Syntax.w64)) Path'.refl (λ u. Path'.refl) λ u. tt) d16
 
           d18 : Typed.Typed 𝓤 H A 𝓣 E G17 b18 Δ3 (at18 bs)
           d18 = Typed.s-seq 𝓤 H A W 𝓣 E G17 G18 b10 b17 Δ3 (Typed.ask (s14 bs)) (at17 bs) (Relend.t-sl-aggregate 𝓤 H A W E (Record.the-row) 𝓣
-              (Relend.asMut (Record.the-row)) G17 11 12 2 (Syntax.tyRef Syntax.erased Syntax.mut (Memory·.pointee (Record.the-row .written)))
+              (Relend.asMut (Record.the-row)) G17 12 13 2 (Syntax.tyRef Syntax.erased Syntax.mut (Memory·.pointee (Record.the-row .written)))
               (Syntax.tyRef Syntax.erased Syntax.mut (Memory·.pointee (Record.the-row .written))) (λ x. x) (Scalar.oFld 1 (List._∷_ (Syntax.field 1)
               List.[]) (Syntax.tyInt Syntax.w64) 8 λ v. Shared.lenV (v .0)) (Reads'.as-is 𝓤 H A (Relend.msptr (Record.the-row) (Syntax.tyRef
               Syntax.erased Syntax.mut (Memory·.pointee (Record.the-row .written))) 2)) (Reads'.room-gone 𝓤 H A ty0·1) (
@@ -1295,7 +1329,7 @@ module _ (claims· : Claims) where
               ) Path'.refl Path'.refl λ b o k. tt) d17
 
           d19 : Typed.Typed 𝓤 H A 𝓣 E G16 b19 Δ3 (at19 bs)
-          d19 = Typed.s-seq 𝓤 H A W 𝓣 E G16 G17 b9 b18 Δ3 (Typed.give (s13 bs)) (at18 bs) (Relend.t-sl-relend 𝓤 H A W E (Record.the-row) 𝓣 G16 1 11 0
+          d19 = Typed.s-seq 𝓤 H A W 𝓣 E G16 G17 b9 b18 Δ3 (Typed.give (s13 bs)) (at18 bs) (Relend.t-sl-relend 𝓤 H A W E (Record.the-row) 𝓣 G16 1 12 0
               2 (Syntax.tyRef (Syntax.named 0) Syntax.mut (Memory·.pointee (Record.the-row .written))) (Syntax.tyRef Syntax.erased Syntax.mut
               (Memory·.pointee (Record.the-row .written))) (Row.lease (κs .0) (qs .0)) 0 (λ x. x) (Reads'.as-is 𝓤 H A (Mut.mslice (Record.the-row)
               (Syntax.tyRef (Syntax.named 0) Syntax.mut (Memory·.pointee (Record.the-row .written))) 0)) (Reads'.room-gone 𝓤 H A (Syntax.tyRef
@@ -1316,10 +1350,7 @@ module _ (claims· : Claims) where
                       tt,
                       (
                         tt,
-                        (
-                          tt,
-                          (tt, (tt, (tt, (tt, (tt, (tt, tt)))))),
-                        ),
+                        (tt, (tt, (tt, (tt, (tt, (tt, (tt, (tt, tt)))))))),
                       ),
                     ),
                   ),
@@ -1330,100 +1361,110 @@ module _ (claims· : Claims) where
 
           d21 : Typed.Typed 𝓤 H A 𝓣 E G14 b20 Δ3 (at21 bs)
           d21 = Typed.s-seq 𝓤 H A W 𝓣 E G14 G15 b8 b19 Δ3 (Typed.both (s11 bs)) (at20 bs) (WayStmt.t-way-copy-out 𝓤 H A W E 𝓣 (Declared.row
-              Record.the-type) Path'.refl (Copies.cStruct Record.the-type Laws.the-laws Laws.the-copy .copy 𝓤 H A W) (λ ρ. Unit) G14 (Row.out 6 (G14
-              .locals)) (λ u. Row.drop 6 (G14 .locals) u) (G14 .slots) 6 (λ t. List._∷_ (Syntax.field 0) t) ty1·0 ty1·0 7 (Rows.whole (Declared.row
-              Record.the-type)) (λ x. x) (λ u. At.getAt (Next.the-type .parts) 0 (Next.struct .as-values (u .1 .1 .1 .1 .1 .1 .0))) (λ u. (
-                Row.hd 0
-                    (Row.tl (Row.tl (Row.tl (Row.tl (Row.tl (Row.tl bs)))))),
+              Record.the-type) Path'.refl (Copies.cStruct Record.the-type Laws.the-laws Laws.the-copy .copy 𝓤 H A W) (λ ρ. Unit) G14 (Row.out 7 (G14
+              .locals)) (λ u. Row.drop 7 (G14 .locals) u) (G14 .slots) 7 (λ t. List._∷_ (Syntax.field 0) t) ty1·0 ty1·0 8 (Rows.whole (Declared.row
+              Record.the-type)) (λ x. x) (λ u. At.getAt (Next.the-type .parts) 0 (Next.struct .as-values (u .1 .1 .1 .1 .1 .1 .1 .0))) (λ u. (
+                Row.hd
+                    0 (Row.tl (Row.tl (Row.tl (Row.tl (Row.tl (Row.tl (Row.tl bs))))))),
                 Nat._+_ 0 0,
               )) (λ T′. record {
-                locals = Row.setRow 6 (
-                  6,
-                  Rows.whole
-                      (Declared.row Next.the-type),
+                locals = Row.setRow 7 (
+                  7,
+                  Rows.whole (Declared.row Next.the-type),
                 ) T′;
                 slots = G14 .slots;
-              }) (λ u T′ m′. Row.set 6 (6, Rows.whole (Declared.row Next.the-type)) (u .1 .1 .1
-              .1 .1 .1 .0) T′ m′) (λ u. Unit) (λ x. Unit) (Own.told-none 𝓤 H A (G14 .slots)) (DerefMove.learns-nothing 𝓤 H A (Declared.row
-              Record.the-type)) (λ ρ told u asked. Way'.w-partˢ 𝓤 H A W E (Declared.row Next.the-type) (Declared.row Record.the-type) ty2·0 ty1·0 0 0
-              (u .1 .1 .1 .1 .1 .1 .0) (At.getAt (Next.the-type .parts) 0 (Next.struct .as-values (u .1 .1 .1 .1 .1 .1 .0))) (
-                Row.hd 0 (Row.tl (Row.tl
-                    (Row.tl (Row.tl (Row.tl (Row.tl bs)))))),
+              }) (λ u T′ m′. Row.set 7 (7, Rows.whole (Declared.row Next.the-type))
+              (u .1 .1 .1 .1 .1 .1 .1 .0) T′ m′) (λ u. Unit) (λ x. Unit) (Own.told-none 𝓤 H A (G14 .slots)) (DerefMove.learns-nothing 𝓤 H A
+              (Declared.row Record.the-type)) (λ ρ told u asked. Way'.w-partˢ 𝓤 H A W E (Declared.row Next.the-type) (Declared.row Record.the-type)
+              ty2·0 ty1·0 0 0 (u .1 .1 .1 .1 .1 .1 .1 .0) (At.getAt (Next.the-type .parts) 0 (Next.struct .as-values (u .1 .1 .1 .1 .1 .1 .1 .0)))
+              (Row.hd 0 (Row.tl (Row.tl (Row.tl (Row.tl (Row.tl (Row.tl (Row.tl bs))))))), 0) (Way.w-look 𝓤 H A W E (Way.w-local 𝓤 H A W E G14 ρ u
+              (G14 .slots) 7 (Declared.row Next.the-type) (Rows.whole (Declared.row Next.the-type)) (λ x. x) (λ x. x) (u .1 .1 .1 .1 .1 .1 .1 .0)
+              (Local.mem-whole 𝓤 H A W (Declared.row Next.the-type) ρ (u .1 .1 .1 .1 .1 .1 .1 .0) (Row.hd 0 (Row.tl (Row.tl (Row.tl (Row.tl (Row.tl
+              (Row.tl (Row.tl bs))))))))) (Local.whole-mem 𝓤 H A W (Declared.row Next.the-type) ρ (u .1 .1 .1 .1 .1 .1 .1 .0) (Row.hd 0 (Row.tl
+              (Row.tl (Row.tl (Row.tl (Row.tl (Row.tl (Row.tl bs))))))))))) Path'.refl λ q. Inner.cut-record 𝓤 H A q (Declared.row Next.the-type)
+              Record.the-type 0 (u .1 .1 .1 .1 .1 .1 .1 .0) (u .1 .1 .1 .1 .1 .1 .1 .0) (At.getAt (Next.the-type .parts) 0 (Next.struct .as-values (u
+              .1 .1 .1 .1 .1 .1 .1 .0))) (At.getAt (Next.the-type .parts) 0 (Next.struct .as-values (u .1 .1 .1 .1 .1 .1 .1 .0))) (
+                Row.hd 0 (Row.tl
+                    (Row.tl (Row.tl (Row.tl (Row.tl (Row.tl (Row.tl bs))))))),
                 0,
-              ) (Way.w-look 𝓤 H A W E (Way.w-local 𝓤 H A W E G14 ρ u (G14 .slots) 6 (Declared.row
-              Next.the-type) (Rows.whole (Declared.row Next.the-type)) (λ x. x) (λ x. x) (u .1 .1 .1 .1 .1 .1 .0) (Local.mem-whole 𝓤 H A W
-              (Declared.row Next.the-type) ρ (u .1 .1 .1 .1 .1 .1 .0) (Row.hd 0 (Row.tl (Row.tl (Row.tl (Row.tl (Row.tl (Row.tl bs))))))))
-              (Local.whole-mem 𝓤 H A W (Declared.row Next.the-type) ρ (u .1 .1 .1 .1 .1 .1 .0) (Row.hd 0 (Row.tl (Row.tl (Row.tl (Row.tl (Row.tl
-              (Row.tl bs)))))))))) Path'.refl λ q. Inner.cut-record 𝓤 H A q (Declared.row Next.the-type) Record.the-type 0 (u .1 .1 .1 .1 .1 .1 .0) (u
-              .1 .1 .1 .1 .1 .1 .0) (At.getAt (Next.the-type .parts) 0 (Next.struct .as-values (u .1 .1 .1 .1 .1 .1 .0))) (At.getAt (Next.the-type
-              .parts) 0 (Next.struct .as-values (u .1 .1 .1 .1 .1 .1 .0))) (Row.hd 0 (Row.tl (Row.tl (Row.tl (Row.tl (Row.tl (Row.tl bs)))))), 0)
-              (Behind.look-at 𝓤 H A W q Next.the-type Laws''.the-laws 0 0 Path'.refl Path'.refl (
-                Row.hd 0 (Row.tl (Row.tl (Row.tl (Row.tl (Row.tl
-                    (Row.tl bs)))))),
-                0,
-              ) (u .1 .1 .1 .1 .1 .1 .0) (Next.struct .as-values (u .1 .1 .1 .1 .1 .1 .0)) Path'.refl)) (Reads'.room-gone 𝓤 H A
-              ty1·0) (Yields.makes-mem 𝓤 H A W (λ ρ. Unit) (Declared.row Record.the-type) Path'.refl (Rows.whole (Declared.row Record.the-type)) (λ x.
-              x) λ ρ told. Local.whole-mem 𝓤 H A W (Declared.row Record.the-type) ρ) Path'.refl Path'.refl Path'.refl) d20
+              ) (Behind.look-at 𝓤 H A W q Next.the-type Laws''.the-laws 0 0 Path'.refl
+              Path'.refl (Row.hd 0 (Row.tl (Row.tl (Row.tl (Row.tl (Row.tl (Row.tl (Row.tl bs))))))), 0) (u .1 .1 .1 .1 .1 .1 .1 .0) (Next.struct
+              .as-values (u .1 .1 .1 .1 .1 .1 .1 .0)) Path'.refl)) (Reads'.room-gone 𝓤 H A ty1·0) (Yields.makes-mem 𝓤 H A W (λ ρ. Unit) (Declared.row
+              Record.the-type) Path'.refl (Rows.whole (Declared.row Record.the-type)) (λ x. x) λ ρ told. Local.whole-mem 𝓤 H A W (Declared.row
+              Record.the-type) ρ) Path'.refl Path'.refl Path'.refl) d20
 
           d22 : Typed.Typed 𝓤 H A 𝓣 E G13 b20 Δ3 (at22 bs)
-          d22 = Typed.g-pre 𝓤 H A W 𝓣 E G13 G14 b20 Δ3 (Typed.pass T13 T14 (s10 bs)) (at21 bs) (Scalar.g-room 𝓤 H A W E G13 4 (Syntax.tyInt
+          d22 = Typed.g-pre 𝓤 H A W 𝓣 E G13 G14 b20 Δ3 (Typed.pass T13 T14 (s10 bs)) (at21 bs) (Scalar.g-room 𝓤 H A W E G13 5 (Syntax.tyInt
               Syntax.w64) (Scalar.room-sc 𝓤 H A W (Row.sInt Syntax.w64))) d21
 
           d23 : Typed.Typed 𝓤 H A 𝓣 E G8 b21 Δ3 (at23 bs)
           d23 = Typed.s-seq 𝓤 H A W 𝓣 E G8 G13 b7 b20 Δ3 (Typed.both (s9 bs)) (at22 bs) (Plain.t-call-plain 𝓤 H A W 𝓣 1 ps·0 r·0 (claims· .0) (claims·
               .1) "sheet::look::next_line" (known .0) E (λ pos β. β) G8 (
-                record {
-                  pos = 2;
-                  ty = Syntax.tyRef (Syntax.named 1) Syntax.imm
-                      (Syntax.tyInt Syntax.w8);
-                  ref = λ x. x;
-                },
+                Num.vAt 2 λ x. x,
                 (
-                  Num.vAt 4 λ x. x,
+                  record {
+                    pos = 3;
+                    ty = Syntax.tyRef (Syntax.named 1)
+                        Syntax.imm (Syntax.tyInt Syntax.w8);
+                    ref = λ x. x;
+                  },
                   (
                     Num.vAt 5 λ x. x,
                     (
-                      record { pos = 3; st = List.[]; d = 0; at = λ x. x },
-                      tt,
+                      Num.vAt 6 λ x. x,
+                      (
+                        record {
+                          pos = 4;
+                          st = List.[];
+                          d = 0;
+                          at
+                              = λ x. x;
+                        },
+                        tt,
+                      ),
                     ),
                   ),
                 ),
-              ) 6 (List._∷_ 1 List.[]) (Call.sub-id 𝓤 H A W (G8 .slots)) (
-                ShrSlice.spares-sslice 𝓤 H A W (Referent.rtF (Referent.fInt
-                    Syntax.w8)) (Syntax.tyRef (Syntax.named 1) Syntax.imm (Syntax.tyInt Syntax.w8)) 1,
-                Shared.reads-sslice 𝓤 H A W (Referent.rtF
-                    (Referent.fInt Syntax.w8)) (Syntax.tyRef (Syntax.named 1) Syntax.imm (Syntax.tyInt Syntax.w8)) 1,
-                Path'.refl,
+              ) 7 (List._∷_ 1 List.[]) (Call.sub-id 𝓤 H A W (G8 .slots)) (
                 (
-                  (
-                    Scalar.reads-sc 𝓤 H A W
-                        (Row.sInt Syntax.w64),
-                    Path'.refl,
-                  ),
+                  Scalar.reads-sc 𝓤 H A W (Row.sInt Syntax.w64),
+                  Path'.refl,
+                ),
+                (
+                  ShrSlice.spares-sslice 𝓤 H A W (Referent.rtF (Referent.fInt Syntax.w8)) (Syntax.tyRef (Syntax.named 1) Syntax.imm
+                      (Syntax.tyInt Syntax.w8)) 1,
+                  Shared.reads-sslice 𝓤 H A W (Referent.rtF (Referent.fInt Syntax.w8)) (Syntax.tyRef (Syntax.named 1)
+                      Syntax.imm (Syntax.tyInt Syntax.w8)) 1,
+                  Path'.refl,
                   (
                     (Scalar.reads-sc 𝓤 H A W (Row.sInt Syntax.w64), Path'.refl),
                     (
                       (
-                        Yields.yields-copy 𝓤 H A W (λ ρ.
-                            Unit) (Declared.row Found.the-type) Path'.refl (Copies.cStruct Found.the-type Laws'.the-laws Laws'.the-copy .copy 𝓤 H A W) (Rows.whole
-                            (Declared.row Found.the-type)) (λ x. x) (λ x. x) (λ ρ told. Local.mem-whole 𝓤 H A W (Declared.row Found.the-type) ρ) λ ρ told.
-                            Local.whole-mem 𝓤 H A W (Declared.row Found.the-type) ρ,
+                        Scalar.reads-sc 𝓤
+                            H A W (Row.sInt Syntax.w64),
                         Path'.refl,
                       ),
-                      tt,
+                      (
+                        (
+                          Yields.yields-copy 𝓤 H A W (λ ρ. Unit) (Declared.row Found.the-type) Path'.refl
+                              (Copies.cStruct Found.the-type Laws'.the-laws Laws'.the-copy .copy 𝓤 H A W) (Rows.whole (Declared.row Found.the-type)) (λ x. x) (λ x. x)
+                              (λ ρ told. Local.mem-whole 𝓤 H A W (Declared.row Found.the-type) ρ) λ ρ told. Local.whole-mem 𝓤 H A W (Declared.row Found.the-type) ρ,
+                          Path'.refl,
+                        ),
+                        tt,
+                      ),
                     ),
                   ),
                 ),
-              ) (Reads'.room-gone 𝓤 H A ty2·0) (tt, tt)
-              Path'.refl) d22
+              ) (Reads'.room-gone 𝓤 H A ty2·0) (tt, tt) Path'.refl) d22
 
           d24 : Typed.Typed 𝓤 H A 𝓣 E G7 b22 Δ3 (at24 bs)
           d24 = Typed.t-seq 𝓤 H A W 𝓣 E G7 G8 b6 b21 Δ3 (at6 bs) (at23 bs) d6 d23
 
           d25 : Typed.Typed 𝓤 H A 𝓣 E G6 b23 Δ3 (at25 bs)
           d25 = Typed.s-seq 𝓤 H A W 𝓣 E G6 G7 b3 b22 Δ3 (Typed.ask (s4 bs)) (at24 bs) (Scalar.t-op2 𝓤 H A W E 𝓣 G6 (Syntax.lt Syntax.unsigned)
-              (Scalar.oAt 5 (Syntax.tyInt Syntax.w64) (Row.valS (Row.sInt Syntax.w64))) (Scalar.oAt 8 (Syntax.tyInt Syntax.w64) (Row.valS (Row.sInt
-              Syntax.w64))) 9 (Rows.sc-here Row.sBool) Syntax.tyBool (Row.valS Row.sBool) (Row.sBool .of) (
+              (Scalar.oAt 6 (Syntax.tyInt Syntax.w64) (Row.valS (Row.sInt Syntax.w64))) (Scalar.oAt 9 (Syntax.tyInt Syntax.w64) (Row.valS (Row.sInt
+              Syntax.w64))) 10 (Rows.sc-here Row.sBool) Syntax.tyBool (Row.valS Row.sBool) (Row.sBool .of) (
                 Scalar.reads-sc 𝓤 H A W (Row.sInt
                     Syntax.w64),
                 Path'.refl,
@@ -1432,7 +1473,7 @@ module _ (claims· : Claims) where
 
           d26 : Typed.Typed 𝓤 H A 𝓣 E G4 b24 Δ3 (at26 bs)
           d26 = Typed.s-seq 𝓤 H A W 𝓣 E G4 G6 b2 b23 Δ3 (Typed.pass T4 T6 (s3 bs)) (at25 bs) (Scalar.t-use 𝓤 H A W E 𝓣 G4 (Scalar.oFld 1 (List._∷_
-              (Syntax.field 1) List.[]) (Syntax.tyInt Syntax.w64) 8 Shared.lenV) 8 (Rows.sc-here (Row.sInt Syntax.w64)) (Syntax.tyInt Syntax.w64)
+              (Syntax.field 1) List.[]) (Syntax.tyInt Syntax.w64) 8 Shared.lenV) 9 (Rows.sc-here (Row.sInt Syntax.w64)) (Syntax.tyInt Syntax.w64)
               (Row.valS (Row.sInt Syntax.w64)) (Row.sInt Syntax.w64 .of) (
                 Mut.reads-mslice-len 𝓤 H A W (Record.the-row) (Syntax.tyRef (Syntax.named
                     0) Syntax.mut (Memory·.pointee (Record.the-row .written))) 0 8 Path'.refl,
@@ -1441,63 +1482,68 @@ module _ (claims· : Claims) where
               Syntax.w64)) (Scalar.holds-sc 𝓤 H A W (Row.sInt Syntax.w64)) Path'.refl (λ u. Path'.refl) λ u. tt) d25
 
           d27 : Typed.Typed 𝓤 H A 𝓣 E G4 b25 Δ2 (at27 bs)
-          d27 = Typed.t-loop-by 𝓤 H A W 𝓣 E G4 b24 Δ2 put0 (λ u vs. Inv·0 (Row.get 1 (T4 .locals) u .now) (Row.get 2 (T4 .locals) u .now) (Row.get 3
-              (T4 .locals) u) (Row.get 4 (T4 .locals) u) (Row.get 5 (T4 .locals) u) (vs .0) (vs .1) (vs .2)) (λ u vs. μ·0 (Row.get 1 (T4 .locals) u
-              .now) (Row.get 2 (T4 .locals) u .now) (Row.get 3 (T4 .locals) u) (Row.get 4 (T4 .locals) u) (Row.get 5 (T4 .locals) u) (vs .0) (vs .1)
-              (vs .2)) (at26 bs) d26
+          d27 = Typed.t-loop-by 𝓤 H A W 𝓣 E G4 b24 Δ2 put0 (λ u vs. Inv·0 (Row.get 1 (T4 .locals) u .now) (Row.get 2 (T4 .locals) u) (Row.get 3 (T4
+              .locals) u .now) (Row.get 4 (T4 .locals) u) (Row.get 5 (T4 .locals) u) (Row.get 6 (T4 .locals) u) (vs .0) (vs .1) (vs .2)) (λ u vs. μ·0
+              (Row.get 1 (T4 .locals) u .now) (Row.get 2 (T4 .locals) u) (Row.get 3 (T4 .locals) u .now) (Row.get 4 (T4 .locals) u) (Row.get 5 (T4
+              .locals) u) (Row.get 6 (T4 .locals) u) (vs .0) (vs .1) (vs .2)) (at26 bs) d26
 
           d28 : Typed.Typed 𝓤 H A 𝓣 E G4 b26 Δ1 (at28 bs)
           d28 = Typed.t-block 𝓤 H A W 𝓣 E G4 b25 Δ1 (at27 bs) d27
 
-          d29 : Typed.Typed 𝓤 H A 𝓣 E G32 b28 Δ0 (at29 bs)
+          d29 : Typed.Typed 𝓤 H A 𝓣 E G33 b28 Δ0 (at29 bs)
           d29 = Typed.t-return 𝓤 H A W 𝓣 E Δ0 tt
 
-          d30 : Typed.Typed 𝓤 H A 𝓣 E G31 b28 Δ0 (at30 bs)
-          d30 = Typed.g-pre 𝓤 H A W 𝓣 E G31 G32 b28 Δ0 (Typed.pass T31 T32 (s28 bs)) (at29 bs) (Scalar.g-room 𝓤 H A W E G31 5 (Syntax.tyInt
+          d30 : Typed.Typed 𝓤 H A 𝓣 E G32 b28 Δ0 (at30 bs)
+          d30 = Typed.g-pre 𝓤 H A W 𝓣 E G32 G33 b28 Δ0 (Typed.pass T32 T33 (s29 bs)) (at29 bs) (Scalar.g-room 𝓤 H A W E G32 2 (Syntax.tyInt
               Syntax.w64) (Scalar.room-sc 𝓤 H A W (Row.sInt Syntax.w64))) d29
 
-          d31 : Typed.Typed 𝓤 H A 𝓣 E G30 b28 Δ0 (at31 bs)
-          d31 = Typed.g-pre 𝓤 H A W 𝓣 E G30 G31 b28 Δ0 (Typed.pass T30 T31 (s27 bs)) (at30 bs) (Scalar.g-room 𝓤 H A W E G30 4 (Syntax.tyInt
+          d31 : Typed.Typed 𝓤 H A 𝓣 E G31 b28 Δ0 (at31 bs)
+          d31 = Typed.g-pre 𝓤 H A W 𝓣 E G31 G32 b28 Δ0 (Typed.pass T31 T32 (s28 bs)) (at30 bs) (Scalar.g-room 𝓤 H A W E G31 6 (Syntax.tyInt
               Syntax.w64) (Scalar.room-sc 𝓤 H A W (Row.sInt Syntax.w64))) d30
 
-          d32 : Typed.Typed 𝓤 H A 𝓣 E G5 b29 Δ0 (at32 bs)
-          d32 = Typed.s-seq 𝓤 H A W 𝓣 E G5 G30 b27 b28 Δ0 (Typed.pass T5 T30 (s26 bs)) (at31 bs) (Scalar.t-use 𝓤 H A W E 𝓣 G5 Scalar.oUnit 0
+          d32 : Typed.Typed 𝓤 H A 𝓣 E G30 b28 Δ0 (at32 bs)
+          d32 = Typed.g-pre 𝓤 H A W 𝓣 E G30 G31 b28 Δ0 (Typed.pass T30 T31 (s27 bs)) (at31 bs) (Scalar.g-room 𝓤 H A W E G30 5 (Syntax.tyInt
+              Syntax.w64) (Scalar.room-sc 𝓤 H A W (Row.sInt Syntax.w64))) d31
+
+          d33 : Typed.Typed 𝓤 H A 𝓣 E G5 b29 Δ0 (at33 bs)
+          d33 = Typed.s-seq 𝓤 H A W 𝓣 E G5 G30 b27 b28 Δ0 (Typed.pass T5 T30 (s26 bs)) (at32 bs) (Scalar.t-use 𝓤 H A W E 𝓣 G5 Scalar.oUnit 0
               (Rows.sc-here Row.sUnit) Syntax.tyUnit (Row.valS Row.sUnit) (Row.sUnit .of) tt (Reads'.room-gone 𝓤 H A Syntax.tyUnit) (Scalar.holds-sc 𝓤
-              H A W Row.sUnit) Path'.refl (λ u. Path'.refl) λ u. tt) d31
+              H A W Row.sUnit) Path'.refl (λ u. Path'.refl) λ u. tt) d32
 
-          d33 : Typed.Typed 𝓤 H A 𝓣 E G4 b30 Δ0 (at33 bs)
-          d33 = Typed.t-seq 𝓤 H A W 𝓣 E G4 G5 b26 b29 Δ0 (at28 bs) (at32 bs) d28 d32
+          d34 : Typed.Typed 𝓤 H A 𝓣 E G4 b30 Δ0 (at34 bs)
+          d34 = Typed.t-seq 𝓤 H A W 𝓣 E G4 G5 b26 b29 Δ0 (at28 bs) (at33 bs) d28 d33
 
-          d34 : Typed.Typed 𝓤 H A 𝓣 E G3 b31 Δ0 (at34 bs)
-          d34 = Typed.s-seq 𝓤 H A W 𝓣 E G3 G4 b1 b30 Δ0 (Typed.pass T3 T4 (s2 bs)) (at33 bs) (Scalar.t-use 𝓤 H A W E 𝓣 G3 (Scalar.oInt Syntax.w64 0) 5
+          d35 : Typed.Typed 𝓤 H A 𝓣 E G3 b31 Δ0 (at35 bs)
+          d35 = Typed.s-seq 𝓤 H A W 𝓣 E G3 G4 b1 b30 Δ0 (Typed.pass T3 T4 (s2 bs)) (at34 bs) (Scalar.t-use 𝓤 H A W E 𝓣 G3 (Scalar.oInt Syntax.w64 0) 6
               (Rows.sc-here (Row.sInt Syntax.w64)) (Syntax.tyInt Syntax.w64) (Row.valS (Row.sInt Syntax.w64)) (Row.sInt Syntax.w64 .of) tt
               (Reads'.room-gone 𝓤 H A (Syntax.tyInt Syntax.w64)) (Scalar.holds-sc 𝓤 H A W (Row.sInt Syntax.w64)) Path'.refl (λ u. Path'.refl) λ u. tt)
-              d33
+              d34
 
-          d35 : Typed.Typed 𝓤 H A 𝓣 E G2 b32 Δ0 (at35 bs)
-          d35 = Typed.s-seq 𝓤 H A W 𝓣 E G2 G3 b0 b31 Δ0 (Typed.pass T2 T3 (s1 bs)) (at34 bs) (Scalar.t-use 𝓤 H A W E 𝓣 G2 (Scalar.oFld 3 (List._∷_
-              (Syntax.field 2) List.[]) (Syntax.tyInt Syntax.w64) 16 (Reads.fieldV Found.the-type Laws'.the-laws 2)) 4 (Rows.sc-here (Row.sInt
+          d36 : Typed.Typed 𝓤 H A 𝓣 E G2 b32 Δ0 (at36 bs)
+          d36 = Typed.s-seq 𝓤 H A W 𝓣 E G2 G3 b0 b31 Δ0 (Typed.pass T2 T3 (s1 bs)) (at35 bs) (Scalar.t-use 𝓤 H A W E 𝓣 G2 (Scalar.oFld 4 (List._∷_
+              (Syntax.field 2) List.[]) (Syntax.tyInt Syntax.w64) 16 (Reads.fieldV Found.the-type Laws'.the-laws 2)) 5 (Rows.sc-here (Row.sInt
               Syntax.w64)) (Syntax.tyInt Syntax.w64) (Row.valS (Row.sInt Syntax.w64)) (Row.sInt Syntax.w64 .of) (
                 Reads.reads-field 𝓤 H A W
                     Found.the-type Laws'.the-laws 2 (Syntax.tyInt Syntax.w64) 16 Path'.refl,
                 Path'.refl,
               ) (Reads'.room-gone 𝓤 H A (Syntax.tyInt
-              Syntax.w64)) (Scalar.holds-sc 𝓤 H A W (Row.sInt Syntax.w64)) Path'.refl (λ u. Path'.refl) λ u. tt) d34
+              Syntax.w64)) (Scalar.holds-sc 𝓤 H A W (Row.sInt Syntax.w64)) Path'.refl (λ u. Path'.refl) λ u. tt) d35
 
-          d36 : Typed.Typed 𝓤 H A 𝓣 E G0 b32 Δ0 (at36 bs)
-          d36 = Typed.g-pre 𝓤 H A W 𝓣 E G0 G2 b32 Δ0 (Typed.give (s0 bs)) (at35 bs) (Know.g-shs-known 𝓤 H A W (Referent.fInt Syntax.w8) E G0 2 1
+          d37 : Typed.Typed 𝓤 H A 𝓣 E G0 b32 Δ0 (at37 bs)
+          d37 = Typed.g-pre 𝓤 H A W 𝓣 E G0 G2 b32 Δ0 (Typed.give (s0 bs)) (at36 bs) (Know.g-shs-known 𝓤 H A W (Referent.fInt Syntax.w8) E G0 3 1
               (Syntax.tyRef (Syntax.named 1) Syntax.imm (Syntax.tyInt Syntax.w8)) (Row.lease (κs .1 .0) (qs .1 .0)) 0 (λ x. x) record {
                 fits =
                     Dec'.lit< tt;
               } (Reads'.as-is 𝓤 H A (Rows.sslice (Referent.rtF (Referent.fInt Syntax.w8)) (Syntax.tyRef (Syntax.named 1) Syntax.imm
-              (Syntax.tyInt Syntax.w8)) 1)) Path'.refl tt) d35
+              (Syntax.tyInt Syntax.w8)) 1)) Path'.refl tt) d36
 
           pub typed : Typed.Typed 𝓤 H A 𝓣 E (Function.Γin 2 ps r xs m κs qs) b32 (Function.Δret 2 ps r xs m κs qs) (Φ bs)
-          typed = d36
+          typed = d37
 
       module _ (κs : Lifetimes.Lfts 2) where
         pub record Args : Type 0 where
           pub records : Kinds.Den {n = 2} κs (MutSlice.pMutS (Record.the-row) 0 tt)
+          pub party : Kinds.Den {n = 2} κs (Num.pNum Syntax.w64)
           pub text : Kinds.Den {n = 2} κs (ShrSlice.pShrS (Referent.rtF (Referent.fInt Syntax.w8)) 1 tt)
           pub found : Kinds.Den {n = 2} κs (Value.pVal record {
             ty = Declared.row Found.the-type;
@@ -1522,7 +1568,11 @@ module _ (claims· : Claims) where
           })
 
         abbrev pub dens : (a : Args) → Kinds.Dens κs ps
-        dens = λ a. (a .records, (a .text, (a .found, tt)))
+        dens = λ a. (a .records, (a .party, (a .text, (a .found, tt))))
+
+        module _ (args· : Args) where
+          pub record Ranges : Type 0 where
+            pub party : Val.Fits Syntax.w64 (args· .party)
 
       abbrev pub m0 : (κs : Lifetimes.Lfts 2) → (args : Args κs) → (blocks : List.List Nat.ℕ) → Typed.Mo T0
       m0 = λ κs args blocks. (tt, Enter.partsP κs 1 ps xs (dens κs args))
@@ -1540,6 +1590,7 @@ module _ (claims· : Claims) where
         pub args : Args κs
         pub blocks : List.List Nat.ℕ
         pub good : Kinds.GoodsP κs ps (dens κs args)
+        pub fits : Ranges κs args
         pub pre : Pre· κs (dens κs args)
 
       abbrev pub m1 : (before : Start) → (given : s0 (before .blocks) .gives (m0 (before .κs) (before .args) (before .blocks))) → Typed.Mo T2
@@ -1552,7 +1603,7 @@ module _ (claims· : Claims) where
       m3 = λ before given. s2 (before .blocks) (m2 before given)
 
       abbrev W1 : (before : Start) → (given : s0 (before .blocks) .gives (m0 (before .κs) (before .args) (before .blocks))) → Typed.Want O1
-      W1 = λ before given. Typed.wantNext T5 O0 (at32 (before .blocks) (W0 (before .κs) (before .args) (before .blocks))) (W0 (before .κs) (before
+      W1 = λ before given. Typed.wantNext T5 O0 (at33 (before .blocks) (W0 (before .κs) (before .args) (before .blocks))) (W0 (before .κs) (before
           .args) (before .blocks))
 
       abbrev W2 : (before : Start) → (given : s0 (before .blocks) .gives (m0 (before .κs) (before .args) (before .blocks))) → Typed.Want O2
@@ -1568,18 +1619,19 @@ module _ (claims· : Claims) where
 
       abbrev pub Need-loop-holds : Type 0
       Need-loop-holds = (c : After-shared-slice-known) → Inv·0 (Row.get 1 (T4 .locals) (m3 (c .before) (c .shared-slice-known .given)) .now) (Row.get
-          2 (T4 .locals) (m3 (c .before) (c .shared-slice-known .given)) .now) (Row.get 3 (T4 .locals) (m3 (c .before) (c .shared-slice-known
-          .given))) (Row.get 4 (T4 .locals) (m3 (c .before) (c .shared-slice-known .given))) (Row.get 5 (T4 .locals) (m3 (c .before) (c
-          .shared-slice-known .given))) (Row.get 1 (T4 .locals) (m3 (c .before) (c .shared-slice-known .given)) .now) (Row.get 4 (T4 .locals) (m3 (c
-          .before) (c .shared-slice-known .given))) (Row.get 5 (T4 .locals) (m3 (c .before) (c .shared-slice-known .given)))
+          2 (T4 .locals) (m3 (c .before) (c .shared-slice-known .given))) (Row.get 3 (T4 .locals) (m3 (c .before) (c .shared-slice-known .given))
+          .now) (Row.get 4 (T4 .locals) (m3 (c .before) (c .shared-slice-known .given))) (Row.get 5 (T4 .locals) (m3 (c .before) (c
+          .shared-slice-known .given))) (Row.get 6 (T4 .locals) (m3 (c .before) (c .shared-slice-known .given))) (Row.get 1 (T4 .locals) (m3 (c
+          .before) (c .shared-slice-known .given)) .now) (Row.get 5 (T4 .locals) (m3 (c .before) (c .shared-slice-known .given))) (Row.get 6 (T4
+          .locals) (m3 (c .before) (c .shared-slice-known .given)))
 
       abbrev pub m4 : (before : After-shared-slice-known) → (records : List.List (Record.the-row .Denot)) → (at : Rows.sc-here (Row.sInt Syntax.w64)
           .Mod) → (place : Rows.sc-here (Row.sInt Syntax.w64) .Mod) → Typed.Mo T4
-      m4 = λ before records at place. Row.set 5 row·29 place (Row.setRow 4 row·27 (Row.setRow 1 (
+      m4 = λ before records at place. Row.set 6 row·33 place (Row.setRow 5 row·31 (Row.setRow 1 (
         1,
         Mut.mslice (Record.the-row) (Syntax.tyRef
             (Syntax.named 0) Syntax.mut (Memory·.pointee (Record.the-row .written))) 0,
-      ) (T4 .locals))) (Row.set 4 row·27 at (Row.setRow 1 (
+      ) (T4 .locals))) (Row.set 5 row·31 at (Row.setRow 1 (
         1,
         Mut.mslice (Record.the-row) (Syntax.tyRef (Syntax.named 0) Syntax.mut (Memory·.pointee (Record.the-row .written))) 0,
       ) (T4 .locals))
@@ -1595,13 +1647,10 @@ module _ (claims· : Claims) where
       abbrev W3 : (before : After-shared-slice-known) → (records : List.List (Record.the-row .Denot)) → (at : Rows.sc-here (Row.sInt Syntax.w64) .Mod)
           → (place : Rows.sc-here (Row.sInt Syntax.w64) .Mod) → Typed.Want O3
       W3 = λ before records at place. Typed.inLoop T4 O2 (Typed.Round T4 O2 put0 (λ u vs. Inv·0 (Row.get 1 (T4 .locals) u .now) (Row.get 2 (T4
-          .locals) u .now) (Row.get 3 (T4 .locals) u) (Row.get 4 (T4 .locals) u) (Row.get 5 (T4 .locals) u) (vs .0) (vs .1) (vs .2)) (λ u vs. μ·0
-          (Row.get 1 (T4 .locals) u .now) (Row.get 2 (T4 .locals) u .now) (Row.get 3 (T4 .locals) u) (Row.get 4 (T4 .locals) u) (Row.get 5 (T4
-          .locals) u) (vs .0) (vs .1) (vs .2)) (at26 (before .before .blocks)) (m3 (before .before) (before .shared-slice-known .given)) (
-            records,
-            at,
-            place,
-          )) (W2 (before .before) (before .shared-slice-known .given))
+          .locals) u) (Row.get 3 (T4 .locals) u .now) (Row.get 4 (T4 .locals) u) (Row.get 5 (T4 .locals) u) (Row.get 6 (T4 .locals) u) (vs .0) (vs .1)
+          (vs .2)) (λ u vs. μ·0 (Row.get 1 (T4 .locals) u .now) (Row.get 2 (T4 .locals) u) (Row.get 3 (T4 .locals) u .now) (Row.get 4 (T4 .locals) u)
+          (Row.get 5 (T4 .locals) u) (Row.get 6 (T4 .locals) u) (vs .0) (vs .1) (vs .2)) (at26 (before .before .blocks)) (m3 (before .before) (before
+          .shared-slice-known .given)) (records, at, place)) (W2 (before .before) (before .shared-slice-known .given))
 
       abbrev pub m5 : (before : After-shared-slice-known) → (records : List.List (Record.the-row .Denot)) → (at : Rows.sc-here (Row.sInt Syntax.w64)
           .Mod) → (place : Rows.sc-here (Row.sInt Syntax.w64) .Mod) → Typed.Mo T6
@@ -1625,9 +1674,10 @@ module _ (claims· : Claims) where
           pub at : Rows.sc-here (Row.sInt Syntax.w64) .Mod
           pub place : Rows.sc-here (Row.sInt Syntax.w64) .Mod
           pub inv : Inv·0 (Row.get 1 (T4 .locals) (m3 (before· .before) (before· .shared-slice-known .given)) .now) (Row.get 2 (T4 .locals) (m3
-              (before· .before) (before· .shared-slice-known .given)) .now) (Row.get 3 (T4 .locals) (m3 (before· .before) (before· .shared-slice-known
-              .given))) (Row.get 4 (T4 .locals) (m3 (before· .before) (before· .shared-slice-known .given))) (Row.get 5 (T4 .locals) (m3 (before·
-              .before) (before· .shared-slice-known .given))) records at place
+              (before· .before) (before· .shared-slice-known .given))) (Row.get 3 (T4 .locals) (m3 (before· .before) (before· .shared-slice-known
+              .given)) .now) (Row.get 4 (T4 .locals) (m3 (before· .before) (before· .shared-slice-known .given))) (Row.get 5 (T4 .locals) (m3 (before·
+              .before) (before· .shared-slice-known .given))) (Row.get 6 (T4 .locals) (m3 (before· .before) (before· .shared-slice-known .given)))
+              records at place
 
       pub record At-loop : Type 0 where
         pub before : After-shared-slice-known
@@ -1635,8 +1685,8 @@ module _ (claims· : Claims) where
 
       module _ (before· : At-loop) where
         pub record In-loop·own : Type 0 where
-          pub taken : Nat._<_ (Row.get 5 (T6 .locals) (m5 (before· .before) (before· .loop .records) (before· .loop .at) (before· .loop .place)))
-              (Row.get 8 (T6 .locals) (m5 (before· .before) (before· .loop .records) (before· .loop .at) (before· .loop .place)))
+          pub taken : Nat._<_ (Row.get 6 (T6 .locals) (m5 (before· .before) (before· .loop .records) (before· .loop .at) (before· .loop .place)))
+              (Row.get 9 (T6 .locals) (m5 (before· .before) (before· .loop .records) (before· .loop .at) (before· .loop .place)))
 
       pub record In-loop : Type 0 where
         pub before : At-loop
@@ -1647,8 +1697,8 @@ module _ (claims· : Claims) where
 
       module _ (before· : At-loop) where
         pub record After-loop·own : Type 0 where
-          pub left : Nat._≤_ (Row.get 8 (T6 .locals) (m5 (before· .before) (before· .loop .records) (before· .loop .at) (before· .loop .place)))
-              (Row.get 5 (T6 .locals) (m5 (before· .before) (before· .loop .records) (before· .loop .at) (before· .loop .place)))
+          pub left : Nat._≤_ (Row.get 9 (T6 .locals) (m5 (before· .before) (before· .loop .records) (before· .loop .at) (before· .loop .place)))
+              (Row.get 6 (T6 .locals) (m5 (before· .before) (before· .loop .records) (before· .loop .at) (before· .loop .place)))
 
       pub record After-loop : Type 0 where
         pub before : At-loop
@@ -1669,15 +1719,32 @@ module _ (claims· : Claims) where
       module _ (before· : In-loop) where
         abbrev pub After-next-line·own : Type 0
         After-next-line·own = Called.Called ps·0 r·0 (claims· .1) T8 (
-          record {
-            pos = 2;
-            ty = Syntax.tyRef (Syntax.named 1) Syntax.imm (Syntax.tyInt
-                Syntax.w8);
-            ref = λ x. x;
-          },
-          (Num.vAt 4 λ x. x, (Num.vAt 5 λ x. x, (record { pos = 3; st = List.[]; d = 0; at = λ x. x }, tt))),
-        ) (m8
-            (before· .before))
+          Num.vAt 2 λ x. x,
+          (
+            record {
+              pos = 3;
+              ty = Syntax.tyRef (Syntax.named 1)
+                  Syntax.imm (Syntax.tyInt Syntax.w8);
+              ref = λ x. x;
+            },
+            (
+              Num.vAt 5 λ x. x,
+              (
+                Num.vAt 6 λ x. x,
+                (
+                  record {
+                    pos = 4;
+                    st = List.[];
+                    d = 0;
+                    at =
+                        λ x. x;
+                  },
+                  tt,
+                ),
+              ),
+            ),
+          ),
+        ) (m8 (before· .before))
 
       pub record After-next-line : Type 0 where
         pub before : In-loop
@@ -1685,19 +1752,28 @@ module _ (claims· : Claims) where
 
       abbrev pub After-next-line·gave : (c : After-next-line) → s9 (c .before .before .before .before .blocks) .gives (m8 (c .before .before))
       After-next-line·gave = λ c. Called.given ps·0 r·0 (claims· .1) T8 (
-        record {
-          pos = 2;
-          ty = Syntax.tyRef (Syntax.named 1) Syntax.imm
-              (Syntax.tyInt Syntax.w8);
-          ref = λ x. x;
-        },
+        Num.vAt 2 λ x. x,
         (
-          Num.vAt 4 λ x. x,
+          record {
+            pos = 3;
+            ty = Syntax.tyRef (Syntax.named 1)
+                Syntax.imm (Syntax.tyInt Syntax.w8);
+            ref = λ x. x;
+          },
           (
             Num.vAt 5 λ x. x,
             (
-              record { pos = 3; st = List.[]; d = 0; at = λ x. x },
-              tt,
+              Num.vAt 6 λ x. x,
+              (
+                record {
+                  pos = 4;
+                  st = List.[];
+                  d = 0;
+                  at = λ
+                      x. x;
+                },
+                tt,
+              ),
             ),
           ),
         ),
@@ -1751,12 +1827,12 @@ module _ (claims· : Claims) where
         abbrev pub After-put·own : Type 0
         After-put·own = Called.Called ps·1 r·1 (claims· .3) T19 (
           record {
-            pos = 12;
+            pos = 13;
             ty = Syntax.tyRef Syntax.erased Syntax.mut (Memory·.pointee
                 (Record.the-row .written));
             ref = λ x. x;
           },
-          (Num.vAt 13 λ x. x, (record { pos = 7; st = List.[]; d = 0; at = λ x. x }, tt)),
+          (Num.vAt 14 λ x. x, (record { pos = 8; st = List.[]; d = 0; at = λ x. x }, tt)),
         ) (m16
             (before· .before) (before· .put-arg .given))
 
@@ -1768,12 +1844,12 @@ module _ (claims· : Claims) where
           .before) (c .before .put-arg .given))
       After-put·gave = λ c. Called.given ps·1 r·1 (claims· .3) T19 (
         record {
-          pos = 12;
+          pos = 13;
           ty = Syntax.tyRef Syntax.erased Syntax.mut (Memory·.pointee
               (Record.the-row .written));
           ref = λ x. x;
         },
-        (Num.vAt 13 λ x. x, (record { pos = 7; st = List.[]; d = 0; at = λ x. x }, tt)),
+        (Num.vAt 14 λ x. x, (record { pos = 8; st = List.[]; d = 0; at = λ x. x }, tt)),
       ) (m16 (c
           .before .before) (c .before .put-arg .given)) (c .put)
 
@@ -1823,31 +1899,35 @@ module _ (claims· : Claims) where
       Need-loop-less = (c : After-records) → Nat._<_ (μ·0 (Row.get 1 (T4 .locals) (m3 (c .before .before .before .before .before .before .before
           .before) (c .before .before .before .before .before .before .before .shared-slice-known .given)) .now) (Row.get 2 (T4 .locals) (m3 (c
           .before .before .before .before .before .before .before .before) (c .before .before .before .before .before .before .before
-          .shared-slice-known .given)) .now) (Row.get 3 (T4 .locals) (m3 (c .before .before .before .before .before .before .before .before) (c
-          .before .before .before .before .before .before .before .shared-slice-known .given))) (Row.get 4 (T4 .locals) (m3 (c .before .before .before
+          .shared-slice-known .given))) (Row.get 3 (T4 .locals) (m3 (c .before .before .before .before .before .before .before .before) (c .before
+          .before .before .before .before .before .before .shared-slice-known .given)) .now) (Row.get 4 (T4 .locals) (m3 (c .before .before .before
           .before .before .before .before .before) (c .before .before .before .before .before .before .before .shared-slice-known .given))) (Row.get 5
           (T4 .locals) (m3 (c .before .before .before .before .before .before .before .before) (c .before .before .before .before .before .before
-          .before .shared-slice-known .given))) (Row.get 1 (T4 .locals) (m24 (c .before) (c .records .given)) .now) (Row.get 4 (T4 .locals) (m24 (c
-          .before) (c .records .given))) (Row.get 5 (T4 .locals) (m24 (c .before) (c .records .given)))) (μ·0 (Row.get 1 (T4 .locals) (m3 (c .before
-          .before .before .before .before .before .before .before) (c .before .before .before .before .before .before .before .shared-slice-known
-          .given)) .now) (Row.get 2 (T4 .locals) (m3 (c .before .before .before .before .before .before .before .before) (c .before .before .before
-          .before .before .before .before .shared-slice-known .given)) .now) (Row.get 3 (T4 .locals) (m3 (c .before .before .before .before .before
-          .before .before .before) (c .before .before .before .before .before .before .before .shared-slice-known .given))) (Row.get 4 (T4 .locals)
+          .before .shared-slice-known .given))) (Row.get 6 (T4 .locals) (m3 (c .before .before .before .before .before .before .before .before) (c
+          .before .before .before .before .before .before .before .shared-slice-known .given))) (Row.get 1 (T4 .locals) (m24 (c .before) (c .records
+          .given)) .now) (Row.get 5 (T4 .locals) (m24 (c .before) (c .records .given))) (Row.get 6 (T4 .locals) (m24 (c .before) (c .records
+          .given)))) (μ·0 (Row.get 1 (T4 .locals) (m3 (c .before .before .before .before .before .before .before .before) (c .before .before .before
+          .before .before .before .before .shared-slice-known .given)) .now) (Row.get 2 (T4 .locals) (m3 (c .before .before .before .before .before
+          .before .before .before) (c .before .before .before .before .before .before .before .shared-slice-known .given))) (Row.get 3 (T4 .locals)
           (m3 (c .before .before .before .before .before .before .before .before) (c .before .before .before .before .before .before .before
-          .shared-slice-known .given))) (Row.get 5 (T4 .locals) (m3 (c .before .before .before .before .before .before .before .before) (c .before
-          .before .before .before .before .before .before .shared-slice-known .given))) (c .before .before .before .before .before .before .loop
-          .records) (c .before .before .before .before .before .before .loop .at) (c .before .before .before .before .before .before .loop .place))
+          .shared-slice-known .given)) .now) (Row.get 4 (T4 .locals) (m3 (c .before .before .before .before .before .before .before .before) (c
+          .before .before .before .before .before .before .before .shared-slice-known .given))) (Row.get 5 (T4 .locals) (m3 (c .before .before .before
+          .before .before .before .before .before) (c .before .before .before .before .before .before .before .shared-slice-known .given))) (Row.get 6
+          (T4 .locals) (m3 (c .before .before .before .before .before .before .before .before) (c .before .before .before .before .before .before
+          .before .shared-slice-known .given))) (c .before .before .before .before .before .before .loop .records) (c .before .before .before .before
+          .before .before .loop .at) (c .before .before .before .before .before .before .loop .place))
 
       abbrev pub Need-loop-again : Type 0
       Need-loop-again = (c : After-records) → Inv·0 (Row.get 1 (T4 .locals) (m3 (c .before .before .before .before .before .before .before .before) (c
           .before .before .before .before .before .before .before .shared-slice-known .given)) .now) (Row.get 2 (T4 .locals) (m3 (c .before .before
-          .before .before .before .before .before .before) (c .before .before .before .before .before .before .before .shared-slice-known .given))
-          .now) (Row.get 3 (T4 .locals) (m3 (c .before .before .before .before .before .before .before .before) (c .before .before .before .before
-          .before .before .before .shared-slice-known .given))) (Row.get 4 (T4 .locals) (m3 (c .before .before .before .before .before .before .before
+          .before .before .before .before .before .before) (c .before .before .before .before .before .before .before .shared-slice-known .given)))
+          (Row.get 3 (T4 .locals) (m3 (c .before .before .before .before .before .before .before .before) (c .before .before .before .before .before
+          .before .before .shared-slice-known .given)) .now) (Row.get 4 (T4 .locals) (m3 (c .before .before .before .before .before .before .before
           .before) (c .before .before .before .before .before .before .before .shared-slice-known .given))) (Row.get 5 (T4 .locals) (m3 (c .before
           .before .before .before .before .before .before .before) (c .before .before .before .before .before .before .before .shared-slice-known
-          .given))) (Row.get 1 (T4 .locals) (m24 (c .before) (c .records .given)) .now) (Row.get 4 (T4 .locals) (m24 (c .before) (c .records .given)))
-          (Row.get 5 (T4 .locals) (m24 (c .before) (c .records .given)))
+          .given))) (Row.get 6 (T4 .locals) (m3 (c .before .before .before .before .before .before .before .before) (c .before .before .before .before
+          .before .before .before .shared-slice-known .given))) (Row.get 1 (T4 .locals) (m24 (c .before) (c .records .given)) .now) (Row.get 5 (T4
+          .locals) (m24 (c .before) (c .records .given))) (Row.get 6 (T4 .locals) (m24 (c .before) (c .records .given)))
 
       abbrev pub m25 : (before : At-loop) → Typed.Mo T30
       m25 = λ before. s26 (before .before .before .blocks) (m10 before)
@@ -1858,26 +1938,29 @@ module _ (claims· : Claims) where
       abbrev pub m27 : (before : At-loop) → Typed.Mo T32
       m27 = λ before. s28 (before .before .before .blocks) (m26 before)
 
+      abbrev pub m28 : (before : At-loop) → Typed.Mo T33
+      m28 = λ before. s29 (before .before .before .blocks) (m27 before)
+
       abbrev pub Need-same-length : Type 0
-      Need-same-length = (c : After-loop) → MutSlice.SameLen (Row.get 1 (T32 .locals) (m27 (c .before))) (dens (c .before .before .before .κs) (c
+      Need-same-length = (c : After-loop) → MutSlice.SameLen (Row.get 1 (T33 .locals) (m28 (c .before))) (dens (c .before .before .before .κs) (c
           .before .before .before .args) .0)
 
       abbrev pub Need-returns : Type 0
       Need-returns = (c : After-loop) → Post· (c .before .before .before .κs) (dens (c .before .before .before .κs) (c .before .before .before .args))
-          (Function.resV r (c .before .before .before .κs) (m27 (c .before) .0)) (Clauses.atExit (Kinds.endedOf 2 ps r) (c .before .before .before
+          (Function.resV r (c .before .before .before .κs) (m28 (c .before) .0)) (Clauses.atExit (Kinds.endedOf 2 ps r) (c .before .before .before
           .κs) (dens (c .before .before .before .κs) (c .before .before .before .args)) (Enter.lastsP (c .before .before .before .κs) 1 ps xs (dens (c
-          .before .before .before .κs) (c .before .before .before .args)) (m27 (c .before) .1)))
+          .before .before .before .κs) (c .before .before .before .args)) (m28 (c .before) .1)))
 
       module _ (loop-holds : Need-loop-holds) (next-line-requires : Need-next-line-requires) (put-requires : Need-put-requires) (add-place :
           Need-add-place) (loop-less : Need-loop-less) (loop-again : Need-loop-again) (same-length : Need-same-length) (returns : Need-returns) where
-        lay6 : (c : After-loop) → at32 (c .before .before .before .blocks) (W0 (c .before .before .before .κs) (c .before .before .before .args) (c
+        lay6 : (c : After-loop) → at33 (c .before .before .before .blocks) (W0 (c .before .before .before .κs) (c .before .before .before .args) (c
             .before .before .before .blocks)) (m10 (c .before))
         lay6 = λ c. (
           (
-            MutSlice.fix-len (Row.get 1 (T32 .locals) (m27 (c .before)) .ptr) (Row.get 1 (T32 .locals) (m27 (c .before)) .name) (Row.get 1
-                (T32 .locals) (m27 (c .before)) .now) (dens (c .before .before .before .κs) (c .before .before .before .args) .0 .now) (same-length record
+            MutSlice.fix-len (Row.get 1 (T33 .locals) (m28 (c .before)) .ptr) (Row.get 1 (T33 .locals) (m28 (c .before)) .name) (Row.get 1
+                (T33 .locals) (m28 (c .before)) .now) (dens (c .before .before .before .κs) (c .before .before .before .args) .0 .now) (same-length record
                 { before = c .before; loop-test = c .loop-test }),
-            (Path'.refl, (tt, tt)),
+            (tt, (Path'.refl, (tt, tt))),
           ),
           returns record {
             before = c .before;
@@ -1896,40 +1979,49 @@ module _ (claims· : Claims) where
             (
               μ·0 (Row.get 1 (T4 .locals) (m3 (c .before .before .before .before .before .before .before) (c .before .before .before .before .before
                   .before .shared-slice-known .given)) .now) (Row.get 2 (T4 .locals) (m3 (c .before .before .before .before .before .before .before) (c
-                  .before .before .before .before .before .before .shared-slice-known .given)) .now) (Row.get 3 (T4 .locals) (m3 (c .before .before .before
-                  .before .before .before .before) (c .before .before .before .before .before .before .shared-slice-known .given))) (Row.get 4 (T4 .locals)
-                  (m3 (c .before .before .before .before .before .before .before) (c .before .before .before .before .before .before .shared-slice-known
-                  .given))) (Row.get 5 (T4 .locals) (m3 (c .before .before .before .before .before .before .before) (c .before .before .before .before
-                  .before .before .shared-slice-known .given))) (Row.get 1 (T4 .locals) (m24 record { before = c .before; put = c .put } g) .now) (Row.get 4
-                  (T4 .locals) (m24 record { before = c .before; put = c .put } g)) (Row.get 5 (T4 .locals) (m24 record { before = c .before; put = c .put }
-                  g)),
-              loop-less record { before = record { before = c .before; put = c .put }; records = record { given = g } },
+                  .before .before .before .before .before .before .shared-slice-known .given))) (Row.get 3 (T4 .locals) (m3 (c .before .before .before
+                  .before .before .before .before) (c .before .before .before .before .before .before .shared-slice-known .given)) .now) (Row.get 4 (T4
+                  .locals) (m3 (c .before .before .before .before .before .before .before) (c .before .before .before .before .before .before
+                  .shared-slice-known .given))) (Row.get 5 (T4 .locals) (m3 (c .before .before .before .before .before .before .before) (c .before .before
+                  .before .before .before .before .shared-slice-known .given))) (Row.get 6 (T4 .locals) (m3 (c .before .before .before .before .before
+                  .before .before) (c .before .before .before .before .before .before .shared-slice-known .given))) (Row.get 1 (T4 .locals) (m24 record {
+                    before = c .before;
+                    put = c .put;
+                  } g) .now) (Row.get 5 (T4 .locals) (m24 record { before = c .before; put = c .put } g)) (Row.get 6 (T4
+                  .locals) (m24 record { before = c .before; put = c .put } g)),
+              loop-less record {
+                before = record { before = c .before; put = c .put };
+                records = record { given = g };
+              },
               (
                 (
-                  Row.get 1 (T4
-                      .locals) (m24 record { before = c .before; put = c .put } g) .now,
-                  Row.get 4 (T4 .locals) (m24 record { before = c .before; put = c .put }
-                      g),
-                  Row.get 5 (T4 .locals) (m24 record { before = c .before; put = c .put } g),
+                  Row.get 1 (T4 .locals) (m24 record { before = c .before; put = c .put } g) .now,
+                  Row.get 5 (T4
+                      .locals) (m24 record { before = c .before; put = c .put } g),
+                  Row.get 6 (T4 .locals) (m24 record { before = c .before; put = c .put } g),
                 ),
-                Path'.refl {a = m24 record {
-                  before = c .before;
-                  put =
-                      c .put;
-                } g},
-                loop-again record { before = record { before = c .before; put = c .put }; records = record { given = g } },
-                Path'.refl {a =
-                    μ·0 (Row.get 1 (T4 .locals) (m3 (c .before .before .before .before .before .before .before) (c .before .before .before .before .before
-                    .before .shared-slice-known .given)) .now) (Row.get 2 (T4 .locals) (m3 (c .before .before .before .before .before .before .before) (c
-                    .before .before .before .before .before .before .shared-slice-known .given)) .now) (Row.get 3 (T4 .locals) (m3 (c .before .before .before
-                    .before .before .before .before) (c .before .before .before .before .before .before .shared-slice-known .given))) (Row.get 4 (T4 .locals)
-                    (m3 (c .before .before .before .before .before .before .before) (c .before .before .before .before .before .before .shared-slice-known
-                    .given))) (Row.get 5 (T4 .locals) (m3 (c .before .before .before .before .before .before .before) (c .before .before .before .before
-                    .before .before .shared-slice-known .given))) (Row.get 1 (T4 .locals) (m24 record { before = c .before; put = c .put } g) .now) (Row.get
-                    4 (T4 .locals) (m24 record { before = c .before; put = c .put } g)) (Row.get 5 (T4 .locals) (m24 record {
-                      before = c .before;
+                Path'.refl {a = m24 record { before = c .before; put = c .put } g},
+                loop-again record {
+                  before = record {
+                    before = c .before;
+                    put = c
+                        .put;
+                  };
+                  records = record { given = g };
+                },
+                Path'.refl {a = μ·0 (Row.get 1 (T4 .locals) (m3 (c .before .before .before .before .before
+                    .before .before) (c .before .before .before .before .before .before .shared-slice-known .given)) .now) (Row.get 2 (T4 .locals) (m3 (c
+                    .before .before .before .before .before .before .before) (c .before .before .before .before .before .before .shared-slice-known .given)))
+                    (Row.get 3 (T4 .locals) (m3 (c .before .before .before .before .before .before .before) (c .before .before .before .before .before .before
+                    .shared-slice-known .given)) .now) (Row.get 4 (T4 .locals) (m3 (c .before .before .before .before .before .before .before) (c .before
+                    .before .before .before .before .before .shared-slice-known .given))) (Row.get 5 (T4 .locals) (m3 (c .before .before .before .before
+                    .before .before .before) (c .before .before .before .before .before .before .shared-slice-known .given))) (Row.get 6 (T4 .locals) (m3 (c
+                    .before .before .before .before .before .before .before) (c .before .before .before .before .before .before .shared-slice-known .given)))
+                    (Row.get 1 (T4 .locals) (m24 record { before = c .before; put = c .put } g) .now) (Row.get 5 (T4 .locals) (m24 record {
+                      before = c
+                          .before;
                       put = c .put;
-                    } g))},
+                    } g)) (Row.get 6 (T4 .locals) (m24 record { before = c .before; put = c .put } g))},
               ),
             ),
           ),
@@ -1964,12 +2056,12 @@ module _ (claims· : Claims) where
                 put =
                     Called.called ps·1 r·1 (claims· .3) T19 (
                       record {
-                        pos = 12;
+                        pos = 13;
                         ty = Syntax.tyRef Syntax.erased Syntax.mut (Memory·.pointee (Record.the-row
                             .written));
                         ref = λ x. x;
                       },
-                      (Num.vAt 13 λ x. x, (record { pos = 7; st = List.[]; d = 0; at = λ x. x }, tt)),
+                      (Num.vAt 14 λ x. x, (record { pos = 8; st = List.[]; d = 0; at = λ x. x }, tt)),
                     ) (m16 record {
                       before =
                           record { before = c .before; next-line = c .next-line };
@@ -1991,25 +2083,28 @@ module _ (claims· : Claims) where
               loop-test = c .loop-test;
             };
             next-line = Called.called ps·0 r·0 (claims· .1) T8 (
-              record {
-                pos = 2;
-                ty = Syntax.tyRef
-                    (Syntax.named 1) Syntax.imm (Syntax.tyInt Syntax.w8);
-                ref = λ x. x;
-              },
+              Num.vAt 2 λ x. x,
               (
-                Num.vAt 4 λ x. x,
+                record {
+                  pos = 3;
+                  ty =
+                      Syntax.tyRef (Syntax.named 1) Syntax.imm (Syntax.tyInt Syntax.w8);
+                  ref = λ x. x;
+                },
                 (
                   Num.vAt 5 λ x. x,
                   (
-                    record {
-                      pos = 3;
-                      st =
-                          List.[];
-                      d = 0;
-                      at = λ x. x;
-                    },
-                    tt,
+                    Num.vAt 6 λ x. x,
+                    (
+                      record {
+                        pos =
+                            4;
+                        st = List.[];
+                        d = 0;
+                        at = λ x. x;
+                      },
+                      tt,
+                    ),
                   ),
                 ),
               ),
@@ -2025,10 +2120,10 @@ module _ (claims· : Claims) where
             .before .loop .place)) (m7 (c .before .before) (c .before .loop .records) (c .before .loop .at) (c .before .loop .place))
         lay1 = λ c. lay3 record { before = c .before; loop-test = c .loop-test }
 
-        pub laid : (c : Start) → at36 (c .blocks) (W0 (c .κs) (c .args) (c .blocks)) (m0 (c .κs) (c .args) (c .blocks))
+        pub laid : (c : Start) → at37 (c .blocks) (W0 (c .κs) (c .args) (c .blocks)) (m0 (c .κs) (c .args) (c .blocks))
         laid = λ c. λ g. (
           (
-            (Row.get 1 (T4 .locals) (m3 c g) .now, Row.get 4 (T4 .locals) (m3 c g), Row.get 5 (T4 .locals) (m3 c g)),
+            (Row.get 1 (T4 .locals) (m3 c g) .now, Row.get 5 (T4 .locals) (m3 c g), Row.get 6 (T4 .locals) (m3 c g)),
             Path'.refl
                 {a = m3 c g},
             loop-holds record { before = c; shared-slice-known = record { given = g } },
@@ -2047,10 +2142,10 @@ module _ (claims· : Claims) where
                   };
                 };
                 loop-test = record {
-                  taken = Tests.ltb-true (Row.get 5 (T6 .locals) (m5 record {
+                  taken = Tests.ltb-true (Row.get 6 (T6 .locals) (m5 record {
                     before = c;
                     shared-slice-known = record { given = g };
-                  } (vs .0) (vs .1) (vs .2))) (Row.get 8 (T6 .locals) (m5 record {
+                  } (vs .0) (vs .1) (vs .2))) (Row.get 9 (T6 .locals) (m5 record {
                     before = c;
                     shared-slice-known
                         = record { given = g };
@@ -2067,8 +2162,8 @@ module _ (claims· : Claims) where
                 };
                 loop-test =
                     record {
-                      left = Tests.ltb-false (Row.get 5 (T6 .locals) (m5 record { before = c; shared-slice-known = record { given = g } } (vs .0) (vs
-                          .1) (vs .2))) (Row.get 8 (T6 .locals) (m5 record { before = c; shared-slice-known = record { given = g } } (vs .0) (vs .1) (vs .2)))
+                      left = Tests.ltb-false (Row.get 6 (T6 .locals) (m5 record { before = c; shared-slice-known = record { given = g } } (vs .0) (vs
+                          .1) (vs .2))) (Row.get 9 (T6 .locals) (m5 record { before = c; shared-slice-known = record { given = g } } (vs .0) (vs .1) (vs .2)))
                           left;
                     };
               },
@@ -2081,10 +2176,15 @@ module _ (claims· : Claims) where
               m κs qs a (Post· κs a)) (Function.init 2 ps r xs m κs qs a)
           asked = λ a good pre bs. laid record {
             κs = κs;
-            args = record { records = a .0; text = a .1 .0; found = a .1 .1 .0 };
+            args = record {
+              records = a .0;
+              party = a .1 .0;
+              text = a .1 .1 .0;
+              found = a .1 .1 .1 .0;
+            };
             blocks = bs;
-            good =
-                good;
+            good = good;
+            fits = record { party = record { fits = good .1 .0 .1 } };
             pre = pre;
           }
 

@@ -22,21 +22,21 @@ form : (c : tie.After-named) →
 form c = sym (c .before .before .read-field .ensures) ∙ c .named .given .1
 
 returns : tie.Need-returns
-returns c = full-no-front _ _ (none-read _ _ frontEnds _ (c .before .before .read-fields .ensures) (not-true _ (c .if1 .taken)))
+returns c = full-no-front _ _ _ (none-read _ _ frontEnds _ (c .before .before .read-fields .ensures) (not-true _ (c .if1 .taken)))
 
 returns-2 : tie.Need-returns-2
-returns-2 c = full-no-name _ _ _ (front (c .before .before .before)) (sym (c .before .before .read-field .ensures) ∙ c .enum-told .given .1)
+returns-2 c = full-no-name _ _ _ _ (front (c .before .before .before)) (sym (c .before .before .read-field .ensures) ∙ c .enum-told .given .1)
 
 returns-3 : tie.Need-returns-3
 returns-3 c =
     let n = c .before .before .before .before .before in
-    full-no-tail _ _ _ (front (n .before .before .before)) _ _ (form n) (none-read _ _ ends _ (c .before .before .read-fields2 .ensures) (not-true _ (c .if2 .taken)))
+    full-no-tail _ _ _ _ (front (n .before .before .before)) _ _ (form n) (none-read _ _ ends _ (c .before .before .read-fields2 .ensures) (not-true _ (c .if2 .taken)))
 
 returns-4 : tie.Need-returns-4
 returns-4 c =
     let e = c .before .before in
     let n = e .before .before .before .before .before in
-    full-some _ _ _ (front (n .before .before .before)) _ _ (form n) _ (all-read _ _ ends _ (e .before .before .read-fields2 .ensures) (omega arith) (not-false _ (e .if2 .left)))
+    full-some _ _ _ _ (front (n .before .before .before)) _ _ (form n) _ (all-read _ _ ends _ (e .before .before .read-fields2 .ensures) (omega arith) (not-false _ (e .if2 .left)))
 
 pub read-full-spec : {M : Type 1} → statement M
 read-full-spec =

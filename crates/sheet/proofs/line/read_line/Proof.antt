@@ -7,11 +7,11 @@ use Rattle.sheet.proofs.line.read_line.Tie as tie
 
 returns : tie.Need-returns
 unfolding lineAt
-returns c = rw (c .before .before .enum-told .given .1) (c .test .ensures ∙ ap tested (c .before .read-full .ensures))
+returns c = rw (c .before .before .enum-told .given .1) (c .test .ensures ∙ ap (tested (c .before .before .before .before .before .args .party)) (c .before .read-full .ensures))
 
 returns-2 : tie.Need-returns-2
 unfolding lineAt
-returns-2 c = rw (c .before .before .enum-told2 .given .1) (c .test2 .ensures ∙ ap tested (c .before .read-old .ensures))
+returns-2 c = rw (c .before .before .enum-told2 .given .1) (c .test2 .ensures ∙ ap (tested (c .before .before .before .before .before .args .party)) (c .before .read-old .ensures))
 
 pub read-line-spec : {M : Type 1} → statement M
 read-line-spec =

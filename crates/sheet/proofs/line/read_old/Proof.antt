@@ -12,13 +12,13 @@ use Rattle.sheet.proofs.line.read_old.Statement.{statement}
 use Rattle.sheet.proofs.line.read_old.Tie as tie
 
 returns : tie.Need-returns
-returns c = old-none _ _ (none-read _ _ ends _ (c .before .before .read-fields .ensures) (not-true _ (c .if1 .taken)))
+returns c = old-none _ _ _ (none-read _ _ ends _ (c .before .before .read-fields .ensures) (not-true _ (c .if1 .taken)))
 
 returns-2 : tie.Need-returns-2
 returns-2 c =
     let e = c .before .before in
     ap (λ (r : Record). Read r (e .before .before .read-fields .result .next)) (c .whole-record .ensures)
-    ∙ old-some _ _ _ (all-read _ _ ends _ (e .before .before .read-fields .ensures) (omega arith) (not-false _ (e .if1 .left)))
+    ∙ old-some _ _ _ _ (all-read _ _ ends _ (e .before .before .read-fields .ensures) (omega arith) (not-false _ (e .if1 .left)))
 
 pub read-old-spec : {M : Type 1} → statement M
 read-old-spec =

@@ -6,10 +6,10 @@ use Rattle.sheet.proofs.line.test.Statement.{statement}
 use Rattle.sheet.proofs.line.test.Tie as tie
 
 returns-2 : tie.Need-returns-2
-returns-2 c = rw (sym (c .before .may-stand .ensures) ∙ c .if1 .taken) at (ap tested (sym (c .before .before .before .line .given .1)))
+returns-2 c = rw (sym (c .before .may-stand .ensures) ∙ c .if1 .taken) at (ap (tested (c .before .before .before .before .before .args .party)) (sym (c .before .before .before .line .given .1)))
 
 returns-3 : tie.Need-returns-3
-returns-3 c = rw (sym (c .before .may-stand .ensures) ∙ c .if1 .left) at (ap tested (sym (c .before .before .before .line .given .1)))
+returns-3 c = rw (sym (c .before .may-stand .ensures) ∙ c .if1 .left) at (ap (tested (c .before .before .before .before .before .args .party)) (sym (c .before .before .before .line .given .1)))
 
 pub test-spec : {M : Type 1} → statement M
 test-spec = tie.close (tie.spec (λ c. search needs) (λ c. search needs) (λ c. search needs) (λ c κs. search needs) returns-2 returns-3)

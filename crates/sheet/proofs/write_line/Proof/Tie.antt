@@ -2,9 +2,9 @@
 use Rattle.records.proofs.get.Met
 use Rattle.records.proofs.Made.get.Reads
 use Rattle.records.proofs.get.Symbol
-use Rattle.records.proofs.is_valid.Met as Met'
-use Rattle.records.proofs.Made.is_valid.Reads as Reads'
-use Rattle.records.proofs.is_valid.Symbol as Symbol'
+use Rattle.records.proofs.own_of.Met as Met'
+use Rattle.records.proofs.Made.own_of.Reads as Reads'
+use Rattle.records.proofs.own_of.Symbol as Symbol'
 use Rattle.records.proofs.place_before.Met as Met''
 use Rattle.records.proofs.place_before.Reads as Reads''
 use Rattle.records.proofs.place_before.Symbol as Symbol''
@@ -37,8 +37,56 @@ After-slice-known = Lts.After-slice-known (
   Reads'3.Learnt,
 ) Reads'4.Pre Reads'4.Post
 
-abbrev pub After-is-valid : Type 0
-After-is-valid = Lts.After-is-valid (
+abbrev pub After-own-of : Type 0
+After-own-of = Lts.After-own-of (
+  Reads'.Asked,
+  Reads'.Learnt,
+  Reads''.Asked,
+  Reads''.Learnt,
+  Reads.Asked,
+  Reads.Learnt,
+  Reads'3.Asked,
+  Reads'3.Learnt,
+) Reads'4.Pre Reads'4.Post
+
+abbrev pub After-view : Type 0
+After-view = Lts.After-view (Reads'.Asked, Reads'.Learnt, Reads''.Asked, Reads''.Learnt, Reads.Asked, Reads.Learnt, Reads'3.Asked, Reads'3.Learnt)
+    Reads'4.Pre Reads'4.Post
+
+abbrev pub After-struct-known : Type 0
+After-struct-known = Lts.After-struct-known (
+  Reads'.Asked,
+  Reads'.Learnt,
+  Reads''.Asked,
+  Reads''.Learnt,
+  Reads.Asked,
+  Reads.Learnt,
+  Reads'3.Asked,
+  Reads'3.Learnt,
+) Reads'4.Pre Reads'4.Post
+
+abbrev pub Then1 : Type 0
+Then1 = Lts.Then1 (Reads'.Asked, Reads'.Learnt, Reads''.Asked, Reads''.Learnt, Reads.Asked, Reads.Learnt, Reads'3.Asked, Reads'3.Learnt)
+    Reads'4.Pre Reads'4.Post
+
+abbrev pub Else1 : Type 0
+Else1 = Lts.Else1 (Reads'.Asked, Reads'.Learnt, Reads''.Asked, Reads''.Learnt, Reads.Asked, Reads.Learnt, Reads'3.Asked, Reads'3.Learnt)
+    Reads'4.Pre Reads'4.Post
+
+abbrev pub After-struct-known2 : Type 0
+After-struct-known2 = Lts.After-struct-known2 (
+  Reads'.Asked,
+  Reads'.Learnt,
+  Reads''.Asked,
+  Reads''.Learnt,
+  Reads.Asked,
+  Reads.Learnt,
+  Reads'3.Asked,
+  Reads'3.Learnt,
+) Reads'4.Pre Reads'4.Post
+
+abbrev pub After-get-arg : Type 0
+After-get-arg = Lts.After-get-arg (
   Reads'.Asked,
   Reads'.Learnt,
   Reads''.Asked,
@@ -105,8 +153,80 @@ After-slice-known2 = Lts.After-slice-known2 (
   Reads'3.Learnt,
 ) Reads'4.Pre Reads'4.Post
 
-abbrev pub Need-is-valid-requires : Type 0
-Need-is-valid-requires = Lts.Need-is-valid-requires (
+abbrev pub Need-own-of-requires : Type 0
+Need-own-of-requires = Lts.Need-own-of-requires (
+  Reads'.Asked,
+  Reads'.Learnt,
+  Reads''.Asked,
+  Reads''.Learnt,
+  Reads.Asked,
+  Reads.Learnt,
+  Reads'3.Asked,
+  Reads'3.Learnt,
+) Reads'4.Pre Reads'4.Post
+
+abbrev pub Need-returns : Type 0
+Need-returns = Lts.Need-returns (
+  Reads'.Asked,
+  Reads'.Learnt,
+  Reads''.Asked,
+  Reads''.Learnt,
+  Reads.Asked,
+  Reads.Learnt,
+  Reads'3.Asked,
+  Reads'3.Learnt,
+) Reads'4.Pre Reads'4.Post
+
+abbrev pub Need-add-end : Type 0
+Need-add-end = Lts.Need-add-end (
+  Reads'.Asked,
+  Reads'.Learnt,
+  Reads''.Asked,
+  Reads''.Learnt,
+  Reads.Asked,
+  Reads.Learnt,
+  Reads'3.Asked,
+  Reads'3.Learnt,
+) Reads'4.Pre Reads'4.Post
+
+abbrev pub Need-mul-get : Type 0
+Need-mul-get = Lts.Need-mul-get (
+  Reads'.Asked,
+  Reads'.Learnt,
+  Reads''.Asked,
+  Reads''.Learnt,
+  Reads.Asked,
+  Reads.Learnt,
+  Reads'3.Asked,
+  Reads'3.Learnt,
+) Reads'4.Pre Reads'4.Post
+
+abbrev pub Need-sub-get : Type 0
+Need-sub-get = Lts.Need-sub-get (
+  Reads'.Asked,
+  Reads'.Learnt,
+  Reads''.Asked,
+  Reads''.Learnt,
+  Reads.Asked,
+  Reads.Learnt,
+  Reads'3.Asked,
+  Reads'3.Learnt,
+) Reads'4.Pre Reads'4.Post
+
+abbrev pub Need-part-get-start : Type 0
+Need-part-get-start = Lts.Need-part-get-start (
+  Reads'.Asked,
+  Reads'.Learnt,
+  Reads''.Asked,
+  Reads''.Learnt,
+  Reads.Asked,
+  Reads.Learnt,
+  Reads'3.Asked,
+  Reads'3.Learnt,
+) Reads'4.Pre Reads'4.Post
+
+abbrev pub Need-part-get-end : Type 0
+Need-part-get-end = Lts.Need-part-get-end (
   Reads'.Asked,
   Reads'.Learnt,
   Reads''.Asked,
@@ -165,8 +285,8 @@ Need-same-length = Lts.Need-same-length (
   Reads'3.Learnt,
 ) Reads'4.Pre Reads'4.Post
 
-abbrev pub Need-returns : Type 0
-Need-returns = Lts.Need-returns (
+abbrev pub Need-returns-2 : Type 0
+Need-returns-2 = Lts.Need-returns-2 (
   Reads'.Asked,
   Reads'.Learnt,
   Reads''.Asked,
@@ -178,8 +298,9 @@ Need-returns = Lts.Need-returns (
 ) Reads'4.Pre Reads'4.Post
 
 module _ {M : Type 1} where
-  pub spec : (answer : Need-is-valid-requires) → (answer : Need-place-before-requires) → (answer : Need-get-requires) → (answer :
-      Need-write-numbered-requires) → (answer : Need-same-length) → (answer : Need-returns) → Lts.Closed (
+  pub spec : (answer : Need-own-of-requires) → (answer : Need-returns) → (answer : Need-add-end) → (answer : Need-mul-get) → (answer : Need-sub-get) →
+      (answer : Need-part-get-start) → (answer : Need-part-get-end) → (answer : Need-place-before-requires) → (answer : Need-get-requires) → (answer :
+      Need-write-numbered-requires) → (answer : Need-same-length) → (answer : Need-returns-2) → Lts.Closed (
         Reads'.Asked,
         Reads'.Learnt,
         Reads''.Asked,
@@ -189,7 +310,7 @@ module _ {M : Type 1} where
         Reads'3.Asked,
         Reads'3.Learnt,
       ) Reads'4.Pre Reads'4.Post M
-  spec = λ answer answer' answer'' answer'3 answer'4 answer'5. Lts.spec (
+  spec = λ answer answer' answer'' answer'3 answer'4 answer'5 answer'6 answer'7 answer'8 answer'9 answer'10 answer'11. Lts.spec (
     Reads'.Asked,
     Reads'.Learnt,
     Reads''.Asked,
@@ -198,7 +319,8 @@ module _ {M : Type 1} where
     Reads.Learnt,
     Reads'3.Asked,
     Reads'3.Learnt,
-  ) Reads'4.Pre Reads'4.Post answer answer' answer'' answer'3 answer'4 answer'5
+  ) Reads'4.Pre Reads'4.Post answer
+      answer' answer'' answer'3 answer'4 answer'5 answer'6 answer'7 answer'8 answer'9 answer'10 answer'11
 
   pub close : Lts.Closed (Reads'.Asked, Reads'.Learnt, Reads''.Asked, Reads''.Learnt, Reads.Asked, Reads.Learnt, Reads'3.Asked, Reads'3.Learnt)
       Reads'4.Pre Reads'4.Post M → Statement.statement M
@@ -221,15 +343,22 @@ module _ {M : Type 1} where
         𝓖
             = 𝓖;
         𝓡 = 𝓡;
-      } Code.env Symbol'.name Symbol'.routine Code.calls-records·is-valid (Met'.met 𝓤 H 𝓜 𝓖 𝓡)) (Reads''.known record {
+      } Code.env Symbol'.name Symbol'.routine Code.calls-records·own-of (Met'.met 𝓤 H 𝓜 𝓖 𝓡)) (Reads''.known record {
         M = M;
         𝓤 = 𝓤;
-        H =
-            H;
+        H = H;
         𝓜 = 𝓜;
         𝓖 = 𝓖;
         𝓡 = 𝓡;
       } Code.env Symbol''.name Symbol''.routine Code.calls-records·place-before (Met''.met 𝓤 H 𝓜 𝓖 𝓡)) (Reads.known record {
+        M =
+            M;
+        𝓤 = 𝓤;
+        H = H;
+        𝓜 = 𝓜;
+        𝓖 = 𝓖;
+        𝓡 = 𝓡;
+      } Code.env Symbol.name Symbol.routine Code.calls-records·get (Met.met 𝓤 H 𝓜 𝓖 𝓡)) (Reads'3.known record {
         M
             = M;
         𝓤 = 𝓤;
@@ -237,12 +366,4 @@ module _ {M : Type 1} where
         𝓜 = 𝓜;
         𝓖 = 𝓖;
         𝓡 = 𝓡;
-      } Code.env Symbol.name Symbol.routine Code.calls-records·get (Met.met 𝓤 H 𝓜 𝓖 𝓡)) (Reads'3.known record {
-        M = M;
-        𝓤 = 𝓤;
-        H = H;
-        𝓜 = 𝓜;
-        𝓖 = 𝓖;
-        𝓡 = 𝓡;
-      } Code.env Symbol'3.name Symbol'3.routine Code.calls-sheet·numbered·write-numbered (Met'3.met 𝓤 H 𝓜 𝓖
-      𝓡))
+      } Code.env Symbol'3.name Symbol'3.routine Code.calls-sheet·numbered·write-numbered (Met'3.met 𝓤 H 𝓜 𝓖 𝓡))

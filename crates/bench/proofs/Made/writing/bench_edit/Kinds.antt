@@ -14,8 +14,12 @@ ps =
     (List._∷_
     (Kinds.pNum Syntax.w64)
     (List._∷_
+    (Kinds.pNum Syntax.w64)
+    (List._∷_
+    (Kinds.pNum Syntax.w64)
+    (List._∷_
     (MutSlice.pMutS (Elem.the-row) 1 tt)
-    (List._∷_ (Kinds.pNum Syntax.w64) List.[])))
+    (List._∷_ (Kinds.pNum Syntax.w64) (List._∷_ (Kinds.pNum Syntax.w64) List.[]))))))
 
 abbrev pub r : Kinds.RK 2
 r = Kinds.rNum Syntax.w64

@@ -13,10 +13,16 @@ ps =
     List._∷_
     (Kinds.pNum Syntax.w64)
     (List._∷_
+    (Kinds.pNum Syntax.w64)
+    (List._∷_
+    (Kinds.pNum Syntax.w64)
+    (List._∷_
     (ShrSlice.pShrS (Elem.the-row) 0 tt)
     (List._∷_
+    (Kinds.pNum Syntax.w64)
+    (List._∷_
     (MutSlice.pMutS (Referent.rtF (Referent.fInt Syntax.w8)) 1 tt)
-    (List._∷_ (Kinds.pNum Syntax.w64) List.[])))
+    (List._∷_ (Kinds.pNum Syntax.w64) List.[]))))))
 
 abbrev pub r : Kinds.RK 2
 r = Kinds.rNum Syntax.w64

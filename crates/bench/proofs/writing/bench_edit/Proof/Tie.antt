@@ -235,6 +235,18 @@ After-records2 = λ Inv μ. Lts.After-records2 (
   Reads.Learnt,
 ) Reads'.Pre Reads'.Post Inv μ
 
+abbrev pub After-counts : (Inv : InvT-loop) → (μ : MeasureT-loop) → Type 0
+After-counts = λ Inv μ. Lts.After-counts (
+  Reads''.Asked,
+  Reads''.Learnt,
+  Reads'3.Asked,
+  Reads'3.Learnt,
+  Reads'4.Asked,
+  Reads'4.Learnt,
+  Reads.Asked,
+  Reads.Learnt,
+) Reads'.Pre Reads'.Post Inv μ
+
 abbrev pub After-struct-known : (Inv : InvT-loop) → (μ : MeasureT-loop) → Type 0
 After-struct-known = λ Inv μ. Lts.After-struct-known (
   Reads''.Asked,

@@ -46,6 +46,9 @@ After-load = λ Inv μ. Lts.After-load (Reads''.Asked, Reads''.Learnt, Reads.Ask
 abbrev pub After-records : (Inv : InvT-loop) → (μ : MeasureT-loop) → Type 0
 After-records = λ Inv μ. Lts.After-records (Reads''.Asked, Reads''.Learnt, Reads.Asked, Reads.Learnt) Reads'.Pre Reads'.Post Inv μ
 
+abbrev pub After-counts : (Inv : InvT-loop) → (μ : MeasureT-loop) → Type 0
+After-counts = λ Inv μ. Lts.After-counts (Reads''.Asked, Reads''.Learnt, Reads.Asked, Reads.Learnt) Reads'.Pre Reads'.Post Inv μ
+
 abbrev pub After-struct-known : (Inv : InvT-loop) → (μ : MeasureT-loop) → Type 0
 After-struct-known = λ Inv μ. Lts.After-struct-known (Reads''.Asked, Reads''.Learnt, Reads.Asked, Reads.Learnt) Reads'.Pre Reads'.Post Inv μ
 

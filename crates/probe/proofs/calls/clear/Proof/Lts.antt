@@ -70,7 +70,8 @@ ty0·2 = (Syntax.tyStruct (List._∷_ 38 (List._∷_ 91 (List._∷_ 93 List.[]))
 abbrev ty1·0 : Syntax.Ty
 ty1·0 = (Syntax.tyStruct (List._∷_ 114 (List._∷_ 101 (List._∷_ 99 (List._∷_ 111 (List._∷_ 114 (List._∷_ 100 (List._∷_ 58 (List._∷_ 58 (List._∷_ 82
     (List._∷_ 101 (List._∷_ 99 (List._∷_ 111 (List._∷_ 114 (List._∷_ 100 List.[])))))))))))))) (Syntax.tcons (Syntax.tyInt Syntax.w64) (Syntax.tcons
-    (Syntax.tyInt Syntax.w64) (Syntax.tcons ty0·0 (Syntax.tcons (Syntax.tyInt Syntax.w64) (Syntax.tcons ty0·1 (Syntax.tcons ty0·1 Syntax.tnil)))))))
+    (Syntax.tyInt Syntax.w64) (Syntax.tcons (Syntax.tyInt Syntax.w64) (Syntax.tcons ty0·0 (Syntax.tcons (Syntax.tyInt Syntax.w64) (Syntax.tcons ty0·1
+    (Syntax.tcons ty0·1 Syntax.tnil))))))))
 
 abbrev row·0 : Row.Entry
 row·0 = (10, Rows.any-gone ty0·1)
@@ -256,8 +257,8 @@ b11 = Syntax.assign (Syntax.place 10 List.[]) (Syntax.aggregate (List._∷_ (Syn
 
 abbrev b12 : Syntax.Body
 b12 = Syntax.assign (Syntax.place 11 List.[]) (Syntax.aggregate (List._∷_ (Syntax.int Syntax.w64 0) (List._∷_ (Syntax.int Syntax.w64 0) (List._∷_
-    (Syntax.copy (Syntax.place 8 List.[])) (List._∷_ (Syntax.int Syntax.w64 0) (List._∷_ (Syntax.copy (Syntax.place 9 List.[])) (List._∷_ (Syntax.copy
-    (Syntax.place 10 List.[])) List.[])))))))
+    (Syntax.int Syntax.w64 0) (List._∷_ (Syntax.copy (Syntax.place 8 List.[])) (List._∷_ (Syntax.int Syntax.w64 0) (List._∷_ (Syntax.copy
+    (Syntax.place 9 List.[])) (List._∷_ (Syntax.copy (Syntax.place 10 List.[])) List.[]))))))))
 
 abbrev b13 : Syntax.Body
 b13 = Syntax.call "records::put" (List._∷_ (Syntax.copy (Syntax.place 7 List.[])) (List._∷_ (Syntax.copy (Syntax.place 2 List.[])) (List._∷_
@@ -584,12 +585,16 @@ module _ (claims· : Claims) where
     (
       0,
       (
-        m .1 .1 .1 .1 .1 .1 .1 .1 .0,
+        0,
         (
-          0,
+          m .1 .1 .1 .1 .1 .1 .1 .1 .0,
           (
-            m .1 .1 .1 .1 .1 .1 .1 .1 .1 .0,
-            (m .1 .1 .1 .1 .1 .1 .1 .1 .1 .1 .0, tt),
+            0,
+            (
+              m .1 .1 .1 .1 .1 .1 .1 .1 .1
+                  .0,
+              (m .1 .1 .1 .1 .1 .1 .1 .1 .1 .1 .0, tt),
+            ),
           ),
         ),
       ),
@@ -1089,52 +1094,77 @@ module _ (claims· : Claims) where
 
           d10 : Typed.Typed 𝓤 H A 𝓣 E G19 b14 Δ3 at10
           d10 = Typed.s-seq 𝓤 H A W 𝓣 E G19 G20 b12 b13 Δ3 (Typed.pass T19 T20 s16) at9 (Make.t-struct-make 𝓤 H A W E 𝓣 (Apart.apartT Record.the-type)
-              Laws''.the-laws Laws''.the-plain G19 11 (List._∷_ (Scalar.oInt Syntax.w64 0) (List._∷_ (Scalar.oInt Syntax.w64 0) (List._∷_ (Scalar.oAt
-              8 ty0·0 (Laws'3.val Form.the-type Laws'.the-laws)) (List._∷_ (Scalar.oInt Syntax.w64 0) (List._∷_ (Scalar.oAt 9 ty0·1 (Laws'3.val
-              Halves.the-type Laws.the-laws)) (List._∷_ (Scalar.oAt 10 ty0·1 (Laws'3.val Halves.the-type Laws.the-laws)) List.[])))))) (λ m. (
+              Laws''.the-laws Laws''.the-plain G19 11 (List._∷_ (Scalar.oInt Syntax.w64 0) (List._∷_ (Scalar.oInt Syntax.w64 0) (List._∷_ (Scalar.oInt
+              Syntax.w64 0) (List._∷_ (Scalar.oAt 8 ty0·0 (Laws'3.val Form.the-type Laws'.the-laws)) (List._∷_ (Scalar.oInt Syntax.w64 0) (List._∷_
+              (Scalar.oAt 9 ty0·1 (Laws'3.val Halves.the-type Laws.the-laws)) (List._∷_ (Scalar.oAt 10 ty0·1 (Laws'3.val Halves.the-type
+              Laws.the-laws)) List.[]))))))) (λ m. (
                 0,
                 (
                   0,
-                  (m .1 .1 .1 .1 .1 .1 .1 .1 .0, (0, (m .1 .1 .1 .1 .1 .1 .1 .1 .1 .0, (m .1 .1 .1 .1 .1 .1 .1 .1 .1 .1 .0, tt)))),
-                ),
-              ))
-              (Reads'.room-gone 𝓤 H A ty1·0) (
-                tt,
-                (
-                  tt,
                   (
-                    (Reads.reads-struct 𝓤 H A W Form.the-type Laws'.the-laws, Path'.refl),
+                    0,
                     (
-                      tt,
+                      m .1 .1 .1 .1 .1 .1 .1 .1 .0,
                       (
-                        (Reads.reads-struct 𝓤 H A W Halves.the-type Laws.the-laws, Path'.refl),
+                        0,
                         (
+                          m .1 .1 .1 .1 .1 .1 .1 .1 .1 .0,
                           (
-                            Reads.reads-struct 𝓤 H A W Halves.the-type Laws.the-laws,
-                            Path'.refl,
+                            m .1 .1 .1
+                                .1 .1 .1 .1 .1 .1 .1 .0,
+                            tt,
                           ),
-                          tt,
                         ),
                       ),
                     ),
                   ),
                 ),
-              ) Path'.refl (λ u. Path'.refl) λ m. Make.is-wt (Apart.apartT Record.the-type) Laws''.the-laws (
+              )) (Reads'.room-gone 𝓤 H A ty1·0) (
+                tt,
+                (
+                  tt,
+                  (
+                    tt,
+                    (
+                      (
+                        Reads.reads-struct 𝓤 H A W
+                            Form.the-type Laws'.the-laws,
+                        Path'.refl,
+                      ),
+                      (
+                        tt,
+                        (
+                          (Reads.reads-struct 𝓤 H A W Halves.the-type Laws.the-laws, Path'.refl),
+                          (
+                            (
+                              Reads.reads-struct 𝓤 H A W Halves.the-type Laws.the-laws,
+                              Path'.refl,
+                            ),
+                            tt,
+                          ),
+                        ),
+                      ),
+                    ),
+                  ),
+                ),
+              ) Path'.refl (λ u. Path'.refl) λ m.
+              Make.is-wt (Apart.apartT Record.the-type) Laws''.the-laws (
                 Make.u64-wt,
                 (
                   Make.u64-wt,
                   (
-                    Make.struct-wt Form.the-type Laws'.the-laws (Make.u64-wt, (Make.u64-wt, tt)),
+                    Make.u64-wt,
                     (
-                      Make.u64-wt,
+                      Make.struct-wt Form.the-type
+                          Laws'.the-laws (Make.u64-wt, (Make.u64-wt, tt)),
                       (
-                        Make.struct-wt Halves.the-type Laws.the-laws (Make.u64-wt, (Make.u64-wt, tt)),
+                        Make.u64-wt,
                         (
                           Make.struct-wt Halves.the-type Laws.the-laws (
                             Make.u64-wt,
                             (Make.u64-wt, tt),
                           ),
-                          tt,
+                          (Make.struct-wt Halves.the-type Laws.the-laws (Make.u64-wt, (Make.u64-wt, tt)), tt),
                         ),
                       ),
                     ),
@@ -1144,16 +1174,7 @@ module _ (claims· : Claims) where
                 0,
                 (
                   0,
-                  (
-                    m .1 .1 .1 .1 .1 .1 .1 .1 .0,
-                    (
-                      0,
-                      (
-                        m .1 .1 .1 .1 .1 .1 .1 .1 .1 .0,
-                        (m .1 .1 .1 .1 .1 .1 .1 .1 .1 .1 .0, tt),
-                      ),
-                    ),
-                  ),
+                  (0, (m .1 .1 .1 .1 .1 .1 .1 .1 .0, (0, (m .1 .1 .1 .1 .1 .1 .1 .1 .1 .0, (m .1 .1 .1 .1 .1 .1 .1 .1 .1 .1 .0, tt))))),
                 ),
               )) d9
 

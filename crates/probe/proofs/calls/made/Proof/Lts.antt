@@ -98,24 +98,29 @@ ty0·7 = (Syntax.tyStruct (List._∷_ 111 (List._∷_ 112 (List._∷_ 101 (List.
     (Syntax.tyInt Syntax.w8) Syntax.tnil))
 
 abbrev ty0·8 : Syntax.Ty
-ty0·8 = (Syntax.tyStruct (List._∷_ 98 (List._∷_ 117 (List._∷_ 110 (List._∷_ 100 (List._∷_ 108 (List._∷_ 101 (List._∷_ 58 (List._∷_ 58 (List._∷_ 104
+ty0·8 = (Syntax.tyStruct (List._∷_ 114 (List._∷_ 101 (List._∷_ 99 (List._∷_ 111 (List._∷_ 114 (List._∷_ 100 (List._∷_ 115 (List._∷_ 58 (List._∷_ 58
+    (List._∷_ 67 (List._∷_ 111 (List._∷_ 117 (List._∷_ 110 (List._∷_ 116 (List._∷_ 115 List.[]))))))))))))))) (Syntax.tcons (Syntax.tyInt Syntax.w64)
+    (Syntax.tcons (Syntax.tyInt Syntax.w64) (Syntax.tcons (Syntax.tyInt Syntax.w64) Syntax.tnil))))
+
+abbrev ty0·9 : Syntax.Ty
+ty0·9 = (Syntax.tyStruct (List._∷_ 98 (List._∷_ 117 (List._∷_ 110 (List._∷_ 100 (List._∷_ 108 (List._∷_ 101 (List._∷_ 58 (List._∷_ 58 (List._∷_ 104
     (List._∷_ 97 (List._∷_ 108 (List._∷_ 102 (List._∷_ 58 (List._∷_ 58 (List._∷_ 72 (List._∷_ 97 (List._∷_ 108 (List._∷_ 118 (List._∷_ 101 (List._∷_
     115 List.[])))))))))))))))))))) (Syntax.tcons (Syntax.tyInt Syntax.w64) (Syntax.tcons (Syntax.tyInt Syntax.w64) Syntax.tnil)))
 
-abbrev ty0·9 : Syntax.Ty
-ty0·9 = (Syntax.tyStruct (List._∷_ 38 (List._∷_ 91 (List._∷_ 93 List.[]))) (Syntax.tcons (Syntax.tyRef Syntax.erased Syntax.imm (Syntax.tyInt
-    Syntax.w64)) (Syntax.tcons (Syntax.tyInt Syntax.w64) Syntax.tnil)))
-
 abbrev ty0·10 : Syntax.Ty
-ty0·10 = (Syntax.tyStruct (List._∷_ 38 (List._∷_ 91 (List._∷_ 93 List.[]))) (Syntax.tcons (Syntax.tyRef Syntax.erased Syntax.mut (Memory·.pointee
-    (Elem.the-row .written))) (Syntax.tcons (Syntax.tyInt Syntax.w64) Syntax.tnil)))
+ty0·10 = (Syntax.tyStruct (List._∷_ 38 (List._∷_ 91 (List._∷_ 93 List.[]))) (Syntax.tcons (Syntax.tyRef Syntax.erased Syntax.imm (Syntax.tyInt
+    Syntax.w64)) (Syntax.tcons (Syntax.tyInt Syntax.w64) Syntax.tnil)))
 
 abbrev ty0·11 : Syntax.Ty
-ty0·11 = (Syntax.tyStruct (List._∷_ 38 (List._∷_ 91 (List._∷_ 93 List.[]))) (Syntax.tcons (Syntax.tyRef Syntax.erased Syntax.mut (Syntax.tyInt
-    Syntax.w64)) (Syntax.tcons (Syntax.tyInt Syntax.w64) Syntax.tnil)))
+ty0·11 = (Syntax.tyStruct (List._∷_ 38 (List._∷_ 91 (List._∷_ 93 List.[]))) (Syntax.tcons (Syntax.tyRef Syntax.erased Syntax.mut (Memory·.pointee
+    (Elem.the-row .written))) (Syntax.tcons (Syntax.tyInt Syntax.w64) Syntax.tnil)))
 
 abbrev ty0·12 : Syntax.Ty
 ty0·12 = (Syntax.tyStruct (List._∷_ 38 (List._∷_ 91 (List._∷_ 93 List.[]))) (Syntax.tcons (Syntax.tyRef Syntax.erased Syntax.mut (Syntax.tyInt
+    Syntax.w64)) (Syntax.tcons (Syntax.tyInt Syntax.w64) Syntax.tnil)))
+
+abbrev ty0·13 : Syntax.Ty
+ty0·13 = (Syntax.tyStruct (List._∷_ 38 (List._∷_ 91 (List._∷_ 93 List.[]))) (Syntax.tcons (Syntax.tyRef Syntax.erased Syntax.mut (Syntax.tyInt
     Syntax.w8)) (Syntax.tcons (Syntax.tyInt Syntax.w64) Syntax.tnil)))
 
 abbrev ty1·0 : Syntax.Ty
@@ -130,7 +135,8 @@ ty1·0 = (Syntax.tyEnum (List._∷_ 111 (List._∷_ 112 (List._∷_ 101 (List._�
 abbrev ty1·1 : Syntax.Ty
 ty1·1 = (Syntax.tyStruct (List._∷_ 114 (List._∷_ 101 (List._∷_ 99 (List._∷_ 111 (List._∷_ 114 (List._∷_ 100 (List._∷_ 58 (List._∷_ 58 (List._∷_ 82
     (List._∷_ 101 (List._∷_ 99 (List._∷_ 111 (List._∷_ 114 (List._∷_ 100 List.[])))))))))))))) (Syntax.tcons (Syntax.tyInt Syntax.w64) (Syntax.tcons
-    (Syntax.tyInt Syntax.w64) (Syntax.tcons ty0·1 (Syntax.tcons (Syntax.tyInt Syntax.w64) (Syntax.tcons ty0·8 (Syntax.tcons ty0·8 Syntax.tnil)))))))
+    (Syntax.tyInt Syntax.w64) (Syntax.tcons (Syntax.tyInt Syntax.w64) (Syntax.tcons ty0·1 (Syntax.tcons (Syntax.tyInt Syntax.w64) (Syntax.tcons ty0·9
+    (Syntax.tcons ty0·9 Syntax.tnil))))))))
 
 abbrev ty2·0 : Syntax.Ty
 ty2·0 = (Syntax.tyStruct (List._∷_ 102 (List._∷_ 111 (List._∷_ 114 (List._∷_ 109 (List._∷_ 58 (List._∷_ 58 (List._∷_ 69 (List._∷_ 100 (List._∷_ 105
@@ -140,10 +146,11 @@ ty2·0 = (Syntax.tyStruct (List._∷_ 102 (List._∷_ 111 (List._∷_ 114 (List.
 abbrev ty3·0 : Syntax.Ty
 ty3·0 = (Syntax.tyEnum (List._∷_ 112 (List._∷_ 114 (List._∷_ 111 (List._∷_ 98 (List._∷_ 101 (List._∷_ 58 (List._∷_ 58 (List._∷_ 99 (List._∷_ 97
     (List._∷_ 108 (List._∷_ 108 (List._∷_ 115 (List._∷_ 58 (List._∷_ 58 (List._∷_ 67 (List._∷_ 97 (List._∷_ 108 (List._∷_ 108
-    List.[])))))))))))))))))) (Syntax.ttcons Syntax.tnil (Syntax.ttcons (Syntax.tcons (Syntax.tyInt Syntax.w64) (Syntax.tcons (Syntax.tyInt
-    Syntax.w64) Syntax.tnil)) (Syntax.ttcons (Syntax.tcons (Syntax.tyInt Syntax.w64) (Syntax.tcons ty1·1 Syntax.tnil)) (Syntax.ttcons Syntax.tnil
-    (Syntax.ttcons (Syntax.tcons ty2·0 Syntax.tnil) (Syntax.ttcons Syntax.tnil (Syntax.ttcons Syntax.tnil (Syntax.ttcons (Syntax.tcons (Syntax.tyInt
-    Syntax.w64) Syntax.tnil) (Syntax.ttcons Syntax.tnil Syntax.ttnil))))))))))
+    List.[])))))))))))))))))) (Syntax.ttcons Syntax.tnil (Syntax.ttcons (Syntax.tcons ty0·8 (Syntax.tcons (Syntax.tyInt Syntax.w64) Syntax.tnil))
+    (Syntax.ttcons (Syntax.tcons (Syntax.tyInt Syntax.w64) (Syntax.tcons ty1·1 Syntax.tnil)) (Syntax.ttcons Syntax.tnil (Syntax.ttcons (Syntax.tcons
+    (Syntax.tyInt Syntax.w64) (Syntax.tcons ty2·0 Syntax.tnil)) (Syntax.ttcons (Syntax.tcons (Syntax.tyInt Syntax.w64) Syntax.tnil) (Syntax.ttcons
+    (Syntax.tcons (Syntax.tyInt Syntax.w64) Syntax.tnil) (Syntax.ttcons (Syntax.tcons (Syntax.tyInt Syntax.w64) (Syntax.tcons (Syntax.tyInt
+    Syntax.w64) Syntax.tnil)) (Syntax.ttcons (Syntax.tcons (Syntax.tyInt Syntax.w64) Syntax.tnil) Syntax.ttnil))))))))))
 
 abbrev row·0 : Row.Entry
 row·0 = (1, Rows.any-gone ty3·0)
@@ -152,7 +159,7 @@ abbrev row·1 : Row.Entry
 row·1 = (1, Rows.whole (Declared.row Call.the-type))
 
 abbrev row·2 : Row.Entry
-row·2 = (10, Rows.any-gone ty0·9)
+row·2 = (10, Rows.any-gone ty0·10)
 
 abbrev row·3 : Row.Entry
 row·3 = (10, Rows.sslice (Referent.rtF (Referent.fInt Syntax.w64)) (Syntax.tyRef Syntax.erased Syntax.imm (Syntax.tyInt Syntax.w64)) 4)
@@ -164,7 +171,7 @@ abbrev row·5 : Row.Entry
 row·5 = (12, Rows.any-gone (Syntax.tyRef Syntax.erased Syntax.imm (Syntax.tyInt Syntax.w64)))
 
 abbrev row·6 : Row.Entry
-row·6 = (13, Rows.any-gone ty0·9)
+row·6 = (13, Rows.any-gone ty0·10)
 
 abbrev row·7 : Row.Entry
 row·7 = (13, Rows.sslice (Referent.rtF (Referent.fInt Syntax.w64)) (Syntax.tyRef Syntax.erased Syntax.imm (Syntax.tyInt Syntax.w64)) 5)
@@ -176,7 +183,7 @@ abbrev row·9 : Row.Entry
 row·9 = (14, Rows.any-gone (Syntax.tyRef Syntax.erased Syntax.imm (Syntax.tyInt Syntax.w64)))
 
 abbrev row·10 : Row.Entry
-row·10 = (15, Rows.any-gone ty0·9)
+row·10 = (15, Rows.any-gone ty0·10)
 
 abbrev row·11 : Row.Entry
 row·11 = (15, Rows.sslice (Referent.rtF (Referent.fInt Syntax.w64)) (Syntax.tyRef Syntax.erased Syntax.imm (Syntax.tyInt Syntax.w64)) 6)
@@ -209,7 +216,7 @@ abbrev row·20 : Row.Entry
 row·20 = (23, Mut.msleft (Referent.rtF (Referent.fInt Syntax.w8)) (Syntax.tyRef Syntax.erased Syntax.mut (Syntax.tyInt Syntax.w8)))
 
 abbrev row·21 : Row.Entry
-row·21 = (23, Rows.any-gone ty0·12)
+row·21 = (23, Rows.any-gone ty0·13)
 
 abbrev row·22 : Row.Entry
 row·22 = (24, Rows.any-gone (Syntax.tyRef Syntax.erased Syntax.mut (Syntax.tyInt Syntax.w64)))
@@ -218,7 +225,7 @@ abbrev row·23 : Row.Entry
 row·23 = (25, Mut.msleft (Referent.rtF (Referent.fInt Syntax.w64)) (Syntax.tyRef Syntax.erased Syntax.mut (Syntax.tyInt Syntax.w64)))
 
 abbrev row·24 : Row.Entry
-row·24 = (25, Rows.any-gone ty0·11)
+row·24 = (25, Rows.any-gone ty0·12)
 
 abbrev row·25 : Row.Entry
 row·25 = (27, Rows.any-gone (Syntax.tyInt Syntax.w64))
@@ -230,7 +237,7 @@ abbrev row·27 : Row.Entry
 row·27 = (29, Mut.msleft (Elem.the-row) (Syntax.tyRef Syntax.erased Syntax.mut (Memory·.pointee (Elem.the-row .written))))
 
 abbrev row·28 : Row.Entry
-row·28 = (29, Rows.any-gone ty0·10)
+row·28 = (29, Rows.any-gone ty0·11)
 
 abbrev row·29 : Row.Entry
 row·29 = (18, Relend.msptr (Referent.rtF (Referent.fInt Syntax.w8)) (Syntax.tyRef Syntax.erased Syntax.mut (Syntax.tyInt Syntax.w8)) 7)
@@ -242,7 +249,7 @@ abbrev row·31 : Row.Entry
 row·31 = (19, Mut.msleft (Referent.rtF (Referent.fInt Syntax.w8)) (Syntax.tyRef Syntax.erased Syntax.mut (Syntax.tyInt Syntax.w8)))
 
 abbrev row·32 : Row.Entry
-row·32 = (19, Rows.any-gone ty0·12)
+row·32 = (19, Rows.any-gone ty0·13)
 
 abbrev row·33 : Row.Entry
 row·33 = (
@@ -365,12 +372,12 @@ r = Unit'.rUnit
 
 abbrev pub xs : List.List Syntax.Ty
 xs = List._∷_ (Syntax.tyInt Syntax.w64) (List._∷_ (Syntax.tyInt Syntax.w64) (List._∷_ (Syntax.tyInt Syntax.w64) (List._∷_ (Syntax.tyRef Syntax.erased
-    Syntax.imm (Syntax.tyInt Syntax.w64)) (List._∷_ ty0·9 (List._∷_ (Syntax.tyInt Syntax.w64) (List._∷_ (Syntax.tyRef Syntax.erased Syntax.imm
-    (Syntax.tyInt Syntax.w64)) (List._∷_ ty0·9 (List._∷_ (Syntax.tyRef Syntax.erased Syntax.imm (Syntax.tyInt Syntax.w64)) (List._∷_ ty0·9 (List._∷_
-    Syntax.tyUnit (List._∷_ Syntax.tyPtr (List._∷_ (Syntax.tyRef Syntax.erased Syntax.mut (Syntax.tyInt Syntax.w8)) (List._∷_ ty0·12 (List._∷_
-    Syntax.tyPtr (List._∷_ (Syntax.tyInt Syntax.w64) (List._∷_ (Syntax.tyRef Syntax.erased Syntax.mut (Syntax.tyInt Syntax.w8)) (List._∷_ ty0·12
-    (List._∷_ (Syntax.tyRef Syntax.erased Syntax.mut (Syntax.tyInt Syntax.w64)) (List._∷_ ty0·11 (List._∷_ Syntax.tyPtr (List._∷_ (Syntax.tyInt
-    Syntax.w64) (List._∷_ (Syntax.tyRef Syntax.erased Syntax.mut (Memory·.pointee (Elem.the-row .written))) (List._∷_ ty0·10
+    Syntax.imm (Syntax.tyInt Syntax.w64)) (List._∷_ ty0·10 (List._∷_ (Syntax.tyInt Syntax.w64) (List._∷_ (Syntax.tyRef Syntax.erased Syntax.imm
+    (Syntax.tyInt Syntax.w64)) (List._∷_ ty0·10 (List._∷_ (Syntax.tyRef Syntax.erased Syntax.imm (Syntax.tyInt Syntax.w64)) (List._∷_ ty0·10 (List._∷_
+    Syntax.tyUnit (List._∷_ Syntax.tyPtr (List._∷_ (Syntax.tyRef Syntax.erased Syntax.mut (Syntax.tyInt Syntax.w8)) (List._∷_ ty0·13 (List._∷_
+    Syntax.tyPtr (List._∷_ (Syntax.tyInt Syntax.w64) (List._∷_ (Syntax.tyRef Syntax.erased Syntax.mut (Syntax.tyInt Syntax.w8)) (List._∷_ ty0·13
+    (List._∷_ (Syntax.tyRef Syntax.erased Syntax.mut (Syntax.tyInt Syntax.w64)) (List._∷_ ty0·12 (List._∷_ Syntax.tyPtr (List._∷_ (Syntax.tyInt
+    Syntax.w64) (List._∷_ (Syntax.tyRef Syntax.erased Syntax.mut (Memory·.pointee (Elem.the-row .written))) (List._∷_ ty0·11
     List.[])))))))))))))))))))))))
 
 abbrev pub m : Nat.ℕ
@@ -429,7 +436,7 @@ abbrev b2 : Syntax.Body
 b2 = Syntax.assign (Syntax.place 11 List.[]) (Syntax.rvOpd (Syntax.copy (Syntax.place 2 (List._∷_ (Syntax.field 1) List.[]))))
 
 abbrev b3 : Syntax.Body
-b3 = Syntax.call "probe::kept::within" (List._∷_ (Syntax.copy (Syntax.place 10 List.[])) (List._∷_ (Syntax.int Syntax.w64 2) (List._∷_ (Syntax.copy
+b3 = Syntax.call "probe::kept::within" (List._∷_ (Syntax.copy (Syntax.place 10 List.[])) (List._∷_ (Syntax.int Syntax.w64 4) (List._∷_ (Syntax.copy
     (Syntax.place 11 List.[])) List.[]))) (Syntax.place 6 List.[])
 
 abbrev b4 : Syntax.Body
@@ -444,7 +451,7 @@ abbrev b6 : Syntax.Body
 b6 = Syntax.assign (Syntax.place 11 List.[]) (Syntax.rvOpd (Syntax.copy (Syntax.place 3 (List._∷_ (Syntax.field 1) List.[]))))
 
 abbrev b7 : Syntax.Body
-b7 = Syntax.call "probe::kept::within" (List._∷_ (Syntax.copy (Syntax.place 13 List.[])) (List._∷_ (Syntax.int Syntax.w64 9) (List._∷_ (Syntax.copy
+b7 = Syntax.call "probe::kept::within" (List._∷_ (Syntax.copy (Syntax.place 13 List.[])) (List._∷_ (Syntax.int Syntax.w64 11) (List._∷_ (Syntax.copy
     (Syntax.place 11 List.[])) List.[]))) (Syntax.place 7 List.[])
 
 abbrev b8 : Syntax.Body
@@ -459,7 +466,7 @@ abbrev b10 : Syntax.Body
 b10 = Syntax.assign (Syntax.place 11 List.[]) (Syntax.rvOpd (Syntax.copy (Syntax.place 5 (List._∷_ (Syntax.field 1) List.[]))))
 
 abbrev b11 : Syntax.Body
-b11 = Syntax.call "probe::kept::within" (List._∷_ (Syntax.copy (Syntax.place 15 List.[])) (List._∷_ (Syntax.int Syntax.w64 1) (List._∷_ (Syntax.copy
+b11 = Syntax.call "probe::kept::within" (List._∷_ (Syntax.copy (Syntax.place 15 List.[])) (List._∷_ (Syntax.int Syntax.w64 3) (List._∷_ (Syntax.copy
     (Syntax.place 11 List.[])) List.[]))) (Syntax.place 8 List.[])
 
 abbrev b12 : Syntax.Body
@@ -623,7 +630,7 @@ t0 = List._∷_ row·41 (List._∷_ row·1 (List._∷_ row·12 (List._∷_ row·
 abbrev pub t1 : List.List Row.Entry
 t1 = List._∷_ row·45 (List._∷_ row·47 (List._∷_ (18, Rows.any-gone (Syntax.tyRef Syntax.erased Syntax.mut (Syntax.tyInt Syntax.w8))) (List._∷_ (
   19,
-  Rows.any-gone ty0·12,
+  Rows.any-gone ty0·13,
 ) (List._∷_ row·49 (List._∷_ (21, Rows.any-gone (Syntax.tyInt Syntax.w64)) (List._∷_ (
   22,
   Rows.any-gone
@@ -740,7 +747,7 @@ t28 = List._∷_ row·45 (List._∷_ row·47 (List._∷_ (
   18,
   Relend.msptr (Referent.rtF (Referent.fInt Syntax.w8)) (Syntax.tyRef Syntax.erased Syntax.mut
       (Syntax.tyInt Syntax.w8)) 7,
-) (List._∷_ (19, Rows.any-gone ty0·12) (List._∷_ row·49 (List._∷_ (21, Rows.any-gone (Syntax.tyInt Syntax.w64))
+) (List._∷_ (19, Rows.any-gone ty0·13) (List._∷_ row·49 (List._∷_ (21, Rows.any-gone (Syntax.tyInt Syntax.w64))
     (List._∷_ (22, Rows.any-gone (Syntax.tyRef Syntax.erased Syntax.mut (Syntax.tyInt Syntax.w8))) (List._∷_ row·21 (List._∷_ row·22 (List._∷_
     row·24 (List._∷_ row·51 (List._∷_ row·25 (List._∷_ row·26 (List._∷_ row·28 List.[])))))))))))))
 
@@ -1052,7 +1059,7 @@ t51 = List._∷_ row·41 (List._∷_ row·0 (List._∷_ row·12 (List._∷_ row�
 abbrev pub t52 : List.List Row.Entry
 t52 = List._∷_ row·45 (List._∷_ row·47 (List._∷_ (18, Rows.any-gone (Syntax.tyRef Syntax.erased Syntax.mut (Syntax.tyInt Syntax.w8))) (List._∷_ (
   19,
-  Rows.any-gone ty0·12,
+  Rows.any-gone ty0·13,
 ) (List._∷_ row·49 (List._∷_ (21, Rows.any-gone (Syntax.tyInt Syntax.w64)) (List._∷_ (
   22,
   Rows.any-gone
@@ -1067,7 +1074,7 @@ t53 = List._∷_ row·41 (List._∷_ row·0 (List._∷_ row·12 (List._∷_ row�
 abbrev pub t54 : List.List Row.Entry
 t54 = List._∷_ row·45 (List._∷_ row·47 (List._∷_ (18, Rows.any-gone (Syntax.tyRef Syntax.erased Syntax.mut (Syntax.tyInt Syntax.w8))) (List._∷_ (
   19,
-  Rows.any-gone ty0·12,
+  Rows.any-gone ty0·13,
 ) (List._∷_ row·49 (List._∷_ (21, Rows.any-gone (Syntax.tyInt Syntax.w64)) (List._∷_ (
   22,
   Rows.any-gone
@@ -1082,7 +1089,7 @@ t55 = List._∷_ row·41 (List._∷_ row·0 (List._∷_ row·12 (List._∷_ row�
 abbrev pub t56 : List.List Row.Entry
 t56 = List._∷_ row·45 (List._∷_ row·47 (List._∷_ (18, Rows.any-gone (Syntax.tyRef Syntax.erased Syntax.mut (Syntax.tyInt Syntax.w8))) (List._∷_ (
   19,
-  Rows.any-gone ty0·12,
+  Rows.any-gone ty0·13,
 ) (List._∷_ row·49 (List._∷_ (21, Rows.any-gone (Syntax.tyInt Syntax.w64)) (List._∷_ (
   22,
   Rows.any-gone
@@ -1319,11 +1326,11 @@ module _ (claims· : Claims) where
       ty = Syntax.tyRef Syntax.erased Syntax.imm (Syntax.tyInt Syntax.w64);
       ref = λ x. x;
     },
-    (Num.vLit 2, (Num.vAt 11 λ x. x, tt)),
+    (Num.vLit 4, (Num.vAt 11 λ x. x, tt)),
   ) 6 (List._∷_ 4 List.[]) (Syntax.tyInt Syntax.w64)
 
   abbrev s8 : Typed.Mo T9 → Typed.Mo T10
-  s8 = Scalar.n-room T9 10 ty0·9
+  s8 = Scalar.n-room T9 10 ty0·10
 
   abbrev s9 : Typed.Mo T10 → Typed.Mo T11
   s9 = Scalar.n-room T10 11 (Syntax.tyInt Syntax.w64)
@@ -1352,11 +1359,11 @@ module _ (claims· : Claims) where
       ty = Syntax.tyRef Syntax.erased Syntax.imm (Syntax.tyInt Syntax.w64);
       ref = λ x. x;
     },
-    (Num.vLit 9, (Num.vAt 11 λ x. x, tt)),
+    (Num.vLit 11, (Num.vAt 11 λ x. x, tt)),
   ) 7 (List._∷_ 5 List.[]) (Syntax.tyInt Syntax.w64)
 
   abbrev s18 : Typed.Mo T19 → Typed.Mo T20
-  s18 = Scalar.n-room T19 13 ty0·9
+  s18 = Scalar.n-room T19 13 ty0·10
 
   abbrev s19 : Typed.Mo T20 → Typed.Mo T21
   s19 = Scalar.n-room T20 11 (Syntax.tyInt Syntax.w64)
@@ -1385,11 +1392,11 @@ module _ (claims· : Claims) where
       ty = Syntax.tyRef Syntax.erased Syntax.imm (Syntax.tyInt Syntax.w64);
       ref = λ x. x;
     },
-    (Num.vLit 1, (Num.vAt 11 λ x. x, tt)),
+    (Num.vLit 3, (Num.vAt 11 λ x. x, tt)),
   ) 8 (List._∷_ 6 List.[]) (Syntax.tyInt Syntax.w64)
 
   abbrev s28 : Typed.Mo T29 → Typed.Mo T30
-  s28 = Scalar.n-room T29 15 ty0·9
+  s28 = Scalar.n-room T29 15 ty0·10
 
   abbrev s29 : Typed.Mo T30 → Typed.Mo T31
   s29 = Scalar.n-room T30 11 (Syntax.tyInt Syntax.w64)
@@ -1465,7 +1472,7 @@ module _ (claims· : Claims) where
 
   abbrev s53 : Typed.Both T53 T55
   s53 = PartMut.k-sl-relendᵐ (Elem.the-row) T53 5 26 28 3 10 (Syntax.tyRef (Syntax.named 3) Syntax.mut (Memory·.pointee (Elem.the-row .written)))
-      (Syntax.tyRef Syntax.erased Syntax.mut (Memory·.pointee (Elem.the-row .written))) Row.off (Shared.bySize 72) (λ x. x) (λ x. x) (λ u. 0) λ u. u
+      (Syntax.tyRef Syntax.erased Syntax.mut (Memory·.pointee (Elem.the-row .written))) Row.off (Shared.bySize 80) (λ x. x) (λ x. x) (λ u. 0) λ u. u
       .1 .1 .1 .1 .1 .1 .1 .1 .0
 
   abbrev s54 : Typed.Mo T55 → Typed.Mo T56
@@ -2950,7 +2957,7 @@ module _ (claims· : Claims) where
               (Elem.the-row)) G56 28 29 10 (Syntax.tyRef Syntax.erased Syntax.mut (Memory·.pointee (Elem.the-row .written))) (Syntax.tyRef
               Syntax.erased Syntax.mut (Memory·.pointee (Elem.the-row .written))) (λ x. x) (Scalar.oAt 27 (Syntax.tyInt Syntax.w64) (Row.valS
               (Row.sInt Syntax.w64))) (Reads.as-is 𝓤 H A (Relend.msptr (Elem.the-row) (Syntax.tyRef Syntax.erased Syntax.mut (Memory·.pointee
-              (Elem.the-row .written))) 10)) (Reads.room-gone 𝓤 H A ty0·10) (Scalar.reads-sc 𝓤 H A W (Row.sInt Syntax.w64), Path'.refl) Path'.refl
+              (Elem.the-row .written))) 10)) (Reads.room-gone 𝓤 H A ty0·11) (Scalar.reads-sc 𝓤 H A W (Row.sInt Syntax.w64), Path'.refl) Path'.refl
               Path'.refl λ b o k. tt) d23
 
           d25 : Typed.Typed 𝓤 H A 𝓣 E G55 b31 Δ0 at25
@@ -2960,8 +2967,8 @@ module _ (claims· : Claims) where
           d26 : Typed.Typed 𝓤 H A 𝓣 E G54 b32 Δ0 at26
           d26 = Typed.s-seq 𝓤 H A W 𝓣 E G54 G55 b24 b31 Δ0 (Typed.both s53) at25 (PartMut.t-sl-relendᵐ 𝓤 H A W E (Elem.the-row) 𝓣 G54 5 26 28 3 10
               (Elem-laws.mir) (Syntax.tyRef (Syntax.named 3) Syntax.mut (Memory·.pointee (Elem.the-row .written))) (Syntax.tyRef Syntax.erased
-              Syntax.mut (Memory·.pointee (Elem.the-row .written))) (Row.lease (κs .1 .1 .1 .0) (qs .1 .1 .1 .0)) (Shared.bySize 72) (λ x. x) (λ x. x)
-              (λ u. 0) (λ u. u .1 .1 .1 .1 .1 .1 .1 .1 .0) (λ i o. Elements.at-mul o 72 i) (Reads.as-is 𝓤 H A (Mut.mslice (Elem.the-row) (Syntax.tyRef
+              Syntax.mut (Memory·.pointee (Elem.the-row .written))) (Row.lease (κs .1 .1 .1 .0) (qs .1 .1 .1 .0)) (Shared.bySize 80) (λ x. x) (λ x. x)
+              (λ u. 0) (λ u. u .1 .1 .1 .1 .1 .1 .1 .1 .0) (λ i o. Elements.at-mul o 80 i) (Reads.as-is 𝓤 H A (Mut.mslice (Elem.the-row) (Syntax.tyRef
               (Syntax.named 3) Syntax.mut (Memory·.pointee (Elem.the-row .written))) 3)) (Reads.as-is 𝓤 H A (Rows.sc-here Row.sPtr)) (Reads.room-gone
               𝓤 H A (Syntax.tyRef Syntax.erased Syntax.mut (Memory·.pointee (Elem.the-row .written)))) Path'.refl tt Path'.refl Path'.refl λ b o. tt)
               d25
@@ -3077,7 +3084,7 @@ module _ (claims· : Claims) where
               Syntax.w64)) 𝓣 (Relend.asMut (Referent.rtF (Referent.fInt Syntax.w64))) G50 24 25 9 (Syntax.tyRef Syntax.erased Syntax.mut (Syntax.tyInt
               Syntax.w64)) (Syntax.tyRef Syntax.erased Syntax.mut (Syntax.tyInt Syntax.w64)) (λ x. x) (Scalar.oFld 4 (List._∷_ (Syntax.field 1)
               List.[]) (Syntax.tyInt Syntax.w64) 8 λ v. Shared.lenV (v .0)) (Reads.as-is 𝓤 H A (Relend.msptr (Referent.rtF (Referent.fInt Syntax.w64))
-              (Syntax.tyRef Syntax.erased Syntax.mut (Syntax.tyInt Syntax.w64)) 9)) (Reads.room-gone 𝓤 H A ty0·11) (
+              (Syntax.tyRef Syntax.erased Syntax.mut (Syntax.tyInt Syntax.w64)) 9)) (Reads.room-gone 𝓤 H A ty0·12) (
                 Relend.reads-owed-len 𝓤 H A W
                     (Referent.rtF (Referent.fInt Syntax.w64)) (Syntax.tyRef (Syntax.named 2) Syntax.mut (Syntax.tyInt Syntax.w64)) 2 9 (Row.lease (κs .1 .1
                     .0) (qs .1 .1 .0)) 8 Path'.refl,
@@ -3190,7 +3197,7 @@ module _ (claims· : Claims) where
               Syntax.w8)) 𝓣 (Relend.asMut (Referent.rtF (Referent.fInt Syntax.w8))) G46 22 23 8 (Syntax.tyRef Syntax.erased Syntax.mut (Syntax.tyInt
               Syntax.w8)) (Syntax.tyRef Syntax.erased Syntax.mut (Syntax.tyInt Syntax.w8)) (λ x. x) (Scalar.oAt 21 (Syntax.tyInt Syntax.w64) (Row.valS
               (Row.sInt Syntax.w64))) (Reads.as-is 𝓤 H A (Relend.msptr (Referent.rtF (Referent.fInt Syntax.w8)) (Syntax.tyRef Syntax.erased Syntax.mut
-              (Syntax.tyInt Syntax.w8)) 8)) (Reads.room-gone 𝓤 H A ty0·12) (Scalar.reads-sc 𝓤 H A W (Row.sInt Syntax.w64), Path'.refl) Path'.refl
+              (Syntax.tyInt Syntax.w8)) 8)) (Reads.room-gone 𝓤 H A ty0·13) (Scalar.reads-sc 𝓤 H A W (Row.sInt Syntax.w64), Path'.refl) Path'.refl
               Path'.refl λ b o k. tt) d33
 
           d35 : Typed.Typed 𝓤 H A 𝓣 E G45 b37 Δ0 at35
@@ -3326,7 +3333,7 @@ module _ (claims· : Claims) where
               Syntax.w8)) 𝓣 (Relend.asMut (Referent.rtF (Referent.fInt Syntax.w8))) G39 18 19 7 (Syntax.tyRef Syntax.erased Syntax.mut (Syntax.tyInt
               Syntax.w8)) (Syntax.tyRef Syntax.erased Syntax.mut (Syntax.tyInt Syntax.w8)) (λ x. x) (Scalar.oAt 11 (Syntax.tyInt Syntax.w64) (Row.valS
               (Row.sInt Syntax.w64))) (Reads.as-is 𝓤 H A (Relend.msptr (Referent.rtF (Referent.fInt Syntax.w8)) (Syntax.tyRef Syntax.erased Syntax.mut
-              (Syntax.tyInt Syntax.w8)) 7)) (Reads.room-gone 𝓤 H A ty0·12) (Scalar.reads-sc 𝓤 H A W (Row.sInt Syntax.w64), Path'.refl) Path'.refl
+              (Syntax.tyInt Syntax.w8)) 7)) (Reads.room-gone 𝓤 H A ty0·13) (Scalar.reads-sc 𝓤 H A W (Row.sInt Syntax.w64), Path'.refl) Path'.refl
               Path'.refl λ b o k. tt) d40
 
           d42 : Typed.Typed 𝓤 H A 𝓣 E G38 b41 Δ0 at42
@@ -3458,8 +3465,8 @@ module _ (claims· : Claims) where
               (Scalar.room-sc 𝓤 H A W (Row.sInt Syntax.w64))) d49
 
           d51 : Typed.Typed 𝓤 H A 𝓣 E G29 b44 Δ0 at51
-          d51 = Typed.g-pre 𝓤 H A W 𝓣 E G29 G30 b44 Δ0 (Typed.pass T29 T30 s28) at50 (Scalar.g-room 𝓤 H A W E G29 15 ty0·9 (Shared.room-sslice 𝓤 H A W
-              (Referent.rtF (Referent.fInt Syntax.w64)) (Syntax.tyRef Syntax.erased Syntax.imm (Syntax.tyInt Syntax.w64)) 6)) d50
+          d51 = Typed.g-pre 𝓤 H A W 𝓣 E G29 G30 b44 Δ0 (Typed.pass T29 T30 s28) at50 (Scalar.g-room 𝓤 H A W E G29 15 ty0·10 (Shared.room-sslice 𝓤 H A
+              W (Referent.rtF (Referent.fInt Syntax.w64)) (Syntax.tyRef Syntax.erased Syntax.imm (Syntax.tyInt Syntax.w64)) 6)) d50
 
           d52 : Typed.Typed 𝓤 H A 𝓣 E G28 b45 Δ0 at52
           d52 = Typed.s-seq 𝓤 H A W 𝓣 E G28 G29 b11 b44 Δ0 (Typed.both s27) at51 (Plain.t-call-plain 𝓤 H A W 𝓣 1 ps·0 r·0 (claims· .0) (claims· .1)
@@ -3470,7 +3477,7 @@ module _ (claims· : Claims) where
                       Syntax.w64);
                   ref = λ x. x;
                 },
-                (Num.vLit 1, (Num.vAt 11 λ x. x, tt)),
+                (Num.vLit 3, (Num.vAt 11 λ x. x, tt)),
               ) 8 (List._∷_ 6 List.[]) (Call'.sub-id 𝓤 H A W (G28 .slots)) (
                 ShrSlice.spares-sslice 𝓤 H A W (Referent.rtF (Referent.fInt Syntax.w64)) (Syntax.tyRef Syntax.erased Syntax.imm (Syntax.tyInt
                     Syntax.w64)) 6,
@@ -3496,7 +3503,7 @@ module _ (claims· : Claims) where
               Syntax.w64)) 𝓣 (Relend.asShr (Referent.rtF (Referent.fInt Syntax.w64))) G26 14 15 6 (Syntax.tyRef Syntax.erased Syntax.imm (Syntax.tyInt
               Syntax.w64)) (Syntax.tyRef Syntax.erased Syntax.imm (Syntax.tyInt Syntax.w64)) (λ x. x) (Scalar.oFld 4 (List._∷_ (Syntax.field 1)
               List.[]) (Syntax.tyInt Syntax.w64) 8 λ v. Shared.lenV (v .0)) (Reads.as-is 𝓤 H A (Relend.ssptr (Referent.rtF (Referent.fInt Syntax.w64))
-              (Syntax.tyRef Syntax.erased Syntax.imm (Syntax.tyInt Syntax.w64)) 6)) (Reads.room-gone 𝓤 H A ty0·9) (
+              (Syntax.tyRef Syntax.erased Syntax.imm (Syntax.tyInt Syntax.w64)) 6)) (Reads.room-gone 𝓤 H A ty0·10) (
                 Reshare.reads-owedS-len 𝓤 H A W
                     (Referent.rtF (Referent.fInt Syntax.w64)) (Syntax.tyRef (Syntax.named 2) Syntax.mut (Syntax.tyInt Syntax.w64)) 2 6 (Row.lease (κs .1 .1
                     .0) (qs .1 .1 .0)) 8 Path'.refl,
@@ -3608,8 +3615,8 @@ module _ (claims· : Claims) where
               (Scalar.room-sc 𝓤 H A W (Row.sInt Syntax.w64))) d59
 
           d61 : Typed.Typed 𝓤 H A 𝓣 E G19 b48 Δ0 at61
-          d61 = Typed.g-pre 𝓤 H A W 𝓣 E G19 G20 b48 Δ0 (Typed.pass T19 T20 s18) at60 (Scalar.g-room 𝓤 H A W E G19 13 ty0·9 (Shared.room-sslice 𝓤 H A W
-              (Referent.rtF (Referent.fInt Syntax.w64)) (Syntax.tyRef Syntax.erased Syntax.imm (Syntax.tyInt Syntax.w64)) 5)) d60
+          d61 = Typed.g-pre 𝓤 H A W 𝓣 E G19 G20 b48 Δ0 (Typed.pass T19 T20 s18) at60 (Scalar.g-room 𝓤 H A W E G19 13 ty0·10 (Shared.room-sslice 𝓤 H A
+              W (Referent.rtF (Referent.fInt Syntax.w64)) (Syntax.tyRef Syntax.erased Syntax.imm (Syntax.tyInt Syntax.w64)) 5)) d60
 
           d62 : Typed.Typed 𝓤 H A 𝓣 E G18 b49 Δ0 at62
           d62 = Typed.s-seq 𝓤 H A W 𝓣 E G18 G19 b7 b48 Δ0 (Typed.both s17) at61 (Plain.t-call-plain 𝓤 H A W 𝓣 1 ps·0 r·0 (claims· .0) (claims· .1)
@@ -3620,7 +3627,7 @@ module _ (claims· : Claims) where
                       Syntax.w64);
                   ref = λ x. x;
                 },
-                (Num.vLit 9, (Num.vAt 11 λ x. x, tt)),
+                (Num.vLit 11, (Num.vAt 11 λ x. x, tt)),
               ) 7 (List._∷_ 5 List.[]) (Call'.sub-id 𝓤 H A W (G18 .slots)) (
                 ShrSlice.spares-sslice 𝓤 H A W (Referent.rtF (Referent.fInt Syntax.w64)) (Syntax.tyRef Syntax.erased Syntax.imm (Syntax.tyInt
                     Syntax.w64)) 5,
@@ -3646,7 +3653,7 @@ module _ (claims· : Claims) where
               Syntax.w64)) 𝓣 (Relend.asShr (Referent.rtF (Referent.fInt Syntax.w64))) G16 12 13 5 (Syntax.tyRef Syntax.erased Syntax.imm (Syntax.tyInt
               Syntax.w64)) (Syntax.tyRef Syntax.erased Syntax.imm (Syntax.tyInt Syntax.w64)) (λ x. x) (Scalar.oFld 4 (List._∷_ (Syntax.field 1)
               List.[]) (Syntax.tyInt Syntax.w64) 8 λ v. Shared.lenV (v .0)) (Reads.as-is 𝓤 H A (Relend.ssptr (Referent.rtF (Referent.fInt Syntax.w64))
-              (Syntax.tyRef Syntax.erased Syntax.imm (Syntax.tyInt Syntax.w64)) 5)) (Reads.room-gone 𝓤 H A ty0·9) (
+              (Syntax.tyRef Syntax.erased Syntax.imm (Syntax.tyInt Syntax.w64)) 5)) (Reads.room-gone 𝓤 H A ty0·10) (
                 Reshare.reads-owedS-len 𝓤 H A W
                     (Referent.rtF (Referent.fInt Syntax.w64)) (Syntax.tyRef (Syntax.named 2) Syntax.mut (Syntax.tyInt Syntax.w64)) 2 5 (Row.lease (κs .1 .1
                     .0) (qs .1 .1 .0)) 8 Path'.refl,
@@ -3758,7 +3765,7 @@ module _ (claims· : Claims) where
               (Scalar.room-sc 𝓤 H A W (Row.sInt Syntax.w64))) d69
 
           d71 : Typed.Typed 𝓤 H A 𝓣 E G9 b52 Δ0 at71
-          d71 = Typed.g-pre 𝓤 H A W 𝓣 E G9 G10 b52 Δ0 (Typed.pass T9 T10 s8) at70 (Scalar.g-room 𝓤 H A W E G9 10 ty0·9 (Shared.room-sslice 𝓤 H A W
+          d71 = Typed.g-pre 𝓤 H A W 𝓣 E G9 G10 b52 Δ0 (Typed.pass T9 T10 s8) at70 (Scalar.g-room 𝓤 H A W E G9 10 ty0·10 (Shared.room-sslice 𝓤 H A W
               (Referent.rtF (Referent.fInt Syntax.w64)) (Syntax.tyRef Syntax.erased Syntax.imm (Syntax.tyInt Syntax.w64)) 4)) d70
 
           d72 : Typed.Typed 𝓤 H A 𝓣 E G8 b53 Δ0 at72
@@ -3770,7 +3777,7 @@ module _ (claims· : Claims) where
                       Syntax.w64);
                   ref = λ x. x;
                 },
-                (Num.vLit 2, (Num.vAt 11 λ x. x, tt)),
+                (Num.vLit 4, (Num.vAt 11 λ x. x, tt)),
               ) 6 (List._∷_ 4 List.[]) (Call'.sub-id 𝓤 H A W (G8 .slots)) (
                 ShrSlice.spares-sslice 𝓤 H A W (Referent.rtF (Referent.fInt Syntax.w64)) (Syntax.tyRef Syntax.erased Syntax.imm (Syntax.tyInt
                     Syntax.w64)) 4,
@@ -3796,7 +3803,7 @@ module _ (claims· : Claims) where
               𝓣 (Relend.asShr (Referent.rtF (Referent.fInt Syntax.w64))) G6 9 10 4 (Syntax.tyRef Syntax.erased Syntax.imm (Syntax.tyInt Syntax.w64))
               (Syntax.tyRef Syntax.erased Syntax.imm (Syntax.tyInt Syntax.w64)) (λ x. x) (Scalar.oFld 4 (List._∷_ (Syntax.field 1) List.[])
               (Syntax.tyInt Syntax.w64) 8 λ v. Shared.lenV (v .0)) (Reads.as-is 𝓤 H A (Relend.ssptr (Referent.rtF (Referent.fInt Syntax.w64))
-              (Syntax.tyRef Syntax.erased Syntax.imm (Syntax.tyInt Syntax.w64)) 4)) (Reads.room-gone 𝓤 H A ty0·9) (
+              (Syntax.tyRef Syntax.erased Syntax.imm (Syntax.tyInt Syntax.w64)) 4)) (Reads.room-gone 𝓤 H A ty0·10) (
                 Reshare.reads-owedS-len 𝓤 H A W
                     (Referent.rtF (Referent.fInt Syntax.w64)) (Syntax.tyRef (Syntax.named 2) Syntax.mut (Syntax.tyInt Syntax.w64)) 2 4 (Row.lease (κs .1 .1
                     .0) (qs .1 .1 .0)) 8 Path'.refl,
@@ -4021,7 +4028,7 @@ module _ (claims· : Claims) where
                 Syntax.w64);
             ref = λ x. x;
           },
-          (Num.vLit 2, (Num.vAt 11 λ x. x, tt)),
+          (Num.vLit 4, (Num.vAt 11 λ x. x, tt)),
         ) (m6 (before· .before) (before· .within-arg .given))
 
       pub record After-within : Type 0 where
@@ -4036,7 +4043,7 @@ module _ (claims· : Claims) where
               Syntax.w64);
           ref = λ x. x;
         },
-        (Num.vLit 2, (Num.vAt 11 λ x. x, tt)),
+        (Num.vLit 4, (Num.vAt 11 λ x. x, tt)),
       ) (m6 (c .before .before) (c .before .within-arg .given)) (c .within)
 
       abbrev pub m8 : (before : After-within-arg) → (given : s7 .gives (m6 (before .before) (before .within-arg .given))) → Typed.Mo T10
@@ -4080,7 +4087,7 @@ module _ (claims· : Claims) where
                 Syntax.w64);
             ref = λ x. x;
           },
-          (Num.vLit 9, (Num.vAt 11 λ x. x, tt)),
+          (Num.vLit 11, (Num.vAt 11 λ x. x, tt)),
         ) (m13 (before· .before) (before· .within-arg2 .given))
 
       pub record After-within2 : Type 0 where
@@ -4095,7 +4102,7 @@ module _ (claims· : Claims) where
               Syntax.w64);
           ref = λ x. x;
         },
-        (Num.vLit 9, (Num.vAt 11 λ x. x, tt)),
+        (Num.vLit 11, (Num.vAt 11 λ x. x, tt)),
       ) (m13 (c .before .before) (c .before .within-arg2 .given)) (c
           .within2)
 
@@ -4140,7 +4147,7 @@ module _ (claims· : Claims) where
                 Syntax.w64);
             ref = λ x. x;
           },
-          (Num.vLit 1, (Num.vAt 11 λ x. x, tt)),
+          (Num.vLit 3, (Num.vAt 11 λ x. x, tt)),
         ) (m20 (before· .before) (before· .within-arg3 .given))
 
       pub record After-within3 : Type 0 where
@@ -4155,7 +4162,7 @@ module _ (claims· : Claims) where
               Syntax.w64);
           ref = λ x. x;
         },
-        (Num.vLit 1, (Num.vAt 11 λ x. x, tt)),
+        (Num.vLit 3, (Num.vAt 11 λ x. x, tt)),
       ) (m20 (c .before .before) (c .before .within-arg3 .given)) (c
           .within3)
 
@@ -5139,7 +5146,7 @@ module _ (claims· : Claims) where
                         (Syntax.tyInt Syntax.w64);
                     ref = λ x. x;
                   },
-                  (Num.vLit 1, (Num.vAt 11 λ x. x, tt)),
+                  (Num.vLit 3, (Num.vAt 11 λ x. x, tt)),
                 ) (m20 record {
                   before = c .before;
                   within2 = c
@@ -5174,7 +5181,7 @@ module _ (claims· : Claims) where
                         (Syntax.tyInt Syntax.w64);
                     ref = λ x. x;
                   },
-                  (Num.vLit 9, (Num.vAt 11 λ x. x, tt)),
+                  (Num.vLit 11, (Num.vAt 11 λ x. x, tt)),
                 ) (m13 record {
                   before = c .before;
                   within = c .within;
@@ -5224,7 +5231,7 @@ module _ (claims· : Claims) where
                         (Syntax.tyInt Syntax.w64);
                     ref = λ x. x;
                   },
-                  (Num.vLit 2, (Num.vAt 11 λ x. x, tt)),
+                  (Num.vLit 4, (Num.vAt 11 λ x. x, tt)),
                 ) (m6 record {
                   before = record {
                     before = record {

@@ -17,9 +17,9 @@ use Rattle.probe.proofs.calls.make.Statement
 use Rattle.probe.proofs.calls.show.Met as Met'3
 use Rattle.probe.proofs.Made.calls.show.Reads as Reads'4
 use Rattle.probe.proofs.calls.show.Symbol as Symbol'3
-use Rattle.probe.proofs.kept.get.Met as Met'4
-use Rattle.probe.proofs.kept.get.Reads as Reads'5
-use Rattle.probe.proofs.kept.get.Symbol as Symbol'4
+use Rattle.probe.proofs.kept.counts.Met as Met'4
+use Rattle.probe.proofs.kept.counts.Reads as Reads'5
+use Rattle.probe.proofs.kept.counts.Symbol as Symbol'4
 use Rattle.probe.proofs.kept.keep.Met as Met'5
 use Rattle.probe.proofs.kept.keep.Reads as Reads'6
 use Rattle.probe.proofs.kept.keep.Symbol as Symbol'5
@@ -169,8 +169,8 @@ After-slice-known3 = Lts.After-slice-known3 (
   Reads'11.Learnt,
 ) Reads'3.Pre Reads'3.Post
 
-abbrev pub After-get-arg : Type 0
-After-get-arg = Lts.After-get-arg (
+abbrev pub After-counts-arg : Type 0
+After-counts-arg = Lts.After-counts-arg (
   Reads'5.Asked,
   Reads'5.Learnt,
   Reads''.Asked,
@@ -199,8 +199,8 @@ After-get-arg = Lts.After-get-arg (
   Reads'11.Learnt,
 ) Reads'3.Pre Reads'3.Post
 
-abbrev pub After-get : Type 0
-After-get = Lts.After-get (
+abbrev pub After-counts : Type 0
+After-counts = Lts.After-counts (
   Reads'5.Asked,
   Reads'5.Learnt,
   Reads''.Asked,
@@ -1519,8 +1519,38 @@ At-match-keys6 = Lts.At-match-keys6 (
   Reads'11.Learnt,
 ) Reads'3.Pre Reads'3.Post
 
-abbrev pub After-enum-told3 : Type 0
-After-enum-told3 = Lts.After-enum-told3 (
+abbrev pub After-call4 : Type 0
+After-call4 = Lts.After-call4 (
+  Reads'5.Asked,
+  Reads'5.Learnt,
+  Reads''.Asked,
+  Reads''.Learnt,
+  Reads'9.Asked,
+  Reads'9.Learnt,
+  Reads'10.Asked,
+  Reads'10.Learnt,
+  Reads'4.Asked,
+  Reads'4.Learnt,
+  Reads'8.Asked,
+  Reads'8.Learnt,
+  Reads.Asked,
+  Reads.Learnt,
+  Reads'6.Asked,
+  Reads'6.Learnt,
+  Reads'.Asked,
+  Reads'.Learnt,
+  Reads'12.Asked,
+  Reads'12.Learnt,
+  Reads'7.Asked,
+  Reads'7.Learnt,
+  Reads'13.Asked,
+  Reads'13.Learnt,
+  Reads'11.Asked,
+  Reads'11.Learnt,
+) Reads'3.Pre Reads'3.Post
+
+abbrev pub After-known-told4 : Type 0
+After-known-told4 = Lts.After-known-told4 (
   Reads'5.Asked,
   Reads'5.Learnt,
   Reads''.Asked,
@@ -1879,8 +1909,38 @@ At-match-keys7 = Lts.At-match-keys7 (
   Reads'11.Learnt,
 ) Reads'3.Pre Reads'3.Post
 
-abbrev pub After-enum-told4 : Type 0
-After-enum-told4 = Lts.After-enum-told4 (
+abbrev pub After-call5 : Type 0
+After-call5 = Lts.After-call5 (
+  Reads'5.Asked,
+  Reads'5.Learnt,
+  Reads''.Asked,
+  Reads''.Learnt,
+  Reads'9.Asked,
+  Reads'9.Learnt,
+  Reads'10.Asked,
+  Reads'10.Learnt,
+  Reads'4.Asked,
+  Reads'4.Learnt,
+  Reads'8.Asked,
+  Reads'8.Learnt,
+  Reads.Asked,
+  Reads.Learnt,
+  Reads'6.Asked,
+  Reads'6.Learnt,
+  Reads'.Asked,
+  Reads'.Learnt,
+  Reads'12.Asked,
+  Reads'12.Learnt,
+  Reads'7.Asked,
+  Reads'7.Learnt,
+  Reads'13.Asked,
+  Reads'13.Learnt,
+  Reads'11.Asked,
+  Reads'11.Learnt,
+) Reads'3.Pre Reads'3.Post
+
+abbrev pub After-known-told5 : Type 0
+After-known-told5 = Lts.After-known-told5 (
   Reads'5.Asked,
   Reads'5.Learnt,
   Reads''.Asked,
@@ -2209,8 +2269,8 @@ At-match-keys8 = Lts.At-match-keys8 (
   Reads'11.Learnt,
 ) Reads'3.Pre Reads'3.Post
 
-abbrev pub After-call4 : Type 0
-After-call4 = Lts.After-call4 (
+abbrev pub After-call6 : Type 0
+After-call6 = Lts.After-call6 (
   Reads'5.Asked,
   Reads'5.Learnt,
   Reads''.Asked,
@@ -2239,8 +2299,8 @@ After-call4 = Lts.After-call4 (
   Reads'11.Learnt,
 ) Reads'3.Pre Reads'3.Post
 
-abbrev pub After-known-told4 : Type 0
-After-known-told4 = Lts.After-known-told4 (
+abbrev pub After-known-told6 : Type 0
+After-known-told6 = Lts.After-known-told6 (
   Reads'5.Asked,
   Reads'5.Learnt,
   Reads''.Asked,
@@ -2569,8 +2629,38 @@ At-match-keys9 = Lts.At-match-keys9 (
   Reads'11.Learnt,
 ) Reads'3.Pre Reads'3.Post
 
-abbrev pub After-enum-told5 : Type 0
-After-enum-told5 = Lts.After-enum-told5 (
+abbrev pub After-call7 : Type 0
+After-call7 = Lts.After-call7 (
+  Reads'5.Asked,
+  Reads'5.Learnt,
+  Reads''.Asked,
+  Reads''.Learnt,
+  Reads'9.Asked,
+  Reads'9.Learnt,
+  Reads'10.Asked,
+  Reads'10.Learnt,
+  Reads'4.Asked,
+  Reads'4.Learnt,
+  Reads'8.Asked,
+  Reads'8.Learnt,
+  Reads.Asked,
+  Reads.Learnt,
+  Reads'6.Asked,
+  Reads'6.Learnt,
+  Reads'.Asked,
+  Reads'.Learnt,
+  Reads'12.Asked,
+  Reads'12.Learnt,
+  Reads'7.Asked,
+  Reads'7.Learnt,
+  Reads'13.Asked,
+  Reads'13.Learnt,
+  Reads'11.Asked,
+  Reads'11.Learnt,
+) Reads'3.Pre Reads'3.Post
+
+abbrev pub After-known-told7 : Type 0
+After-known-told7 = Lts.After-known-told7 (
   Reads'5.Asked,
   Reads'5.Learnt,
   Reads''.Asked,
@@ -2839,8 +2929,8 @@ After-slice-known15 = Lts.After-slice-known15 (
   Reads'11.Learnt,
 ) Reads'3.Pre Reads'3.Post
 
-abbrev pub Need-get-requires : Type 0
-Need-get-requires = Lts.Need-get-requires (
+abbrev pub Need-counts-requires : Type 0
+Need-counts-requires = Lts.Need-counts-requires (
   Reads'5.Asked,
   Reads'5.Learnt,
   Reads''.Asked,
@@ -3289,8 +3379,8 @@ Need-keep-requires = Lts.Need-keep-requires (
   Reads'11.Learnt,
 ) Reads'3.Pre Reads'3.Post
 
-abbrev pub Need-enum-told-3 : Type 0
-Need-enum-told-3 = Lts.Need-enum-told-3 (
+abbrev pub Need-enum-known-call-4 : Type 0
+Need-enum-known-call-4 = Lts.Need-enum-known-call-4 (
   Reads'5.Asked,
   Reads'5.Learnt,
   Reads''.Asked,
@@ -3379,8 +3469,8 @@ Need-keep-requires-2 = Lts.Need-keep-requires-2 (
   Reads'11.Learnt,
 ) Reads'3.Pre Reads'3.Post
 
-abbrev pub Need-enum-told-4 : Type 0
-Need-enum-told-4 = Lts.Need-enum-told-4 (
+abbrev pub Need-enum-known-call-5 : Type 0
+Need-enum-known-call-5 = Lts.Need-enum-known-call-5 (
   Reads'5.Asked,
   Reads'5.Learnt,
   Reads''.Asked,
@@ -3469,8 +3559,8 @@ Need-keep-written-requires = Lts.Need-keep-written-requires (
   Reads'11.Learnt,
 ) Reads'3.Pre Reads'3.Post
 
-abbrev pub Need-enum-known-call-4 : Type 0
-Need-enum-known-call-4 = Lts.Need-enum-known-call-4 (
+abbrev pub Need-enum-known-call-6 : Type 0
+Need-enum-known-call-6 = Lts.Need-enum-known-call-6 (
   Reads'5.Asked,
   Reads'5.Learnt,
   Reads''.Asked,
@@ -3559,8 +3649,8 @@ Need-keep-written-requires-2 = Lts.Need-keep-written-requires-2 (
   Reads'11.Learnt,
 ) Reads'3.Pre Reads'3.Post
 
-abbrev pub Need-enum-told-5 : Type 0
-Need-enum-told-5 = Lts.Need-enum-told-5 (
+abbrev pub Need-enum-known-call-7 : Type 0
+Need-enum-known-call-7 = Lts.Need-enum-known-call-7 (
   Reads'5.Asked,
   Reads'5.Learnt,
   Reads''.Asked,
@@ -4550,14 +4640,14 @@ Need-returns-9 = Lts.Need-returns-9 (
 ) Reads'3.Pre Reads'3.Post
 
 module _ {M : Type 1} where
-  pub spec : (answer : Need-get-requires) → (answer : Need-enum-told) → (answer : Need-same-length) → (answer : Need-returns) → (answer :
+  pub spec : (answer : Need-counts-requires) → (answer : Need-enum-told) → (answer : Need-same-length) → (answer : Need-returns) → (answer :
       Need-enum-known-call) → (answer : Need-clear-requires) → (answer : Need-set-journal-requires) → (answer : Need-enum-known-call-2) → (answer :
       Need-put-requires) → (answer : Need-enum-told-2) → (answer : Need-show-requires) → (answer : Need-set-requires) → (answer :
-      Need-enum-known-call-3) → (answer : Need-edit-requires) → (answer : Need-keep-requires) → (answer : Need-enum-told-3) → (answer :
-      Need-undo-requires) → (answer : Need-keep-requires-2) → (answer : Need-enum-told-4) → (answer : Need-write-requires) → (answer :
-      Need-keep-written-requires) → (answer : Need-enum-known-call-4) → (answer : Need-write-line-requires) → (answer : Need-keep-written-requires-2)
-      → (answer : Need-enum-told-5) → (answer : Need-load-requires) → (answer : Need-keep-requires-3) → (answer : Need-same-length-2) → (answer :
-      Need-same-length-3) → (answer : Need-returns-2) → (answer : Need-same-length-4) → (answer : Need-same-length-5) → (answer : Need-returns-3) →
+      Need-enum-known-call-3) → (answer : Need-edit-requires) → (answer : Need-keep-requires) → (answer : Need-enum-known-call-4) → (answer :
+      Need-undo-requires) → (answer : Need-keep-requires-2) → (answer : Need-enum-known-call-5) → (answer : Need-write-requires) → (answer :
+      Need-keep-written-requires) → (answer : Need-enum-known-call-6) → (answer : Need-write-line-requires) → (answer : Need-keep-written-requires-2)
+      → (answer : Need-enum-known-call-7) → (answer : Need-load-requires) → (answer : Need-keep-requires-3) → (answer : Need-same-length-2) → (answer
+      : Need-same-length-3) → (answer : Need-returns-2) → (answer : Need-same-length-4) → (answer : Need-same-length-5) → (answer : Need-returns-3) →
       (answer : Need-same-length-6) → (answer : Need-same-length-7) → (answer : Need-same-length-8) → (answer : Need-returns-4) → (answer :
       Need-same-length-9) → (answer : Need-same-length-10) → (answer : Need-same-length-11) → (answer : Need-returns-5) → (answer :
       Need-same-length-12) → (answer : Need-same-length-13) → (answer : Need-same-length-14) → (answer : Need-returns-6) → (answer :
@@ -4675,17 +4765,17 @@ module _ {M : Type 1} where
         𝓖
             = 𝓖;
         𝓡 = 𝓡;
-      } Code.env Symbol'4.name Symbol'4.routine Code.calls-probe·kept·get (Met'4.met 𝓤 H 𝓜 𝓖 𝓡)) (Reads''.known record {
+      } Code.env Symbol'4.name Symbol'4.routine Code.calls-probe·kept·counts (Met'4.met 𝓤 H 𝓜 𝓖 𝓡)) (Reads''.known record {
         M = M;
         𝓤 = 𝓤;
-        H =
-            H;
+        H
+            = H;
         𝓜 = 𝓜;
         𝓖 = 𝓖;
         𝓡 = 𝓡;
       } Code.env Symbol''.name Symbol''.routine Code.calls-probe·calls·clear (Met''.met 𝓤 H 𝓜 𝓖 𝓡)) (Reads'9.known record {
-        M =
-            M;
+        M
+            = M;
         𝓤 = 𝓤;
         H = H;
         𝓜 = 𝓜;

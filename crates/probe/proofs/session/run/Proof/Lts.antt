@@ -96,28 +96,33 @@ ty0·7 = (Syntax.tyStruct (List._∷_ 111 (List._∷_ 112 (List._∷_ 101 (List.
     (Syntax.tyInt Syntax.w8) Syntax.tnil))
 
 abbrev ty0·8 : Syntax.Ty
-ty0·8 = (Syntax.tyStruct (List._∷_ 98 (List._∷_ 117 (List._∷_ 110 (List._∷_ 100 (List._∷_ 108 (List._∷_ 101 (List._∷_ 58 (List._∷_ 58 (List._∷_ 104
+ty0·8 = (Syntax.tyStruct (List._∷_ 114 (List._∷_ 101 (List._∷_ 99 (List._∷_ 111 (List._∷_ 114 (List._∷_ 100 (List._∷_ 115 (List._∷_ 58 (List._∷_ 58
+    (List._∷_ 67 (List._∷_ 111 (List._∷_ 117 (List._∷_ 110 (List._∷_ 116 (List._∷_ 115 List.[]))))))))))))))) (Syntax.tcons (Syntax.tyInt Syntax.w64)
+    (Syntax.tcons (Syntax.tyInt Syntax.w64) (Syntax.tcons (Syntax.tyInt Syntax.w64) Syntax.tnil))))
+
+abbrev ty0·9 : Syntax.Ty
+ty0·9 = (Syntax.tyStruct (List._∷_ 98 (List._∷_ 117 (List._∷_ 110 (List._∷_ 100 (List._∷_ 108 (List._∷_ 101 (List._∷_ 58 (List._∷_ 58 (List._∷_ 104
     (List._∷_ 97 (List._∷_ 108 (List._∷_ 102 (List._∷_ 58 (List._∷_ 58 (List._∷_ 72 (List._∷_ 97 (List._∷_ 108 (List._∷_ 118 (List._∷_ 101 (List._∷_
     115 List.[])))))))))))))))))))) (Syntax.tcons (Syntax.tyInt Syntax.w64) (Syntax.tcons (Syntax.tyInt Syntax.w64) Syntax.tnil)))
 
-abbrev ty0·9 : Syntax.Ty
-ty0·9 = (Syntax.tyStruct (List._∷_ 38 (List._∷_ 91 (List._∷_ 93 List.[]))) (Syntax.tcons (Syntax.tyRef Syntax.erased Syntax.imm (Syntax.tyInt
-    Syntax.w64)) (Syntax.tcons (Syntax.tyInt Syntax.w64) Syntax.tnil)))
-
 abbrev ty0·10 : Syntax.Ty
 ty0·10 = (Syntax.tyStruct (List._∷_ 38 (List._∷_ 91 (List._∷_ 93 List.[]))) (Syntax.tcons (Syntax.tyRef Syntax.erased Syntax.imm (Syntax.tyInt
-    Syntax.w8)) (Syntax.tcons (Syntax.tyInt Syntax.w64) Syntax.tnil)))
+    Syntax.w64)) (Syntax.tcons (Syntax.tyInt Syntax.w64) Syntax.tnil)))
 
 abbrev ty0·11 : Syntax.Ty
-ty0·11 = (Syntax.tyStruct (List._∷_ 38 (List._∷_ 91 (List._∷_ 93 List.[]))) (Syntax.tcons (Syntax.tyRef Syntax.erased Syntax.mut (Memory·.pointee
-    (Elem.the-row .written))) (Syntax.tcons (Syntax.tyInt Syntax.w64) Syntax.tnil)))
+ty0·11 = (Syntax.tyStruct (List._∷_ 38 (List._∷_ 91 (List._∷_ 93 List.[]))) (Syntax.tcons (Syntax.tyRef Syntax.erased Syntax.imm (Syntax.tyInt
+    Syntax.w8)) (Syntax.tcons (Syntax.tyInt Syntax.w64) Syntax.tnil)))
 
 abbrev ty0·12 : Syntax.Ty
-ty0·12 = (Syntax.tyStruct (List._∷_ 38 (List._∷_ 91 (List._∷_ 93 List.[]))) (Syntax.tcons (Syntax.tyRef Syntax.erased Syntax.mut (Syntax.tyInt
-    Syntax.w64)) (Syntax.tcons (Syntax.tyInt Syntax.w64) Syntax.tnil)))
+ty0·12 = (Syntax.tyStruct (List._∷_ 38 (List._∷_ 91 (List._∷_ 93 List.[]))) (Syntax.tcons (Syntax.tyRef Syntax.erased Syntax.mut (Memory·.pointee
+    (Elem.the-row .written))) (Syntax.tcons (Syntax.tyInt Syntax.w64) Syntax.tnil)))
 
 abbrev ty0·13 : Syntax.Ty
 ty0·13 = (Syntax.tyStruct (List._∷_ 38 (List._∷_ 91 (List._∷_ 93 List.[]))) (Syntax.tcons (Syntax.tyRef Syntax.erased Syntax.mut (Syntax.tyInt
+    Syntax.w64)) (Syntax.tcons (Syntax.tyInt Syntax.w64) Syntax.tnil)))
+
+abbrev ty0·14 : Syntax.Ty
+ty0·14 = (Syntax.tyStruct (List._∷_ 38 (List._∷_ 91 (List._∷_ 93 List.[]))) (Syntax.tcons (Syntax.tyRef Syntax.erased Syntax.mut (Syntax.tyInt
     Syntax.w8)) (Syntax.tcons (Syntax.tyInt Syntax.w64) Syntax.tnil)))
 
 abbrev ty1·0 : Syntax.Ty
@@ -132,7 +137,8 @@ ty1·0 = (Syntax.tyEnum (List._∷_ 111 (List._∷_ 112 (List._∷_ 101 (List._�
 abbrev ty1·1 : Syntax.Ty
 ty1·1 = (Syntax.tyStruct (List._∷_ 114 (List._∷_ 101 (List._∷_ 99 (List._∷_ 111 (List._∷_ 114 (List._∷_ 100 (List._∷_ 58 (List._∷_ 58 (List._∷_ 82
     (List._∷_ 101 (List._∷_ 99 (List._∷_ 111 (List._∷_ 114 (List._∷_ 100 List.[])))))))))))))) (Syntax.tcons (Syntax.tyInt Syntax.w64) (Syntax.tcons
-    (Syntax.tyInt Syntax.w64) (Syntax.tcons ty0·1 (Syntax.tcons (Syntax.tyInt Syntax.w64) (Syntax.tcons ty0·8 (Syntax.tcons ty0·8 Syntax.tnil)))))))
+    (Syntax.tyInt Syntax.w64) (Syntax.tcons (Syntax.tyInt Syntax.w64) (Syntax.tcons ty0·1 (Syntax.tcons (Syntax.tyInt Syntax.w64) (Syntax.tcons ty0·9
+    (Syntax.tcons ty0·9 Syntax.tnil))))))))
 
 abbrev ty2·0 : Syntax.Ty
 ty2·0 = (Syntax.tyStruct (List._∷_ 102 (List._∷_ 111 (List._∷_ 114 (List._∷_ 109 (List._∷_ 58 (List._∷_ 58 (List._∷_ 69 (List._∷_ 100 (List._∷_ 105
@@ -142,10 +148,11 @@ ty2·0 = (Syntax.tyStruct (List._∷_ 102 (List._∷_ 111 (List._∷_ 114 (List.
 abbrev ty3·0 : Syntax.Ty
 ty3·0 = (Syntax.tyEnum (List._∷_ 112 (List._∷_ 114 (List._∷_ 111 (List._∷_ 98 (List._∷_ 101 (List._∷_ 58 (List._∷_ 58 (List._∷_ 99 (List._∷_ 97
     (List._∷_ 108 (List._∷_ 108 (List._∷_ 115 (List._∷_ 58 (List._∷_ 58 (List._∷_ 67 (List._∷_ 97 (List._∷_ 108 (List._∷_ 108
-    List.[])))))))))))))))))) (Syntax.ttcons Syntax.tnil (Syntax.ttcons (Syntax.tcons (Syntax.tyInt Syntax.w64) (Syntax.tcons (Syntax.tyInt
-    Syntax.w64) Syntax.tnil)) (Syntax.ttcons (Syntax.tcons (Syntax.tyInt Syntax.w64) (Syntax.tcons ty1·1 Syntax.tnil)) (Syntax.ttcons Syntax.tnil
-    (Syntax.ttcons (Syntax.tcons ty2·0 Syntax.tnil) (Syntax.ttcons Syntax.tnil (Syntax.ttcons Syntax.tnil (Syntax.ttcons (Syntax.tcons (Syntax.tyInt
-    Syntax.w64) Syntax.tnil) (Syntax.ttcons Syntax.tnil Syntax.ttnil))))))))))
+    List.[])))))))))))))))))) (Syntax.ttcons Syntax.tnil (Syntax.ttcons (Syntax.tcons ty0·8 (Syntax.tcons (Syntax.tyInt Syntax.w64) Syntax.tnil))
+    (Syntax.ttcons (Syntax.tcons (Syntax.tyInt Syntax.w64) (Syntax.tcons ty1·1 Syntax.tnil)) (Syntax.ttcons Syntax.tnil (Syntax.ttcons (Syntax.tcons
+    (Syntax.tyInt Syntax.w64) (Syntax.tcons ty2·0 Syntax.tnil)) (Syntax.ttcons (Syntax.tcons (Syntax.tyInt Syntax.w64) Syntax.tnil) (Syntax.ttcons
+    (Syntax.tcons (Syntax.tyInt Syntax.w64) Syntax.tnil) (Syntax.ttcons (Syntax.tcons (Syntax.tyInt Syntax.w64) (Syntax.tcons (Syntax.tyInt
+    Syntax.w64) Syntax.tnil)) (Syntax.ttcons (Syntax.tcons (Syntax.tyInt Syntax.w64) Syntax.tnil) Syntax.ttnil))))))))))
 
 abbrev row·0 : Row.Entry
 row·0 = (1, Mut.mslice (Referent.rtF (Referent.fInt Syntax.w8)) (Syntax.tyRef (Syntax.named 0) Syntax.mut (Syntax.tyInt Syntax.w8)) 0)
@@ -163,7 +170,7 @@ abbrev row·4 : Row.Entry
 row·4 = (11, Mut.mslice (Referent.rtF (Referent.fInt Syntax.w8)) (Syntax.tyRef Syntax.erased Syntax.mut (Syntax.tyInt Syntax.w8)) 6)
 
 abbrev row·5 : Row.Entry
-row·5 = (11, Rows.any-gone ty0·13)
+row·5 = (11, Rows.any-gone ty0·14)
 
 abbrev row·6 : Row.Entry
 row·6 = (12, Relend.msptr (Referent.rtF (Referent.fInt Syntax.w8)) (Syntax.tyRef Syntax.erased Syntax.mut (Syntax.tyInt Syntax.w8)) 7)
@@ -178,7 +185,7 @@ abbrev row·9 : Row.Entry
 row·9 = (13, Mut.mslice (Referent.rtF (Referent.fInt Syntax.w8)) (Syntax.tyRef Syntax.erased Syntax.mut (Syntax.tyInt Syntax.w8)) 7)
 
 abbrev row·10 : Row.Entry
-row·10 = (13, Rows.any-gone ty0·13)
+row·10 = (13, Rows.any-gone ty0·14)
 
 abbrev row·11 : Row.Entry
 row·11 = (14, Relend.msptr (Referent.rtF (Referent.fInt Syntax.w8)) (Syntax.tyRef Syntax.erased Syntax.mut (Syntax.tyInt Syntax.w8)) 8)
@@ -193,7 +200,7 @@ abbrev row·14 : Row.Entry
 row·14 = (15, Mut.mslice (Referent.rtF (Referent.fInt Syntax.w8)) (Syntax.tyRef Syntax.erased Syntax.mut (Syntax.tyInt Syntax.w8)) 8)
 
 abbrev row·15 : Row.Entry
-row·15 = (15, Rows.any-gone ty0·13)
+row·15 = (15, Rows.any-gone ty0·14)
 
 abbrev row·16 : Row.Entry
 row·16 = (2, Mut.mslice (Referent.rtF (Referent.fInt Syntax.w8)) (Syntax.tyRef (Syntax.named 1) Syntax.mut (Syntax.tyInt Syntax.w8)) 1)
@@ -223,7 +230,7 @@ abbrev row·24 : Row.Entry
 row·24 = (19, Mut.mslice (Referent.rtF (Referent.fInt Syntax.w8)) (Syntax.tyRef Syntax.erased Syntax.mut (Syntax.tyInt Syntax.w8)) 10)
 
 abbrev row·25 : Row.Entry
-row·25 = (19, Rows.any-gone ty0·13)
+row·25 = (19, Rows.any-gone ty0·14)
 
 abbrev row·26 : Row.Entry
 row·26 = (21, Relend.msptr (Referent.rtF (Referent.fInt Syntax.w8)) (Syntax.tyRef Syntax.erased Syntax.mut (Syntax.tyInt Syntax.w8)) 11)
@@ -238,7 +245,7 @@ abbrev row·29 : Row.Entry
 row·29 = (22, Mut.mslice (Referent.rtF (Referent.fInt Syntax.w8)) (Syntax.tyRef Syntax.erased Syntax.mut (Syntax.tyInt Syntax.w8)) 11)
 
 abbrev row·30 : Row.Entry
-row·30 = (22, Rows.any-gone ty0·13)
+row·30 = (22, Rows.any-gone ty0·14)
 
 abbrev row·31 : Row.Entry
 row·31 = (23, Relend.msptr (Referent.rtF (Referent.fInt Syntax.w8)) (Syntax.tyRef Syntax.erased Syntax.mut (Syntax.tyInt Syntax.w8)) 12)
@@ -253,7 +260,7 @@ abbrev row·34 : Row.Entry
 row·34 = (24, Mut.mslice (Referent.rtF (Referent.fInt Syntax.w8)) (Syntax.tyRef Syntax.erased Syntax.mut (Syntax.tyInt Syntax.w8)) 12)
 
 abbrev row·35 : Row.Entry
-row·35 = (24, Rows.any-gone ty0·13)
+row·35 = (24, Rows.any-gone ty0·14)
 
 abbrev row·36 : Row.Entry
 row·36 = (25, Relend.msptr (Referent.rtF (Referent.fInt Syntax.w64)) (Syntax.tyRef Syntax.erased Syntax.mut (Syntax.tyInt Syntax.w64)) 13)
@@ -268,7 +275,7 @@ abbrev row·39 : Row.Entry
 row·39 = (26, Mut.mslice (Referent.rtF (Referent.fInt Syntax.w64)) (Syntax.tyRef Syntax.erased Syntax.mut (Syntax.tyInt Syntax.w64)) 13)
 
 abbrev row·40 : Row.Entry
-row·40 = (26, Rows.any-gone ty0·12)
+row·40 = (26, Rows.any-gone ty0·13)
 
 abbrev row·41 : Row.Entry
 row·41 = (27, Relend.msptr (Elem.the-row) (Syntax.tyRef Syntax.erased Syntax.mut (Memory·.pointee (Elem.the-row .written))) 14)
@@ -283,7 +290,7 @@ abbrev row·44 : Row.Entry
 row·44 = (28, Mut.mslice (Elem.the-row) (Syntax.tyRef Syntax.erased Syntax.mut (Memory·.pointee (Elem.the-row .written))) 14)
 
 abbrev row·45 : Row.Entry
-row·45 = (28, Rows.any-gone ty0·11)
+row·45 = (28, Rows.any-gone ty0·12)
 
 abbrev row·46 : Row.Entry
 row·46 = (29, Relend.ssptr (Referent.rtF (Referent.fInt Syntax.w8)) (Syntax.tyRef Syntax.erased Syntax.imm (Syntax.tyInt Syntax.w8)) 15)
@@ -292,7 +299,7 @@ abbrev row·47 : Row.Entry
 row·47 = (29, Rows.any-gone (Syntax.tyRef Syntax.erased Syntax.imm (Syntax.tyInt Syntax.w8)))
 
 abbrev row·48 : Row.Entry
-row·48 = (30, Rows.any-gone ty0·10)
+row·48 = (30, Rows.any-gone ty0·11)
 
 abbrev row·49 : Row.Entry
 row·49 = (30, Rows.sslice (Referent.rtF (Referent.fInt Syntax.w8)) (Syntax.tyRef Syntax.erased Syntax.imm (Syntax.tyInt Syntax.w8)) 15)
@@ -310,7 +317,7 @@ abbrev row·53 : Row.Entry
 row·53 = (34, Mut.mslice (Referent.rtF (Referent.fInt Syntax.w8)) (Syntax.tyRef Syntax.erased Syntax.mut (Syntax.tyInt Syntax.w8)) 17)
 
 abbrev row·54 : Row.Entry
-row·54 = (34, Rows.any-gone ty0·13)
+row·54 = (34, Rows.any-gone ty0·14)
 
 abbrev row·55 : Row.Entry
 row·55 = (35, Relend.ssptr (Referent.rtF (Referent.fInt Syntax.w64)) (Syntax.tyRef Syntax.erased Syntax.imm (Syntax.tyInt Syntax.w64)) 18)
@@ -319,7 +326,7 @@ abbrev row·56 : Row.Entry
 row·56 = (35, Rows.any-gone (Syntax.tyRef Syntax.erased Syntax.imm (Syntax.tyInt Syntax.w64)))
 
 abbrev row·57 : Row.Entry
-row·57 = (36, Rows.any-gone ty0·9)
+row·57 = (36, Rows.any-gone ty0·10)
 
 abbrev row·58 : Row.Entry
 row·58 = (36, Rows.sslice (Referent.rtF (Referent.fInt Syntax.w64)) (Syntax.tyRef Syntax.erased Syntax.imm (Syntax.tyInt Syntax.w64)) 18)
@@ -344,7 +351,7 @@ abbrev row·63 : Row.Entry
 row·63 = (17, Mut.mslice (Referent.rtF (Referent.fInt Syntax.w64)) (Syntax.tyRef Syntax.erased Syntax.mut (Syntax.tyInt Syntax.w64)) 9)
 
 abbrev row·64 : Row.Entry
-row·64 = (17, Rows.any-gone ty0·12)
+row·64 = (17, Rows.any-gone ty0·13)
 
 abbrev row·65 : Row.Entry
 row·65 = (18, Relend.msptr (Referent.rtF (Referent.fInt Syntax.w8)) (Syntax.tyRef Syntax.erased Syntax.mut (Syntax.tyInt Syntax.w8)) 10)
@@ -391,7 +398,7 @@ abbrev row·72 : Row.Entry
 row·72 = (32, Mut.mslice (Referent.rtF (Referent.fInt Syntax.w64)) (Syntax.tyRef Syntax.erased Syntax.mut (Syntax.tyInt Syntax.w64)) 16)
 
 abbrev row·73 : Row.Entry
-row·73 = (32, Rows.any-gone ty0·12)
+row·73 = (32, Rows.any-gone ty0·13)
 
 abbrev row·74 : Row.Entry
 row·74 = (33, Relend.msptr (Referent.rtF (Referent.fInt Syntax.w8)) (Syntax.tyRef Syntax.erased Syntax.mut (Syntax.tyInt Syntax.w8)) 17)
@@ -490,15 +497,15 @@ r = Unit'.rUnit
 
 abbrev pub xs : List.List Syntax.Ty
 xs = List._∷_ (Syntax.tyInt Syntax.w64) (List._∷_ ty3·0 (List._∷_ Syntax.tyBool (List._∷_ (Syntax.tyRef Syntax.erased Syntax.mut (Syntax.tyInt
-    Syntax.w8)) (List._∷_ ty0·13 (List._∷_ (Syntax.tyRef Syntax.erased Syntax.mut (Syntax.tyInt Syntax.w8)) (List._∷_ ty0·13 (List._∷_ (Syntax.tyRef
-    Syntax.erased Syntax.mut (Syntax.tyInt Syntax.w8)) (List._∷_ ty0·13 (List._∷_ (Syntax.tyRef Syntax.erased Syntax.mut (Syntax.tyInt Syntax.w64))
-    (List._∷_ ty0·12 (List._∷_ (Syntax.tyRef Syntax.erased Syntax.mut (Syntax.tyInt Syntax.w8)) (List._∷_ ty0·13 (List._∷_ Syntax.tyUnit (List._∷_
-    (Syntax.tyRef Syntax.erased Syntax.mut (Syntax.tyInt Syntax.w8)) (List._∷_ ty0·13 (List._∷_ (Syntax.tyRef Syntax.erased Syntax.mut (Syntax.tyInt
-    Syntax.w8)) (List._∷_ ty0·13 (List._∷_ (Syntax.tyRef Syntax.erased Syntax.mut (Syntax.tyInt Syntax.w64)) (List._∷_ ty0·12 (List._∷_ (Syntax.tyRef
-    Syntax.erased Syntax.mut (Memory·.pointee (Elem.the-row .written))) (List._∷_ ty0·11 (List._∷_ (Syntax.tyRef Syntax.erased Syntax.imm
-    (Syntax.tyInt Syntax.w8)) (List._∷_ ty0·10 (List._∷_ (Syntax.tyRef Syntax.erased Syntax.mut (Syntax.tyInt Syntax.w64)) (List._∷_ ty0·12 (List._∷_
-    (Syntax.tyRef Syntax.erased Syntax.mut (Syntax.tyInt Syntax.w8)) (List._∷_ ty0·13 (List._∷_ (Syntax.tyRef Syntax.erased Syntax.imm (Syntax.tyInt
-    Syntax.w64)) (List._∷_ ty0·9 List.[])))))))))))))))))))))))))))))
+    Syntax.w8)) (List._∷_ ty0·14 (List._∷_ (Syntax.tyRef Syntax.erased Syntax.mut (Syntax.tyInt Syntax.w8)) (List._∷_ ty0·14 (List._∷_ (Syntax.tyRef
+    Syntax.erased Syntax.mut (Syntax.tyInt Syntax.w8)) (List._∷_ ty0·14 (List._∷_ (Syntax.tyRef Syntax.erased Syntax.mut (Syntax.tyInt Syntax.w64))
+    (List._∷_ ty0·13 (List._∷_ (Syntax.tyRef Syntax.erased Syntax.mut (Syntax.tyInt Syntax.w8)) (List._∷_ ty0·14 (List._∷_ Syntax.tyUnit (List._∷_
+    (Syntax.tyRef Syntax.erased Syntax.mut (Syntax.tyInt Syntax.w8)) (List._∷_ ty0·14 (List._∷_ (Syntax.tyRef Syntax.erased Syntax.mut (Syntax.tyInt
+    Syntax.w8)) (List._∷_ ty0·14 (List._∷_ (Syntax.tyRef Syntax.erased Syntax.mut (Syntax.tyInt Syntax.w64)) (List._∷_ ty0·13 (List._∷_ (Syntax.tyRef
+    Syntax.erased Syntax.mut (Memory·.pointee (Elem.the-row .written))) (List._∷_ ty0·12 (List._∷_ (Syntax.tyRef Syntax.erased Syntax.imm
+    (Syntax.tyInt Syntax.w8)) (List._∷_ ty0·11 (List._∷_ (Syntax.tyRef Syntax.erased Syntax.mut (Syntax.tyInt Syntax.w64)) (List._∷_ ty0·13 (List._∷_
+    (Syntax.tyRef Syntax.erased Syntax.mut (Syntax.tyInt Syntax.w8)) (List._∷_ ty0·14 (List._∷_ (Syntax.tyRef Syntax.erased Syntax.imm (Syntax.tyInt
+    Syntax.w64)) (List._∷_ ty0·10 List.[])))))))))))))))))))))))))))))
 
 abbrev pub m : Nat.ℕ
 m = 13
@@ -1657,7 +1664,7 @@ module _ (claims· : Claims) where
       List.[]))) Syntax.tyUnit
 
   abbrev s85 : Typed.Mo T88 → Typed.Mo T89
-  s85 = Scalar.n-room T88 30 ty0·10
+  s85 = Scalar.n-room T88 30 ty0·11
 
   abbrev s86 : Typed.Mo T89 → Typed.Mo T90
   s86 = Scalar.n-room T89 20 Syntax.tyUnit
@@ -1701,7 +1708,7 @@ module _ (claims· : Claims) where
   ) 7 (List._∷_ 18 List.[]) (Syntax.tyInt Syntax.w64)
 
   abbrev s102 : Typed.Mo T105 → Typed.Mo T106
-  s102 = Scalar.n-room T105 36 ty0·9
+  s102 = Scalar.n-room T105 36 ty0·10
 
   abbrev s104 : Typed.Mo T106 → Typed.Mo T108
   s104 = Reshare.n-back-sl-shr (Referent.rtF (Referent.fInt Syntax.w64)) T106 4 3 18 (Syntax.tyRef (Syntax.named 3) Syntax.mut (Syntax.tyInt
@@ -3668,9 +3675,9 @@ module _ (claims· : Claims) where
                 Path'.refl,
                 ((Scalar.reads-sc 𝓤 H A W (Row.sInt Syntax.w64), Path'.refl), tt),
               ) (Scalar.room-sc 𝓤 H A W (Row.sInt Syntax.w64)) (tt, tt) Path'.refl)
-              (Scalar.g-room 𝓤 H A W E G105 36 ty0·9 (Shared.room-sslice 𝓤 H A W (Referent.rtF (Referent.fInt Syntax.w64)) (Syntax.tyRef Syntax.erased
-              Syntax.imm (Syntax.tyInt Syntax.w64)) 18))) (Lifetime.g-end 𝓤 H A W E G106 18 Path'.refl)) (Reshare.g-back-sl-shr 𝓤 H A W E
-              (Referent.rtF (Referent.fInt Syntax.w64)) G107 4 3 18 (Syntax.tyRef (Syntax.named 3) Syntax.mut (Syntax.tyInt Syntax.w64)) (Row.lease
+              (Scalar.g-room 𝓤 H A W E G105 36 ty0·10 (Shared.room-sslice 𝓤 H A W (Referent.rtF (Referent.fInt Syntax.w64)) (Syntax.tyRef
+              Syntax.erased Syntax.imm (Syntax.tyInt Syntax.w64)) 18))) (Lifetime.g-end 𝓤 H A W E G106 18 Path'.refl)) (Reshare.g-back-sl-shr 𝓤 H A W
+              E (Referent.rtF (Referent.fInt Syntax.w64)) G107 4 3 18 (Syntax.tyRef (Syntax.named 3) Syntax.mut (Syntax.tyInt Syntax.w64)) (Row.lease
               (κs .1 .1 .1 .0) (qs .1 .1 .1 .0)) (λ x. x) (Reads.as-is 𝓤 H A (Reshare.mslice-owedS (Referent.rtF (Referent.fInt Syntax.w64))
               (Syntax.tyRef (Syntax.named 3) Syntax.mut (Syntax.tyInt Syntax.w64)) 3 18 (Row.lease (κs .1 .1 .1 .0) (qs .1 .1 .1 .0)))) Path'.refl
               Path'.refl)) (Lifetime.g-forget 𝓤 H A W E G108 18 Row.dead Path'.refl))
@@ -3680,7 +3687,7 @@ module _ (claims· : Claims) where
               Syntax.w64)) 𝓣 (Relend.asShr (Referent.rtF (Referent.fInt Syntax.w64))) G103 35 36 18 (Syntax.tyRef Syntax.erased Syntax.imm
               (Syntax.tyInt Syntax.w64)) (Syntax.tyRef Syntax.erased Syntax.imm (Syntax.tyInt Syntax.w64)) (λ x. x) (Scalar.oFld 4 (List._∷_
               (Syntax.field 1) List.[]) (Syntax.tyInt Syntax.w64) 8 λ v. Shared.lenV (v .0)) (Reads.as-is 𝓤 H A (Relend.ssptr (Referent.rtF
-              (Referent.fInt Syntax.w64)) (Syntax.tyRef Syntax.erased Syntax.imm (Syntax.tyInt Syntax.w64)) 18)) (Reads.room-gone 𝓤 H A ty0·9) (
+              (Referent.fInt Syntax.w64)) (Syntax.tyRef Syntax.erased Syntax.imm (Syntax.tyInt Syntax.w64)) 18)) (Reads.room-gone 𝓤 H A ty0·10) (
                 Reshare.reads-owedS-len 𝓤 H A W (Referent.rtF (Referent.fInt Syntax.w64)) (Syntax.tyRef (Syntax.named 3) Syntax.mut (Syntax.tyInt
                     Syntax.w64)) 3 18 (Row.lease (κs .1 .1 .1 .0) (qs .1 .1 .1 .0)) 8 Path'.refl,
                 Path'.refl,
@@ -3844,7 +3851,7 @@ module _ (claims· : Claims) where
               A W Row.sUnit)) d19
 
           d21 : Typed.Typed 𝓤 H A 𝓣 E G88 b36 Δ3 at21
-          d21 = Typed.g-pre 𝓤 H A W 𝓣 E G88 G89 b36 Δ3 (Typed.pass T88 T89 s85) at20 (Scalar.g-room 𝓤 H A W E G88 30 ty0·10 (Shared.room-sslice 𝓤 H A
+          d21 = Typed.g-pre 𝓤 H A W 𝓣 E G88 G89 b36 Δ3 (Typed.pass T88 T89 s85) at20 (Scalar.g-room 𝓤 H A W E G88 30 ty0·11 (Shared.room-sslice 𝓤 H A
               W (Referent.rtF (Referent.fInt Syntax.w8)) (Syntax.tyRef Syntax.erased Syntax.imm (Syntax.tyInt Syntax.w8)) 15)) d20
 
           d22 : Typed.Typed 𝓤 H A 𝓣 E G87 b37 Δ3 at22
@@ -3888,7 +3895,7 @@ module _ (claims· : Claims) where
               Syntax.w8)) 𝓣 (Relend.asMut (Referent.rtF (Referent.fInt Syntax.w8))) G86 33 34 17 (Syntax.tyRef Syntax.erased Syntax.mut (Syntax.tyInt
               Syntax.w8)) (Syntax.tyRef Syntax.erased Syntax.mut (Syntax.tyInt Syntax.w8)) (λ x. x) (Scalar.oFld 5 (List._∷_ (Syntax.field 1) List.[])
               (Syntax.tyInt Syntax.w64) 8 λ v. Shared.lenV (v .0)) (Reads.as-is 𝓤 H A (Relend.msptr (Referent.rtF (Referent.fInt Syntax.w8))
-              (Syntax.tyRef Syntax.erased Syntax.mut (Syntax.tyInt Syntax.w8)) 17)) (Reads.room-gone 𝓤 H A ty0·13) (
+              (Syntax.tyRef Syntax.erased Syntax.mut (Syntax.tyInt Syntax.w8)) 17)) (Reads.room-gone 𝓤 H A ty0·14) (
                 Relend.reads-owed-len 𝓤 H A W
                     (Referent.rtF (Referent.fInt Syntax.w8)) (Syntax.tyRef (Syntax.named 4) Syntax.mut (Syntax.tyInt Syntax.w8)) 4 17 (Row.lease (κs .1 .1
                     .1 .1 .0) (qs .1 .1 .1 .1 .0)) 8 Path'.refl,
@@ -3994,7 +4001,7 @@ module _ (claims· : Claims) where
               Syntax.w64)) 𝓣 (Relend.asMut (Referent.rtF (Referent.fInt Syntax.w64))) G83 31 32 16 (Syntax.tyRef Syntax.erased Syntax.mut
               (Syntax.tyInt Syntax.w64)) (Syntax.tyRef Syntax.erased Syntax.mut (Syntax.tyInt Syntax.w64)) (λ x. x) (Scalar.oFld 4 (List._∷_
               (Syntax.field 1) List.[]) (Syntax.tyInt Syntax.w64) 8 λ v. Shared.lenV (v .0)) (Reads.as-is 𝓤 H A (Relend.msptr (Referent.rtF
-              (Referent.fInt Syntax.w64)) (Syntax.tyRef Syntax.erased Syntax.mut (Syntax.tyInt Syntax.w64)) 16)) (Reads.room-gone 𝓤 H A ty0·12) (
+              (Referent.fInt Syntax.w64)) (Syntax.tyRef Syntax.erased Syntax.mut (Syntax.tyInt Syntax.w64)) 16)) (Reads.room-gone 𝓤 H A ty0·13) (
                 Relend.reads-owed-len 𝓤 H A W (Referent.rtF (Referent.fInt Syntax.w64)) (Syntax.tyRef (Syntax.named 3) Syntax.mut (Syntax.tyInt
                     Syntax.w64)) 3 16 (Row.lease (κs .1 .1 .1 .0) (qs .1 .1 .1 .0)) 8 Path'.refl,
                 Path'.refl,
@@ -4102,7 +4109,7 @@ module _ (claims· : Claims) where
               Syntax.w8)) 𝓣 (Relend.asShr (Referent.rtF (Referent.fInt Syntax.w8))) G80 29 30 15 (Syntax.tyRef Syntax.erased Syntax.imm (Syntax.tyInt
               Syntax.w8)) (Syntax.tyRef Syntax.erased Syntax.imm (Syntax.tyInt Syntax.w8)) (λ x. x) (Scalar.oFld 3 (List._∷_ (Syntax.field 1) List.[])
               (Syntax.tyInt Syntax.w64) 8 λ v. Shared.lenV (v .0)) (Reads.as-is 𝓤 H A (Relend.ssptr (Referent.rtF (Referent.fInt Syntax.w8))
-              (Syntax.tyRef Syntax.erased Syntax.imm (Syntax.tyInt Syntax.w8)) 15)) (Reads.room-gone 𝓤 H A ty0·10) (
+              (Syntax.tyRef Syntax.erased Syntax.imm (Syntax.tyInt Syntax.w8)) 15)) (Reads.room-gone 𝓤 H A ty0·11) (
                 Reshare.reads-owedS-len 𝓤 H A W
                     (Referent.rtF (Referent.fInt Syntax.w8)) (Syntax.tyRef (Syntax.named 2) Syntax.mut (Syntax.tyInt Syntax.w8)) 2 15 (Row.lease (κs .1 .1
                     .0) (qs .1 .1 .0)) 8 Path'.refl,
@@ -4376,7 +4383,7 @@ module _ (claims· : Claims) where
               (Elem.the-row)) G59 27 28 14 (Syntax.tyRef Syntax.erased Syntax.mut (Memory·.pointee (Elem.the-row .written))) (Syntax.tyRef
               Syntax.erased Syntax.mut (Memory·.pointee (Elem.the-row .written))) (λ x. x) (Scalar.oFld 6 (List._∷_ (Syntax.field 1) List.[])
               (Syntax.tyInt Syntax.w64) 8 λ v. Shared.lenV (v .0)) (Reads.as-is 𝓤 H A (Relend.msptr (Elem.the-row) (Syntax.tyRef Syntax.erased
-              Syntax.mut (Memory·.pointee (Elem.the-row .written))) 14)) (Reads.room-gone 𝓤 H A ty0·11) (
+              Syntax.mut (Memory·.pointee (Elem.the-row .written))) 14)) (Reads.room-gone 𝓤 H A ty0·12) (
                 Relend.reads-owed-len 𝓤 H A W (Elem.the-row)
                     (Syntax.tyRef (Syntax.named 5) Syntax.mut (Memory·.pointee (Elem.the-row .written))) 5 14 (Row.lease (κs .1 .1 .1 .1 .1 .0) (qs .1 .1 .1
                     .1 .1 .0)) 8 Path'.refl,
@@ -4483,7 +4490,7 @@ module _ (claims· : Claims) where
               Syntax.w64)) 𝓣 (Relend.asMut (Referent.rtF (Referent.fInt Syntax.w64))) G56 25 26 13 (Syntax.tyRef Syntax.erased Syntax.mut
               (Syntax.tyInt Syntax.w64)) (Syntax.tyRef Syntax.erased Syntax.mut (Syntax.tyInt Syntax.w64)) (λ x. x) (Scalar.oFld 4 (List._∷_
               (Syntax.field 1) List.[]) (Syntax.tyInt Syntax.w64) 8 λ v. Shared.lenV (v .0)) (Reads.as-is 𝓤 H A (Relend.msptr (Referent.rtF
-              (Referent.fInt Syntax.w64)) (Syntax.tyRef Syntax.erased Syntax.mut (Syntax.tyInt Syntax.w64)) 13)) (Reads.room-gone 𝓤 H A ty0·12) (
+              (Referent.fInt Syntax.w64)) (Syntax.tyRef Syntax.erased Syntax.mut (Syntax.tyInt Syntax.w64)) 13)) (Reads.room-gone 𝓤 H A ty0·13) (
                 Relend.reads-owed-len 𝓤 H A W (Referent.rtF (Referent.fInt Syntax.w64)) (Syntax.tyRef (Syntax.named 3) Syntax.mut (Syntax.tyInt
                     Syntax.w64)) 3 13 (Row.lease (κs .1 .1 .1 .0) (qs .1 .1 .1 .0)) 8 Path'.refl,
                 Path'.refl,
@@ -4588,7 +4595,7 @@ module _ (claims· : Claims) where
               Syntax.w8)) 𝓣 (Relend.asMut (Referent.rtF (Referent.fInt Syntax.w8))) G53 23 24 12 (Syntax.tyRef Syntax.erased Syntax.mut (Syntax.tyInt
               Syntax.w8)) (Syntax.tyRef Syntax.erased Syntax.mut (Syntax.tyInt Syntax.w8)) (λ x. x) (Scalar.oFld 3 (List._∷_ (Syntax.field 1) List.[])
               (Syntax.tyInt Syntax.w64) 8 λ v. Shared.lenV (v .0)) (Reads.as-is 𝓤 H A (Relend.msptr (Referent.rtF (Referent.fInt Syntax.w8))
-              (Syntax.tyRef Syntax.erased Syntax.mut (Syntax.tyInt Syntax.w8)) 12)) (Reads.room-gone 𝓤 H A ty0·13) (
+              (Syntax.tyRef Syntax.erased Syntax.mut (Syntax.tyInt Syntax.w8)) 12)) (Reads.room-gone 𝓤 H A ty0·14) (
                 Relend.reads-owed-len 𝓤 H A W
                     (Referent.rtF (Referent.fInt Syntax.w8)) (Syntax.tyRef (Syntax.named 2) Syntax.mut (Syntax.tyInt Syntax.w8)) 2 12 (Row.lease (κs .1 .1
                     .0) (qs .1 .1 .0)) 8 Path'.refl,
@@ -4697,7 +4704,7 @@ module _ (claims· : Claims) where
               Syntax.w8)) 𝓣 (Relend.asMut (Referent.rtF (Referent.fInt Syntax.w8))) G50 21 22 11 (Syntax.tyRef Syntax.erased Syntax.mut (Syntax.tyInt
               Syntax.w8)) (Syntax.tyRef Syntax.erased Syntax.mut (Syntax.tyInt Syntax.w8)) (λ x. x) (Scalar.oFld 2 (List._∷_ (Syntax.field 1) List.[])
               (Syntax.tyInt Syntax.w64) 8 λ v. Shared.lenV (v .0)) (Reads.as-is 𝓤 H A (Relend.msptr (Referent.rtF (Referent.fInt Syntax.w8))
-              (Syntax.tyRef Syntax.erased Syntax.mut (Syntax.tyInt Syntax.w8)) 11)) (Reads.room-gone 𝓤 H A ty0·13) (
+              (Syntax.tyRef Syntax.erased Syntax.mut (Syntax.tyInt Syntax.w8)) 11)) (Reads.room-gone 𝓤 H A ty0·14) (
                 Relend.reads-owed-len 𝓤 H A W
                     (Referent.rtF (Referent.fInt Syntax.w8)) (Syntax.tyRef (Syntax.named 1) Syntax.mut (Syntax.tyInt Syntax.w8)) 1 11 (Row.lease (κs .1 .0)
                     (qs .1 .0)) 8 Path'.refl,
@@ -4985,7 +4992,7 @@ module _ (claims· : Claims) where
               Syntax.w8)) 𝓣 (Relend.asMut (Referent.rtF (Referent.fInt Syntax.w8))) G26 18 19 10 (Syntax.tyRef Syntax.erased Syntax.mut (Syntax.tyInt
               Syntax.w8)) (Syntax.tyRef Syntax.erased Syntax.mut (Syntax.tyInt Syntax.w8)) (λ x. x) (Scalar.oFld 5 (List._∷_ (Syntax.field 1) List.[])
               (Syntax.tyInt Syntax.w64) 8 λ v. Shared.lenV (v .0)) (Reads.as-is 𝓤 H A (Relend.msptr (Referent.rtF (Referent.fInt Syntax.w8))
-              (Syntax.tyRef Syntax.erased Syntax.mut (Syntax.tyInt Syntax.w8)) 10)) (Reads.room-gone 𝓤 H A ty0·13) (
+              (Syntax.tyRef Syntax.erased Syntax.mut (Syntax.tyInt Syntax.w8)) 10)) (Reads.room-gone 𝓤 H A ty0·14) (
                 Relend.reads-owed-len 𝓤 H A W
                     (Referent.rtF (Referent.fInt Syntax.w8)) (Syntax.tyRef (Syntax.named 4) Syntax.mut (Syntax.tyInt Syntax.w8)) 4 10 (Row.lease (κs .1 .1
                     .1 .1 .0) (qs .1 .1 .1 .1 .0)) 8 Path'.refl,
@@ -5085,7 +5092,7 @@ module _ (claims· : Claims) where
               Syntax.w64)) 𝓣 (Relend.asMut (Referent.rtF (Referent.fInt Syntax.w64))) G23 16 17 9 (Syntax.tyRef Syntax.erased Syntax.mut (Syntax.tyInt
               Syntax.w64)) (Syntax.tyRef Syntax.erased Syntax.mut (Syntax.tyInt Syntax.w64)) (λ x. x) (Scalar.oFld 4 (List._∷_ (Syntax.field 1)
               List.[]) (Syntax.tyInt Syntax.w64) 8 λ v. Shared.lenV (v .0)) (Reads.as-is 𝓤 H A (Relend.msptr (Referent.rtF (Referent.fInt Syntax.w64))
-              (Syntax.tyRef Syntax.erased Syntax.mut (Syntax.tyInt Syntax.w64)) 9)) (Reads.room-gone 𝓤 H A ty0·12) (
+              (Syntax.tyRef Syntax.erased Syntax.mut (Syntax.tyInt Syntax.w64)) 9)) (Reads.room-gone 𝓤 H A ty0·13) (
                 Relend.reads-owed-len 𝓤 H A W
                     (Referent.rtF (Referent.fInt Syntax.w64)) (Syntax.tyRef (Syntax.named 3) Syntax.mut (Syntax.tyInt Syntax.w64)) 3 9 (Row.lease (κs .1 .1
                     .1 .0) (qs .1 .1 .1 .0)) 8 Path'.refl,
@@ -5191,7 +5198,7 @@ module _ (claims· : Claims) where
               Syntax.w8)) 𝓣 (Relend.asMut (Referent.rtF (Referent.fInt Syntax.w8))) G20 14 15 8 (Syntax.tyRef Syntax.erased Syntax.mut (Syntax.tyInt
               Syntax.w8)) (Syntax.tyRef Syntax.erased Syntax.mut (Syntax.tyInt Syntax.w8)) (λ x. x) (Scalar.oFld 3 (List._∷_ (Syntax.field 1) List.[])
               (Syntax.tyInt Syntax.w64) 8 λ v. Shared.lenV (v .0)) (Reads.as-is 𝓤 H A (Relend.msptr (Referent.rtF (Referent.fInt Syntax.w8))
-              (Syntax.tyRef Syntax.erased Syntax.mut (Syntax.tyInt Syntax.w8)) 8)) (Reads.room-gone 𝓤 H A ty0·13) (
+              (Syntax.tyRef Syntax.erased Syntax.mut (Syntax.tyInt Syntax.w8)) 8)) (Reads.room-gone 𝓤 H A ty0·14) (
                 Relend.reads-owed-len 𝓤 H A W
                     (Referent.rtF (Referent.fInt Syntax.w8)) (Syntax.tyRef (Syntax.named 2) Syntax.mut (Syntax.tyInt Syntax.w8)) 2 8 (Row.lease (κs .1 .1
                     .0) (qs .1 .1 .0)) 8 Path'.refl,
@@ -5300,7 +5307,7 @@ module _ (claims· : Claims) where
               Syntax.w8)) 𝓣 (Relend.asMut (Referent.rtF (Referent.fInt Syntax.w8))) G17 12 13 7 (Syntax.tyRef Syntax.erased Syntax.mut (Syntax.tyInt
               Syntax.w8)) (Syntax.tyRef Syntax.erased Syntax.mut (Syntax.tyInt Syntax.w8)) (λ x. x) (Scalar.oFld 2 (List._∷_ (Syntax.field 1) List.[])
               (Syntax.tyInt Syntax.w64) 8 λ v. Shared.lenV (v .0)) (Reads.as-is 𝓤 H A (Relend.msptr (Referent.rtF (Referent.fInt Syntax.w8))
-              (Syntax.tyRef Syntax.erased Syntax.mut (Syntax.tyInt Syntax.w8)) 7)) (Reads.room-gone 𝓤 H A ty0·13) (
+              (Syntax.tyRef Syntax.erased Syntax.mut (Syntax.tyInt Syntax.w8)) 7)) (Reads.room-gone 𝓤 H A ty0·14) (
                 Relend.reads-owed-len 𝓤 H A W
                     (Referent.rtF (Referent.fInt Syntax.w8)) (Syntax.tyRef (Syntax.named 1) Syntax.mut (Syntax.tyInt Syntax.w8)) 1 7 (Row.lease (κs .1 .0)
                     (qs .1 .0)) 8 Path'.refl,
@@ -5412,7 +5419,7 @@ module _ (claims· : Claims) where
               Syntax.w8)) 𝓣 (Relend.asMut (Referent.rtF (Referent.fInt Syntax.w8))) G14 10 11 6 (Syntax.tyRef Syntax.erased Syntax.mut (Syntax.tyInt
               Syntax.w8)) (Syntax.tyRef Syntax.erased Syntax.mut (Syntax.tyInt Syntax.w8)) (λ x. x) (Scalar.oFld 1 (List._∷_ (Syntax.field 1) List.[])
               (Syntax.tyInt Syntax.w64) 8 λ v. Shared.lenV (v .0)) (Reads.as-is 𝓤 H A (Relend.msptr (Referent.rtF (Referent.fInt Syntax.w8))
-              (Syntax.tyRef Syntax.erased Syntax.mut (Syntax.tyInt Syntax.w8)) 6)) (Reads.room-gone 𝓤 H A ty0·13) (
+              (Syntax.tyRef Syntax.erased Syntax.mut (Syntax.tyInt Syntax.w8)) 6)) (Reads.room-gone 𝓤 H A ty0·14) (
                 Relend.reads-owed-len 𝓤 H A W
                     (Referent.rtF (Referent.fInt Syntax.w8)) (Syntax.tyRef (Syntax.named 0) Syntax.mut (Syntax.tyInt Syntax.w8)) 0 6 (Row.lease (κs .0) (qs
                     .0)) 8 Path'.refl,

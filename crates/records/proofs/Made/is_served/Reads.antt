@@ -1,6 +1,6 @@
 -- Made by made/make: not to be edited. Assumes nothing.
-use Rattle.records.proofs.view_of
-use Rattle.records.proofs.Made.view_of.Kinds
+use Rattle.records.proofs.is_served
+use Rattle.records.proofs.Made.is_served.Kinds
 use base.Logic
 use borrow.Fn.Kinds as Kinds'
 use borrow.Fn.Learn
@@ -17,21 +17,21 @@ abbrev pub Ghost : Type 0
 Ghost = Unit {0}
 
 module _ (κs : Lifetimes.Lfts 1) where
-  abbrev pub Pinned : (a : World.ArgsD view_of.signature κs) → (w : World.World) → Type 1
-  Pinned = Learn.no-pin view_of.signature κs
+  abbrev pub Pinned : (a : World.ArgsD is_served.signature κs) → (w : World.World) → Type 1
+  Pinned = Learn.no-pin is_served.signature κs
 
   abbrev pub Owned :
-      (r : World.ResD view_of.signature κs) →
+      (r : World.ResD is_served.signature κs) →
       (s : Clauses.AtExit (Kinds'.endedOf 1 Kinds.ps Kinds.r) κs) →
       (w : World.World) →
       Type 1
   Owned = Learn.no-own (Kinds'.endedOf 1 Kinds.ps Kinds.r) κs
 
-  abbrev pub Base : (a : World.ArgsD view_of.signature κs) → (w : World.World) → World.Pr w
+  abbrev pub Base : (a : World.ArgsD is_served.signature κs) → (w : World.World) → World.Pr w
   Base = Written.Base 1 Kinds.ps Kinds.r (λ κs. Pinned) κs
 
-  abbrev pub pins : (w : World.World) → Learn.PinOf view_of.signature κs w λ a. Pinned a w
-  pins = λ w. Learn.no-pins view_of.signature κs w
+  abbrev pub pins : (w : World.World) → Learn.PinOf is_served.signature κs w λ a. Pinned a w
+  pins = λ w. Learn.no-pins is_served.signature κs w
 
   abbrev pub owns :
       (w : World.World) →
@@ -47,19 +47,19 @@ module _ (κs : Lifetimes.Lfts 1) where
   owns = λ w. Learn.no-owns (Kinds'.endedOf 1 Kinds.ps Kinds.r) (Kinds'.stays Kinds.ps) κs w
 
   abbrev pub requires :
-      (a : World.ArgsD view_of.signature κs) → (g : Ghost) → (w : World.World) → World.Pr w
+      (a : World.ArgsD is_served.signature κs) → (g : Ghost) → (w : World.World) → World.Pr w
   requires =
-      λ a g w. view_of.clauses (w .𝓤) (w .H) (w .𝓖 .A) (w .𝓜 .mem) (w .𝓡 .run) κs a .requires g
+      λ a g w. is_served.clauses (w .𝓤) (w .H) (w .𝓖 .A) (w .𝓜 .mem) (w .𝓡 .run) κs a .requires g
 
   abbrev pub ensures :
-      (a : World.ArgsD view_of.signature κs) →
+      (a : World.ArgsD is_served.signature κs) →
       (g : Ghost) →
-      (r : World.ResD view_of.signature κs) →
+      (r : World.ResD is_served.signature κs) →
       (s : Clauses.AtExit (Kinds'.endedOf 1 Kinds.ps Kinds.r) κs) →
       (w : World.World) →
       World.Pr w
   ensures =
-      λ a g r s w. view_of.clauses
+      λ a g r s w. is_served.clauses
       (w .𝓤)
       (w .H)
       (w .𝓖 .A)
@@ -72,9 +72,9 @@ module _ (κs : Lifetimes.Lfts 1) where
       s
 
   abbrev pub pre-read :
-      (a : World.ArgsD view_of.signature κs) →
+      (a : World.ArgsD is_served.signature κs) →
       (g : Ghost) →
-      Read.Read (World.In view_of.signature κs a) Read.no-know (requires a g)
+      Read.Read (World.In is_served.signature κs a) Read.no-know (requires a g)
   pre-read =
       λ a g. Read.all-models
       (requires a g)
@@ -84,14 +84,14 @@ module _ (κs : Lifetimes.Lfts 1) where
       λ w. Path'.refl
 
   abbrev pub ensures-1·read :
-      (a : World.ArgsD view_of.signature κs) →
+      (a : World.ArgsD is_served.signature κs) →
       (g : Ghost) →
-      (r : World.ResD view_of.signature κs) →
+      (r : World.ResD is_served.signature κs) →
       (s : Clauses.AtExit (Kinds'.endedOf 1 Kinds.ps Kinds.r) κs) →
       Read.Read
       (Base a)
       (Owned r s)
-      λ w. view_of.ensures-1
+      λ w. is_served.ensures-1
       (w .𝓤)
       (w .H)
       κs
@@ -100,12 +100,14 @@ module _ (κs : Lifetimes.Lfts 1) where
       (w .𝓡 .run)
       (a .0)
       (a .1 .0)
+      (a .1 .1 .0)
       record { entry = a .0; exit = s .0 }
       record { entry = a .1 .0; exit = s .1 .0 }
+      record { entry = a .1 .1 .0; exit = s .1 .1 .0 }
       r
   ensures-1·read =
       λ a g r s. Read.all-models
-      (λ w. view_of.ensures-1
+      (λ w. is_served.ensures-1
       (w .𝓤)
       (w .H)
       κs
@@ -114,8 +116,10 @@ module _ (κs : Lifetimes.Lfts 1) where
       (w .𝓡 .run)
       (a .0)
       (a .1 .0)
+      (a .1 .1 .0)
       record { entry = a .0; exit = s .0 }
       record { entry = a .1 .0; exit = s .1 .0 }
+      record { entry = a .1 .1 .0; exit = s .1 .1 .0 }
       r)
       (λ w. search Read.reads)
       (λ w. Path'.refl)
@@ -123,9 +127,9 @@ module _ (κs : Lifetimes.Lfts 1) where
       λ w. Path'.refl
 
   abbrev pub post-read :
-      (a : World.ArgsD view_of.signature κs) →
+      (a : World.ArgsD is_served.signature κs) →
       (g : Ghost) →
-      (r : World.ResD view_of.signature κs) →
+      (r : World.ResD is_served.signature κs) →
       (s : Clauses.AtExit (Kinds'.endedOf 1 Kinds.ps Kinds.r) κs) →
       Read.Read (Base a) (Owned r s) (ensures a g r s)
   post-read = λ a g r s. ensures-1·read a g r s
@@ -151,7 +155,7 @@ passes = λ w κs a g r ws ft p q. Monad.top (w .𝓤) (Read.all∗ w (pre-read 
 pub lent :
     (w : World.World) →
     (κs : Lifetimes.Lfts 1) →
-    (a : World.ArgsD view_of.signature κs) →
+    (a : World.ArgsD is_served.signature κs) →
     Logic.ent (w .𝓤) (Logic.emp (w .𝓤)) (Read.all∗ w (pre-read κs a tt .held w))
 lent = λ w κs a. Logic.id⊢ (w .𝓤) (Logic.emp (w .𝓤))
 

@@ -1,0 +1,87 @@
+-- Parties that share a journal: each has what it would have had alone, and demand 3 holds for each. A run is one list of calls, each with its
+-- party; it is about `editBy`, `undoBy`, `writeBy` and `loadBy`, with which the contracts of the calls equate all that they do, and each
+-- party's code is written by that party alone. Proved in `proofs/Parties.antt`. Assumes nothing.
+use Prim.Native.Nat.{ℕ, _<_, _^_, _≤_}
+use mathlib.Core.Path.{_≡_}
+use mathlib.Core.Bool.{true, cond}
+use mathlib.Core.List.{List, [], _∷_, map}
+use mathlib.Core.Option.{Option, none, some}
+use lib.Dec.{T, eqb}
+use lib.ListN.{length, getD}
+use Rattle.answer.specs.Answer.{accepted}
+use Rattle.bundle.specs.Bundle.{longestCode}
+use Rattle.journal.specs.Edit.{editBy, undoBy}
+use Rattle.journal.specs.Demand3.{edit, undo}
+use Rattle.records.specs.Shared.{Shared, ownOf, placesOf, isOpened, fresh}
+use Rattle.sheet.specs.Sheet.{writeBy}
+use Rattle.sheet.specs.Load.{loadBy}
+use Rattle.sheet.specs.Across.{SheetCall, call, write, load, loadText, State, sheetIn, runAcross, ownSheets, HoldsAcross}
+
+-- what there is in a run: the shared journal, and of each party its code, what its last call answered and the sheet that this wrote
+pub record Mixed : Type 0 where
+  pub journal : Shared
+  pub code : ℕ → List ℕ
+  pub answer : ℕ → ℕ
+  pub sheet : ℕ → Option (List ℕ)
+
+-- the same for all parties but one
+abbrev pub but : {A : Type 0} → (ℕ → A) → ℕ → A → ℕ → A
+but f party a q = cond (eqb q party) a (f q)
+
+-- after a party's call that leaves this journal, this answer, this code and this sheet
+abbrev pub left : Mixed → ℕ → Shared → ℕ → List ℕ → Option (List ℕ) → Mixed
+left m party journal answer code sheet =
+    record { journal = journal; code = but (m .code) party code; answer = but (m .answer) party answer; sheet = but (m .sheet) party sheet }
+
+-- loading a text; where none was written by the party's call before, there is nothing to load
+abbrev pub loadedBy : Mixed → ℕ → Option (List ℕ) → Mixed
+loadedBy m party none = left m party (m .journal) (m .answer party) (m .code party) none
+loadedBy m party (some text) = let l = loadBy (m .journal) party text in left m party (l .journal) (l .answer) (m .code party) none
+
+-- one call of a party
+abbrev pub calledBy : Mixed → ℕ → SheetCall → Mixed
+calledBy m party (call (edit e)) = let o = editBy (m .code party) (m .journal) party e in left m party (o .journal) (o .answer) (o .code) none
+calledBy m party (call undo) = let o = undoBy (m .code party) (m .journal) party in left m party (o .journal) (o .answer) (o .code) none
+calledBy m party (write out) = let w = writeBy (m .journal) party out in left m party (m .journal) (w .0 .answer) (m .code party) (sheetIn w)
+calledBy m party load = loadedBy m party (m .sheet party)
+calledBy m party (loadText text) = loadedBy m party (some text)
+
+-- a run from a fresh journal, opened for so many, with a code for each party; the last call stands first
+abbrev pub mixed : ℕ → (ℕ → List ℕ) → List (ℕ × SheetCall) → Mixed
+mixed parties codes [] = record { journal = fresh parties; code = codes; answer = λ _. accepted; sheet = λ _. none }
+mixed parties codes (c ∷ cs) = calledBy (mixed parties codes cs) (c .0) (c .1)
+
+-- what a party has of it: what its last call answered, its journal, its code, and the sheet that it wrote
+abbrev pub seenBy : Mixed → ℕ → State
+seenBy m party = record { after = record { answer = m .answer party; journal = ownOf (m .journal) party; code = m .code party }; sheet = m .sheet party }
+
+-- the calls of one party among them
+abbrev pub callsOf : ℕ → List (ℕ × SheetCall) → List SheetCall
+callsOf party [] = []
+callsOf party (c ∷ cs) = cond (eqb (c .0) party) (c .1 ∷ callsOf party cs) (callsOf party cs)
+
+-- these alone, each with its party
+abbrev pub aloneOf : ℕ → List (ℕ × SheetCall) → List (ℕ × SheetCall)
+aloneOf party cs = map (λ (c : SheetCall). (party, c)) (callsOf party cs)
+
+-- codes of bytes
+abbrev pub AreCodes : (ℕ → List ℕ) → Type 0
+AreCodes codes = (party i : ℕ) → getD (codes party) i 0 < 2 ^ 8
+
+-- independence: in a journal opened for two, under any mixing of calls, each party has what it would have had alone in one opened for two
+abbrev pub Independent : Type 0
+Independent =
+    (codes : ℕ → List ℕ) → AreCodes codes → (calls : List (ℕ × SheetCall)) (party : ℕ) → party < 2
+    → seenBy (mixed 2 codes calls) party ≡ seenBy (mixed 2 codes (aloneOf party calls)) party
+
+-- what is so of each party, whether one or two share the journal
+pub record HoldsFor (parties : ℕ) (codes : ℕ → List ℕ) (calls : List (ℕ × SheetCall)) (party : ℕ) : Type 0 where
+  -- it has what its own calls come to with a journal of its own, of as many places
+  pub has : seenBy (mixed parties codes calls) party ≡ runAcross party (placesOf parties party) (codes party) (callsOf party calls)
+  -- and of these demand 3 holds, where it loads no sheet but the one that its own call before wrote
+  pub holds : length (codes party) ≤ longestCode → T (ownSheets (callsOf party calls)) → HoldsAcross party (placesOf parties party) (codes party) (callsOf party calls)
+
+-- demand 3 for each party of every journal that is opened for one or two
+abbrev pub Demand3Parties : Type 0
+Demand3Parties =
+    (parties : ℕ) (codes : ℕ → List ℕ) → isOpened parties ≡ true → AreCodes codes → (calls : List (ℕ × SheetCall)) (party : ℕ) → party < parties → HoldsFor parties codes calls party
