@@ -87,8 +87,8 @@ class Talk:
 SAMPLES = (
     "code 40", "put 0 00ff10", "put 3 -", "get 0 4", "sum", "find 0", "cut 1", "join 20 16 1 2 3", "operands 77 49 0 0",
     "immediate 0 2 66 1", "target 0 2 66 1 16", "open 2", "journal 1 3 0", "journal 2 3 4 70", "place 2 1 2 B1 3 4 5 6 7 1", "records",
-    "edit 0 0 2 66 1 I-16", "undo 1", "sheet 0 100", "sheetline 0 1 100", "load 0 70617463686573093020", "report", "clear",
-    "clear " + " ".join(map(str, range(NUMBERS))),
+    "edit 0 0 2 66 1 I-16", "undo 1", "sheet 0 100", "sheetline 0 1 100", "load 0 70617463686573093020", "meet 1 2 66 1 1 0 77 44",
+    "report", "clear", "clear " + " ".join(map(str, range(NUMBERS))),
 )
 
 
@@ -823,6 +823,103 @@ def journals(talk):
     refusals(talk, 16000)
 
 
+# ---- whether two edits meet, and the order of edits that don't
+
+def meetings(talk):
+    every_meeting(talk)
+    asked(talk, 12000)
+    pairs(talk, 4000)
+    two_files(talk, 600)
+
+
+def every_meeting(talk):
+    """Every form with a row in every slot beside every other, in one bundle, and some in two."""
+    random = talk.random
+    fields = [f"{slot} {ord(name[0])} {name[1:]}" for name in ROWS for slot in range(3)]
+    for one, other in itertools.product(fields, fields):
+        n = talk.any_number()
+        talk(f"meet {n} {one} {n} {other}")
+        if random.random() < 0.1:
+            talk(f"meet {n} {one} {random.choice((n ^ 1, n ^ 1 << 63, talk.any_number()))} {other}")
+
+
+def asked(talk, count):
+    """Edits that have bits and that have none, of one bundle and of two, with numbers of every size."""
+    random = talk.random
+    for _ in range(count):
+        n, fields = talk.any_number(), []
+        for _ in range(2):
+            slot = random.randrange(3) if random.random() < 0.8 else random.choice((3, 4, 255, 256, 258, 1 << 32, (1 << 32) + 2, HUGE - 1))
+            family, number = forms(random)
+            fields.append(f"{n} {slot} {family} {number}")
+            n = n if random.random() < 0.7 else talk.any_number()
+        talk(f"meet {fields[0]} {fields[1]}")
+
+
+def taken_edit(random, busy, code):
+    """An edit that the code takes, of one of those bundles: bundle, slot, family and number, and the value."""
+    n = random.choice(busy)
+    units = UNITS[code[16 * n] % 32]
+    slot, name = random.choice([(slot, name) for slot in range(3) for name in ROWS if units[slot] in FITTING[name[0]]])
+    row = ROWS[name]
+    return (n, slot, ord(name[0]), int(name[1:])), f"{row.kind()}{row.value(random.getrandbits(row.width))}"
+
+
+def code_after(talk, first, edits):
+    """The code after a party's edits that are each taken, from a first code and a journal with just the room, or more."""
+    talk(f"put 0 {first.hex()}")
+    put_journal(talk, [NONE] * (talk.room() - len(edits)) if talk.random.random() < 0.02 else [])
+    for field, value in edits:
+        said = talk.call(f"edit {' '.join(map(str, field))} {value}")
+        assert said == "edit 0", f"{talk.lines[-1]} was acceptable at the start, and isn't now"
+    talk(f"get 0 {len(first)}")
+    return bytes(talk.model.code)
+
+
+def are_apart(talk, one, other):
+    return talk(f"meet {' '.join(map(str, one[0]))} {' '.join(map(str, other[0]))}") == "meet 0 0"
+
+
+def pairs(talk, count):
+    """Two edits in either order: where they don't meet the code is the same, and of two of one field the later decides it alone."""
+    random = talk.random
+    for _ in range(count):
+        talk.any_side()
+        busy, standing = begun(talk, 80, random.choice((1, 1, 2)))
+        first = standing.first
+        one, other = taken_edit(random, busy, first), taken_edit(random, busy, first)
+        if random.random() < 0.2:
+            row = ROWS[f"{chr(one[0][2])}{one[0][3]}"]
+            other = one[0], f"{row.kind()}{row.value(random.getrandbits(row.width))}"
+        apart = are_apart(talk, one, other)
+        assert apart == are_apart(talk, other, one), "whether two edits meet goes by their order"
+        codes = code_after(talk, first, [one, other]), code_after(talk, first, [other, one])
+        assert not apart or codes[0] == codes[1], "edits that don't meet don't commute"
+        if one[0] == other[0]:
+            assert codes == (code_after(talk, first, [other]), code_after(talk, first, [one])), "the later edit doesn't decide"
+
+
+def any_mix(random, one, other):
+    """The edits of two files, each in its own order."""
+    ones, others = iter(one), iter(other)
+    return [next(which) for which in random.sample([ones] * len(one) + [others] * len(other), len(one) + len(other))]
+
+
+def two_files(talk, count):
+    """Two files whose edits don't meet, though each file's own may: every mix gives the code of the one after the other."""
+    random = talk.random
+    for _ in range(count):
+        talk.any_side()
+        busy, standing = begun(talk, 80, random.choice((1, 2, 4)))
+        first = standing.first
+        one = [taken_edit(random, busy, first) for _ in range(random.randrange(6))]
+        others = [taken_edit(random, busy, first) for _ in range(random.choice((0, 2, 12, 12)))]
+        other = [edit for edit in others if all([are_apart(talk, mine, edit) for mine in one])]
+        wanted = code_after(talk, first, one + other)
+        for mix in (other + one, any_mix(random, one, other), any_mix(random, one, other)):
+            assert code_after(talk, first, mix) == wanted, "the order of two files matters"
+
+
 # ---- sheets
 
 EXAMPLE = (0, 2, "B1", 16, 70368744177712, 9223372036863164416, 70368744177712, 9223372105582641152)
@@ -1238,6 +1335,7 @@ STAGES = {
     "readers": (("operands",), refused_operands),
     "immediate": (("immediate", "target"), immediates),
     "journal": (("open", "journal", "place", "records", "edit", "undo"), journals),
+    "meet": (("meet",), meetings),
     "sheet": (("sheet", "sheetline", "load"), sheets),
     "tally": (("report", "clear"), reports),
 }
@@ -1250,7 +1348,7 @@ TOGETHER = {
     **{f"undo of {parties}": "10 11 8 1 9" for parties in (1, 2)},
     **{f"{call} of {parties}": "11 12" for parties in (1, 2) for call in ("sheet", "sheetline")},
     "load of 1": "11 13", "load of 2": "11 13 7",
-    "report": "10 6",
+    "meet": "3 5", "report": "10 6",
 }
 APART = {(1, 2), (1, 9), (8, 1), (8, 9), (13, 7)}
 

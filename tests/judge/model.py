@@ -104,6 +104,22 @@ def bundle_at(code, number):
     return Bundle(code[16 * number:16 * number + 16]) if 16 * number + 16 <= len(code) else None
 
 
+def no_bits(n, slot, family, form):
+    """Why an edit sets no bits, whatever its bundle."""
+    return [(3, row_of(family, form) is None), (5, slot > 2)]
+
+
+@functools.lru_cache(1 << 10)
+def bits_of(slot, family, form):
+    """The bits of a bundle that an edit sets: of its own slot, and an X form's of slot 1 too."""
+    return {5 + 41 * (1 if which else slot) + place + i for which, place, width, _ in row_of(family, form).parts for i in range(width)}
+
+
+def meet(one, other):
+    """Whether two edits set a bit in common."""
+    return one[0] == other[0] and not bits_of(*one[1:]).isdisjoint(bits_of(*other[1:]))
+
+
 def first(reasons):
     """The number of the first refusal that applies, and 0 where none does."""
     return next((number for number, applies in reasons if applies), 0)
@@ -437,6 +453,13 @@ class Model:
         if answer:
             return f"target {answer} 0"
         return f"target 0 {(address + row.read([bundle.words[slot], bundle.words[1]])) % HUGE}"
+
+    # whether two edits meet, by the table alone
+
+    def on_meet(self, n, slot, family, form, other_n, other_slot, other_family, other_form):
+        one, other = tuple(map(number, (n, slot, family, form))), tuple(map(number, (other_n, other_slot, other_family, other_form)))
+        answer = self.refused(no_bits(*one) + no_bits(*other))
+        return f"meet {answer} {int(not answer and meet(one, other))}"
 
     # the journal
 

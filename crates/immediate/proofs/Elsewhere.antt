@@ -20,7 +20,6 @@ use Rattle.row.specs.declared.Row.{Row}
 use Rattle.immediate.proofs.Laws.{Stands}
 use Rattle.row.proofs.Rows.{good, row-good}
 use Rattle.immediate.proofs.Sound.{in-words, x-in-2, x-unit, x-beside-l}
-use Rattle.immediate.proofs.Written.{written-comm}
 
 -- another slot stays, and the L slot where the form isn't an X form
 pub slot-kept : (form : Form) (slot : ℕ) (row : Row) (n raw j : ℕ) → T (good (form .family) row) → isNone row ≡ false → (j ≡ slot → ⊥) → (form .family ≡ X → j ≡ 1 → ⊥)
@@ -57,9 +56,8 @@ module _ (n : ℕ) where
       let l = ap (unitAt n) one ∙ x-beside-l (tagOf n) tag-fits two in
       fits-l form′ (sym (ap (fits form′) l) ∙ o′ .fit) (o′ .some)
 
-  -- request #113 rests on what follows
+  -- the forms of two slots don't meet
   module _ (slot : ℕ) (form : Form) (slot′ : ℕ) (form′ : Form) (o : Has slot form) (o′ : Has slot′ form′) (d : slot ≡ slot′ → ⊥) where
-    -- the forms of two slots don't meet
     pub forms-apart : T (meetNot (placed slot′ (rowOf form′ .parts)) (placed slot (rowOf form .parts)))
     forms-apart =
         other-words (eqb (form .family) X) (eqb (form′ .family) X) slot slot′ (rowOf form .parts)
@@ -69,7 +67,3 @@ module _ (n : ℕ) where
         (λ t. words-apart 1 slot (λ e. x-alone slot′ form′ slot form o′ o (eqb→eq (form′ .family) X t) (sym e)))
         (λ t u. d (x-slot slot form o (eqb→eq (form .family) X t) ∙ sym (x-slot slot′ form′ o′ (eqb→eq (form′ .family) X u))))
         (rowOf form′ .parts) (in-words form′ (rowOf form′) (row-good form′) (o′ .some))
-
-    -- and so writing them commutes
-    pub forms-commute : (u v : ℕ) → withRaw (rowOf form′) slot′ (withRaw (rowOf form) slot n u) v ≡ withRaw (rowOf form) slot (withRaw (rowOf form′) slot′ n v) u
-    forms-commute u v = written-comm slot slot′ (rowOf form) (rowOf form′) n u v forms-apart

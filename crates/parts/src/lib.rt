@@ -16,7 +16,7 @@ pub struct Part {
 pub const L: u8 = 64;
 
 // Where a part of a slot stands in the bundle.
-fn stands_at(slot: u32, place: u8) -> u32
+pub fn stands_at(slot: u32, place: u8) -> u32
     requires { ⌜ slot < 3 ⌝ }
     ensures { λ r. ⌜ r ≡ standsAt slot place ⌝ }
 {

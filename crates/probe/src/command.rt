@@ -1,4 +1,4 @@
-// The commands, by name: first those that reach no records, then those that call for them. A command's answer starts with a word, and each
+// The commands, by name: those that reach no records, and those that call for them. A command's answer starts with a word, and each
 // answers where the output stands then.
 ghost use Prim.Native.Nat.{_≤_};
 
@@ -12,6 +12,7 @@ mod immediates;
 mod join;
 mod journals;
 mod load;
+mod meeting;
 mod operands;
 mod place;
 mod put;
@@ -39,12 +40,12 @@ struct Line {
 // No answer ends there, since each starts with a word: the line doesn't read.
 pub const UNREAD: usize = 0;
 
-const NAMES: [u8; 127] =
-    *b"code get sum find cut join operands immediate target put report clear records undo edit load open journal place sheet sheetline";
+const NAMES: [u8; 132] =
+    *b"code get sum find cut join operands immediate target put report clear records undo edit load open journal place sheet sheetline meet";
 
 // The words that the answers start with.
-const WORDS: [u8; 113] =
-    *b"ok bytes sum find cut join operands immediate target ok report ok records undo edit load ok ok ok sheet sheetline";
+const WORDS: [u8; 118] =
+    *b"ok bytes sum find cut join operands immediate target ok report ok records undo edit load ok ok ok sheet sheetline meet";
 
 // Places in both lists.
 const CODE: u64 = 0;
@@ -88,6 +89,8 @@ const PLACE: u64 = 18;
 const SHEET: u64 = 19;
 
 const SHEETLINE: u64 = 20;
+
+const MEET: u64 = 21;
 
 // Answers a line on a code, in its room, from `at` on. Where it calls for the records, only its word is written.
 pub fn answer(
@@ -137,7 +140,7 @@ fn count(command: u64) -> usize
         SUM | REPORT | CLEAR | RECORDS => 0,
         GET | SHEET => 2,
         JOURNAL | PLACE | SHEETLINE => 3,
-        OPERANDS | IMMEDIATE => 4,
+        OPERANDS | IMMEDIATE | MEET => 4,
         JOIN | TARGET | EDIT => 5,
         _ => 1,
     }
@@ -146,7 +149,7 @@ fn count(command: u64) -> usize
 // Whether text follows the numbers.
 fn takes_text(command: u64) -> bool {
     match command {
-        PUT | CLEAR | EDIT | LOAD | JOURNAL | PLACE => true,
+        PUT | CLEAR | EDIT | LOAD | JOURNAL | PLACE | MEET => true,
         _ => false,
     }
 }
@@ -223,6 +226,9 @@ fn answered(
     }
     if command == CLEAR {
         return clear::answer(rest, kept, at);
+    }
+    if command == MEET {
+        return meeting::answer(of, rest, out, at);
     }
     if command == REPORT {
         return report::answer(&code[0..length], kept, out, at);

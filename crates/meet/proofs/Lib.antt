@@ -1,0 +1,4 @@
+pub mod Laws
+pub mod Never
+pub mod Turns
+pub mod Unique
