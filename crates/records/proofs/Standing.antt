@@ -10,7 +10,7 @@ use borrow.Author.Tests.{leb-true, eq-eqb}
 use lib.Dec.{T, eqb, leb, leb→le, eqb→eq}
 use lib.ListN.{length, getD, set, take, drop, replicate, length-append, length-replicate, length-drop, take-append-drop}
 use lib.Seq.{set-at, take-suc, take-append-seam, drop-append-seam, length-take-le}
-use mir.Facts.{and-yes, yes-and}
+use mir.Facts.{and-yes}
 use Rattle.record.specs.Record.{noRecord, isFree, mayStand}
 use Rattle.record.specs.declared.Record.{Record}
 use Rattle.record.proofs.Laws.{free-is-none}
@@ -29,16 +29,6 @@ one-more places n h =
 pub journal-stands : JournalStands
 unfolding standing journalOf
 journal-stands places rs = take-append-seam rs _
-
--- what holds of every place holds of the records that stand
-pub standing-all : (test : Record → Bool) (j : Journal) → T (all test (j .records)) → T (all test (standing j))
-unfolding standing
-standing-all test j = go (j .count) (j .records)
-  where
-    go : (n : ℕ) (rs : List Record) → T (all test rs) → T (all test (take n rs))
-    go zero rs t = tt
-    go (suc n) [] t = tt
-    go (suc n) (r ∷ rs) t = let s = and-yes (test r) (all test rs) t in yes-and (test r) (all test (take n rs)) (s .0) (go n rs (s .1))
 
 -- they stand at the first places
 pub standing-places : (j : Journal) → standing j ≡ take (j .count) (j .records)

@@ -63,18 +63,6 @@ module _ (party places : ℕ) (given : Journal) (text : List ℕ) where
       go true v = refl
       go false v = absurd (let r = ap (λ (l : Loaded). l .answer) (refuses-invalid limit party places given text v) in omega (arith, a, r))
 
--- a party's run alone: its journal is valid and its code is of bytes after every call
-module _ (party places : ℕ) where
-  loaded-good : (o : Outcome) (sheet : Option (List ℕ)) → Good party places o → Good party places (loaded party places o sheet)
-  loaded-good o none g = g
-  loaded-good o (some text) g = record { valid = load-valid party places (o .journal) text (g .valid); bytes = g .bytes }
-
-  next-good : (s : State) (c : SheetCall) → Good party places (s .after) → Good party places (next party places s c .after)
-  next-good s (call c) g = step-good party places (s .after) g c
-  next-good s (write out) g = record { valid = g .valid; bytes = g .bytes }
-  next-good s load g = loaded-good (s .after) (s .sheet) g
-  next-good s (loadText text) g = loaded-good (s .after) (some text) g
-
 -- a journal of a party put in the place of its own, and the other's
 own-with : (s : Shared) (party : ℕ) (j : Journal) → ownOf (withOwn s party j) party ≡ j
 own-with s party j = go (eqb party 0)
