@@ -1,11 +1,11 @@
 -- When a form's row is read or changed in a slot of a bundle: none of the refusals applies, so the row is sound there. Assumes nothing.
 use mathlib.Core.Path.{_≡_, refl, sym, ap, ap₂, _∙_}
 use mathlib.Core.Bool.{true, false, not, _||_}
-use mathlib.Core.List.{List}
+use mathlib.Core.List.{List, [], _∷_, _++_}
 use Prim.Native.Nat.{ℕ, _<_, _^_, suc-le-suc}
 use borrow.Author.Tests.{ltb-false, not-false, eqb-true, eq-eqb, ne-eqb}
 use lib.Dec.{T, ltb, eqb}
-use Rattle.answer.specs.Answer.{Refusal, accepted, badValue, first}
+use Rattle.answer.specs.Answer.{Refusal, accepted, badValue, first, outcome}
 use Rattle.answer.proofs.Laws.{none-applies, first-on, first-stop, accepts, refuses, answered}
 use Rattle.bits.specs.Part.{bit}
 use Rattle.bits.specs.Parts.{apartFrom, meetNot}
@@ -13,11 +13,13 @@ use Rattle.bundle.specs.Bundle.{tagOf, bundleRefusals, halvesOf}
 use Rattle.bundle.proofs.Laws.{or-false}
 use Rattle.form.specs.declared.Form.{Form}
 use Rattle.form.specs.declared.Edit.{Edit}
+use Rattle.operand.specs.declared.Operand.{Operand}
 use Rattle.row.specs.Row.{isNone, rowOf}
 use Rattle.meaning.specs.Meaning.{Is}
 use Rattle.immediate.specs.Sound.{Sound}
 use Rattle.immediate.specs.Immediate.{fits, unitAt, readRefusals, rawFor, valueRefusals, changeRefusals, valueIn, withRaw, partsOf, changedNumber, noChange, changedOf}
 use Rattle.row.specs.declared.Row.{Row}
+use Rattle.meaning.specs.declared.Raw.{Raw}
 use Rattle.immediate.specs.declared.outcome.Changed.{Changed}
 use Rattle.row.proofs.Rows.{good, row-good}
 use Rattle.immediate.proofs.Sound.{sound}
@@ -68,6 +70,16 @@ module _ (n : ℕ) (e : Edit) where
 
     pub changed-done : rawFor row (e .value) .answer ≡ accepted → changedOf n e ≡ record { answer = accepted; bundle = halvesOf (changedNumber n e) }
     changed-done q = changed-taken (first-on reading (valueRefusals row (e .value)) tt read ∙ rw (eq-eqb _ accepted q))
+
+-- of an edit's bundle a change doesn't look at the number, and of its value at the raw number alone
+pub changed-by-raw : (n j k slot : ℕ) (form : Form) (v u : Operand) → rawFor (rowOf form) v ≡ rawFor (rowOf form) u
+    → changedOf n (record { bundle = j; slot = slot; form = form; value = v }) ≡ changedOf n (record { bundle = k; slot = slot; form = form; value = u })
+unfolding changedOf
+changed-by-raw n j k slot form v u e =
+    ap
+    (λ (raw : Raw). let answer = first (readRefusals n slot form (rowOf form) ++ (badValue, not (eqb (raw .answer) accepted)) ∷ []) in
+    outcome answer (record { answer = accepted; bundle = halvesOf (withRaw (rowOf form) slot n (raw .raw)) }) (noChange answer))
+    e
 
 -- an edit that a bundle takes: its row stands in its slot, and its value has a raw number
 module _ (n : ℕ) (e : Edit) (taken : first (changeRefusals n e) ≡ accepted) where

@@ -18,7 +18,7 @@ use Rattle.operand.specs.Pattern.{patternOf}
 use Rattle.operand.specs.declared.Operand.{Operand}
 use Rattle.operand.specs.declared.Operand.the-variants.{None as NoOperand}
 use Rattle.row.specs.Row.{isNone, rowOf, targetRowOf}
-use Rattle.meaning.specs.Meaning.{valueOf, signedOf, rawOf}
+use Rattle.meaning.specs.Meaning.{valueOf, signedOf, operandFor, rawOf}
 use Rattle.row.specs.declared.Row.{Row}
 use Rattle.meaning.specs.declared.Raw.{Raw}
 use Rattle.immediate.specs.declared.outcome.Immediate.{Immediate}
@@ -97,6 +97,10 @@ unfoldable pub changedOf : ℕ → Edit → Changed
 changedOf n e =
     let answer = first (changeRefusals n e) in
     outcome answer (record { answer = accepted; bundle = halvesOf (changedNumber n e) }) (noChange answer)
+
+-- the edit of bundle k that a slot, a form and its value's pattern tell of
+abbrev pub editTold : ℕ → ℕ → Form → ℕ → Edit
+editTold k slot form p = record { bundle = k; slot = slot; form = form; value = operandFor (rowOf form .meaning) p }
 
 -- the displacement that a row of a target reads
 abbrev pub displacementIn : Row → ℕ → ℕ → ℤ

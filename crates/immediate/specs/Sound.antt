@@ -1,10 +1,15 @@
 -- What the functions that read and write a row in a slot ask of their callers: no promise to a caller of the crate. Assumes nothing.
 use Prim.Native.Nat.{ℕ, _<_}
+use mathlib.Core.Bool.{Bool, cond}
 use lib.Dec.{T}
 use Rattle.bits.specs.Parts.{separate}
 use Rattle.parts.specs.Placed.{placed, widthOf, readable}
 use Rattle.meaning.specs.Fits.{Fitting}
+use Rattle.form.specs.declared.Form.{Form}
+use Rattle.form.specs.declared.Edit.{Edit}
+use Rattle.operand.specs.declared.Operand.the-variants.{None as NoOperand}
 use Rattle.row.specs.declared.Row.{Row}
+use Rattle.immediate.specs.Immediate.{editTold}
 
 -- a row's parts lie in the bundle, no two meet, and its values are of 64 bits
 pub record Sound (slot : ℕ) (row : Row) : Type 0 where
@@ -12,3 +17,7 @@ pub record Sound (slot : ℕ) (row : Row) : Type 0 where
   pub reads : T (readable (row .parts))
   pub apart : T (separate (placed slot (row .parts)))
   pub fitting : Fitting (row .meaning) (widthOf (row .parts))
+
+-- an edit whose value is told by its pattern, or is none that any row takes
+abbrev pub editBy : ℕ → Form → Bool → ℕ → Edit
+editBy slot form told p = record { bundle = 0; slot = slot; form = form; value = cond told (editTold 0 slot form p .value) NoOperand }

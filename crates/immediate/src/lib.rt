@@ -6,11 +6,12 @@ pub use outcome::Changed;
 pub use outcome::Immediate;
 pub use outcome::Target;
 ghost use mathlib.Core.Path.{_≡_};
+ghost use Prim.Native.Nat.{ℕ};
 ghost use Rattle.bundle.specs.Bundle.{whole};
 ghost use Rattle.operand.specs.Pattern.{patternOf};
 ghost use Rattle.row.specs.Row.{rowOf};
-ghost use Rattle.immediate.specs.Immediate.{valueIn, noImmediate, immediateIn, immediateOf, noChange, changedOf, displacementIn, noTarget, targetIn, targetOf};
-ghost use Rattle.immediate.specs.Sound.{Sound};
+ghost use Rattle.immediate.specs.Immediate.{valueIn, noImmediate, immediateIn, immediateOf, noChange, changedOf, editTold, displacementIn, noTarget, targetIn, targetOf};
+ghost use Rattle.immediate.specs.Sound.{Sound, editBy};
 use answer::ACCEPTED;
 use answer::BAD_VALUE;
 use bundle::Halves;
@@ -73,28 +74,41 @@ pub fn change(bundle: Halves, edit: Edit) -> Changed
     ensures { λ r. ⌜ r ≡ changedOf (whole bundle) edit ⌝ }
 {
     let form = edit.form;
-    change_by(row::row_of(form), bundle, edit)
+    let value = edit.value;
+    let row = row::row_of(form);
+    let meaning = row.meaning;
+    let taken = meaning::take_out(meaning, value);
+    let told = taken.answer == ACCEPTED;
+    change_by(row, bundle, edit.slot, form, told, taken.pattern)
 }
 
-// The same for who has the row of the edit's form at hand.
-pub fn change_by(row: Row, bundle: Halves, edit: Edit) -> Changed
-    requires { ⌜ row ≡ rowOf (edit .form) ⌝ }
-    ensures { λ r. ⌜ r ≡ changedOf (whole bundle) edit ⌝ }
+// The same for an edit whose value is told by its 64-bit pattern; its bundle can have any number.
+pub fn change_told(bundle: Halves, slot: u64, form: Form, pattern: u64) -> Changed
+    ensures { λ r. ⌜ ((k : ℕ) → r ≡ changedOf (whole bundle) (editTold k slot form pattern)) ⌝ }
 {
-    let form = edit.form;
-    let value = edit.value;
-    let answer = fit::read_answer(bundle, edit.slot, form, row);
+    change_by(row::row_of(form), bundle, slot, form, true, pattern)
+}
+
+// The same by the form's row. A value that isn't told, being of another kind, is refused.
+fn change_by(row: Row, bundle: Halves, slot: u64, form: Form, told: bool, pattern: u64) -> Changed
+    requires { ⌜ row ≡ rowOf form ⌝ }
+    ensures { λ r. ⌜ r ≡ changedOf (whole bundle) (editBy slot form told pattern) ⌝ }
+{
+    let answer = fit::read_answer(bundle, slot, form, row);
     if answer != ACCEPTED {
         return unchanged(answer);
     }
+    if !told {
+        return unchanged(BAD_VALUE);
+    }
     let meaning = row.meaning;
     let parts = row.parts;
-    let raw = meaning::raw_of(meaning, row::width(parts), value);
+    let raw = meaning::raw_of(meaning, row::width(parts), pattern);
     let refusal = raw.answer;
     if refusal != ACCEPTED {
         return unchanged(refusal);
     }
-    let changed = parts::scatter(bundle, edit.slot as u32, parts, raw.raw);
+    let changed = parts::scatter(bundle, slot as u32, parts, raw.raw);
     Changed {
         answer,
         bundle: changed,

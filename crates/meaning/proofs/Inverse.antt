@@ -16,8 +16,8 @@ use Rattle.operand.specs.Kind.{ofI64, ofU64}
 use Rattle.operand.specs.declared.Operand.{Operand}
 use Rattle.operand.specs.declared.Operand.the-variants.{ImmI64, ImmU64}
 use Rattle.operand.proofs.Kind.{i64-or-not, u64-or-not}
-use Rattle.meaning.specs.Fits.{SignedFits, ComplementFits, Fitting}
-use Rattle.meaning.specs.Meaning.{means, Is, Bad, signedOf, entry, entryValue, valueOf, rawUp, rawDown, rawSigned, within, rawUnsigned, rawComplement, entryOf, placeIn, rawOf}
+use Rattle.meaning.specs.Fits.{SignedFits, Fitting}
+use Rattle.meaning.specs.Meaning.{means, Is, Bad, signedOf, entry, entryValue, valueOf, rawUp, rawDown, rawSigned, rawAbove, entryOf, placeIn, rawOf}
 use Rattle.meaning.specs.declared.Meaning.{Meaning}
 use Rattle.meaning.specs.declared.Meaning.the-variants.{None as NoMeaning, Unsigned, Signed, Chosen, Complement}
 use Rattle.meaning.specs.declared.Raw.{Raw}
@@ -65,49 +65,55 @@ told-signed : (unit w : ℕ) (z : ℤ) → Told (rawSigned unit w z)
 told-signed unit w (pos v) = told-either (eqb (v % unit) 0) _ _ (told-either (ltb (v / unit) (2 ^ (w - 1))) _ _ (told-is (v / unit)) told-bad) told-bad
 told-signed unit w (negsuc v) = told-either (eqb (suc v % unit) 0) _ _ (told-either (leb (suc v / unit) (2 ^ (w - 1))) _ _ (told-is (2 ^ w - suc v / unit)) told-bad) told-bad
 
-told-within : (w raw : ℕ) → Told (within w raw)
-told-within w raw = told-either (ltb raw (2 ^ w)) _ _ (told-is raw) told-bad
+told-above : (low w high : ℕ) → Told (rawAbove low w high)
+told-above low w high = told-either (ltb high low) _ _ told-bad (told-either (ltb (high - low) (2 ^ w)) _ _ (told-is (high - low)) told-bad)
 
 told-place : (list n b : ℕ) → Told (placeIn list n b)
 told-place list zero b = told-bad
 told-place list (suc n) b = told-either (eqb (entry list n) b) _ _ (told-is n) (told-place list n b)
 
+told-u64 : (v : Operand) (f : ℕ → Raw) → ((n : ℕ) → Told (f n)) → Told (ofU64 v f Bad)
+told-u64 v f t d =
+    ⊎-elim
+    (λ k. let is = ap (λ (o : Operand). ofU64 o f Bad) (k .1) in is ∙ t (k .0) (λ e. d (ap (λ (r : Raw). r .answer) is ∙ e)))
+    (λ k. k) (u64-or-not v f Bad)
+
+told-i64 : (v : Operand) (f : ℤ → Raw) → ((z : ℤ) → Told (f z)) → Told (ofI64 v f Bad)
+told-i64 v f t d =
+    ⊎-elim
+    (λ k. let is = ap (λ (o : Operand). ofI64 o f Bad) (k .1) in is ∙ t (k .0) (λ e. d (ap (λ (r : Raw). r .answer) is ∙ e)))
+    (λ k. k) (i64-or-not v f Bad)
+
 pub raw-told : (m : Meaning) (w : ℕ) (v : Operand) → (rawOf m w v .answer ≡ accepted → ⊥) → rawOf m w v ≡ Bad
-raw-told NoMeaning w v d = refl
-raw-told (Unsigned plus) w v d =
-    ⊎-elim
-    (λ k. let is = ap (λ (o : Operand). ofU64 o (rawUnsigned plus w) Bad) (k .1) in
-    is ∙ told-either (ltb (k .0) plus) _ _ told-bad (told-within w (k .0 - plus)) (λ e. d (ap (λ (r : Raw). r .answer) is ∙ e)))
-    (λ k. k) (u64-or-not v (rawUnsigned plus w) Bad)
-raw-told (Signed unit) w v d =
-    ⊎-elim
-    (λ k. let is = ap (λ (o : Operand). ofI64 o (rawSigned unit w) Bad) (k .1) in
-    is ∙ told-signed unit w (k .0) (λ e. d (ap (λ (r : Raw). r .answer) is ∙ e)))
-    (λ k. k) (i64-or-not v (rawSigned unit w) Bad)
-raw-told (Chosen signed list) w v d =
-    let b = entryOf signed v in told-either (eqb (b .answer) accepted) _ _ (told-place list (2 ^ w) (b .raw)) told-bad d
-raw-told (Complement top) w v d =
-    ⊎-elim
-    (λ k. let is = ap (λ (o : Operand). ofU64 o (rawComplement top w) Bad) (k .1) in
-    is ∙ told-either (ltb top (k .0)) _ _ told-bad (told-within w (top - k .0)) (λ e. d (ap (λ (r : Raw). r .answer) is ∙ e)))
-    (λ k. k) (u64-or-not v (rawComplement top w) Bad)
+raw-told NoMeaning w v = told-bad
+raw-told (Unsigned plus) w v = told-u64 v (rawAbove plus w) (told-above plus w)
+raw-told (Signed unit) w v = told-i64 v (rawSigned unit w) (told-signed unit w)
+raw-told (Chosen signed list) w v = let b = entryOf signed v in told-either (eqb (b .answer) accepted) _ _ (told-place list (2 ^ w) (b .raw)) told-bad
+raw-told (Complement top) w v = told-u64 v (λ n. rawAbove n w top) (λ n. told-above n w top)
 
--- a number that is counted from `plus` on
-module _ (plus w : ℕ) where
-  unsigned-raw : (raw : ℕ) → raw < 2 ^ w → rawUnsigned plus w (plus + raw) ≡ Is raw
-  unsigned-raw raw h =
-      let l : plus ≤ plus + raw = omega arith in
-      let e : plus + raw - plus ≡ raw = omega arith in
-      rw (le-ltb (plus + raw) plus l, e, lt-ltb raw (2 ^ w) h)
+-- what has a raw number has a meaning
+pub raw-means : (m : Meaning) (w : ℕ) (v : Operand) {raw : ℕ} → rawOf m w v ≡ Is raw → means m ≡ true
+raw-means NoMeaning w v e = absurd (not-bad e)
+raw-means (Unsigned plus) w v e = refl
+raw-means (Signed unit) w v e = refl
+raw-means (Chosen signed list) w v e = refl
+raw-means (Complement top) w v e = refl
 
-  unsigned-value : (v raw : ℕ) → rawUnsigned plus w v ≡ Is raw → (raw < 2 ^ w) × (plus + raw ≡ v)
-  unsigned-value v raw e =
-      let p = only-else (ltb v plus) _ e in
-      let q = only-if (ltb (v - plus) (2 ^ w)) _ (p .1) in
-      let s : v - plus ≡ raw = same-raw (q .1) in
-      let l = ltb-false v plus (p .0) in
-      let h = ltb-true (v - plus) (2 ^ w) (q .0) in
-      (omega arith, omega arith)
+-- a number that is so much above another
+above-raw : (low w high raw : ℕ) → low + raw ≡ high → raw < 2 ^ w → rawAbove low w high ≡ Is raw
+above-raw low w high raw is h =
+    let l : low ≤ high = omega arith in
+    let e : high - low ≡ raw = omega arith in
+    rw (le-ltb high low l, e, lt-ltb raw (2 ^ w) h)
+
+above-value : (low w high raw : ℕ) → rawAbove low w high ≡ Is raw → (raw < 2 ^ w) × (low + raw ≡ high)
+above-value low w high raw e =
+    let p = only-else (ltb high low) _ e in
+    let q = only-if (ltb (high - low) (2 ^ w)) _ (p .1) in
+    let s : high - low ≡ raw = same-raw (q .1) in
+    let l = ltb-false high low (p .0) in
+    let h = ltb-true (high - low) (2 ^ w) (q .0) in
+    (omega arith, omega arith)
 
 -- a number with a sign, that counts units
 some-units : (unit n v : ℕ) → unit * n ≡ suc v → 1 ≤ n
@@ -161,15 +167,15 @@ module _ (unit w : ℕ) (f : SignedFits unit w) where
 -- a number that chooses from a list
 entry-raw : (signed : Bool) (b : ℕ) → b < 2 ^ 8 → entryOf signed (entryValue signed b) ≡ Is b
 entry-raw true b h = signed-raw 1 8 (omega arith, omega arith, omega arith, omega arith) b h
-entry-raw false b h = ap (rawUnsigned 0 8) (sym (zero-add b)) ∙ unsigned-raw 0 8 b h
+entry-raw false b h = above-raw 0 8 b b (zero-add b) h
 
 entry-value : (signed : Bool) (v : Operand) (b : ℕ) → entryOf signed v ≡ Is b → entryValue signed b ≡ v
 entry-value true v b e =
     let k = of-i64 v (rawSigned 1 8) e in
     ap ImmI64 (signed-value 1 8 (omega arith, omega arith, omega arith, omega arith) (k .0) b (k .2) .1) ∙ sym (k .1)
 entry-value false v b e =
-    let k = of-u64 v (rawUnsigned 0 8) e in
-    ap ImmU64 (sym (zero-add b) ∙ unsigned-value 0 8 (k .0) b (k .2) .1) ∙ sym (k .1)
+    let k = of-u64 v (rawAbove 0 8) e in
+    ap ImmU64 (sym (zero-add b) ∙ above-value 0 8 (k .0) b (k .2) .1) ∙ sym (k .1)
 
 place-raw : (list n k : ℕ) → ((i j : ℕ) → i < j → j < n → entry list i ≡ entry list j → ⊥) → k < n → placeIn list n (entry list k) ≡ Is k
 place-raw list zero k differ h = absurd (omega arith)
@@ -190,38 +196,21 @@ place-value list (suc n) b k e = by-same (eqb (entry list n) b) refl e (place-va
     by-same true q e below = let s : n ≡ k = same-raw e in (omega arith, rw (sym s) (eqb-true (entry list n) b q))
     by-same false q e below = let r = below e in (omega arith, r .1)
 
--- a number that is taken from `top`
-module _ (top w : ℕ) where
-  complement-raw : (raw : ℕ) → ComplementFits top w → raw < 2 ^ w → rawComplement top w (top - raw) ≡ Is raw
-  complement-raw raw f h =
-      let l : top - raw ≤ top = omega arith in
-      let e : top - (top - raw) ≡ raw = omega (arith, f .2) in
-      rw (le-ltb top (top - raw) l, e, lt-ltb raw (2 ^ w) h)
-
-  complement-value : (v raw : ℕ) → rawComplement top w v ≡ Is raw → (raw < 2 ^ w) × (top - raw ≡ v)
-  complement-value v raw e =
-      let p = only-else (ltb top v) _ e in
-      let q = only-if (ltb (top - v) (2 ^ w)) _ (p .1) in
-      let s : top - v ≡ raw = same-raw (q .1) in
-      let l = ltb-false top v (p .0) in
-      let h = ltb-true (top - v) (2 ^ w) (q .0) in
-      (omega arith, omega arith)
-
 -- the value of a raw number has that raw number
 pub raw-of-value : (m : Meaning) (w raw : ℕ) → Fitting m w → means m ≡ true → raw < 2 ^ w → rawOf m w (valueOf m w raw) ≡ Is raw
 raw-of-value NoMeaning w raw f some h = absurd (subst T (sym some) tt)
-raw-of-value (Unsigned plus) w raw f some h = unsigned-raw plus w raw h
+raw-of-value (Unsigned plus) w raw f some h = above-raw plus w (plus + raw) raw refl h
 raw-of-value (Signed unit) w raw f some h = signed-raw unit w f raw h
 raw-of-value (Chosen signed list) w raw f some h =
     rw (entry-raw signed (entry list raw) (part-lt list (8 * raw) 8)) (place-raw list (2 ^ w) raw (f .1) h)
-raw-of-value (Complement top) w raw f some h = complement-raw top w raw f h
+raw-of-value (Complement top) w raw f some h = above-raw (top - raw) w top raw (omega (arith, f .2)) h
 
 -- the raw number of a value has that value
 pub value-of-raw : (m : Meaning) (w raw : ℕ) (v : Operand) → Fitting m w → rawOf m w v ≡ Is raw → (raw < 2 ^ w) × (valueOf m w raw ≡ v)
 value-of-raw NoMeaning w raw v f e = absurd (not-bad e)
 value-of-raw (Unsigned plus) w raw v f e =
-    let k = of-u64 v (rawUnsigned plus w) e in
-    let r = unsigned-value plus w (k .0) raw (k .2) in
+    let k = of-u64 v (rawAbove plus w) e in
+    let r = above-value plus w (k .0) raw (k .2) in
     (r .0, ap ImmU64 (r .1) ∙ sym (k .1))
 value-of-raw (Signed unit) w raw v f e =
     let k = of-i64 v (rawSigned unit w) e in
@@ -234,6 +223,7 @@ value-of-raw (Chosen signed list) w raw v f e =
     let r = place-value list (2 ^ w) (b .raw) raw (p .1) in
     (r .0, ap (entryValue signed) (r .1) ∙ entry-value signed v (b .raw) is)
 value-of-raw (Complement top) w raw v f e =
-    let k = of-u64 v (rawComplement top w) e in
-    let r = complement-value top w (k .0) raw (k .2) in
-    (r .0, ap ImmU64 (r .1) ∙ sym (k .1))
+    let k = of-u64 v (λ n. rawAbove n w top) e in
+    let r = above-value (k .0) w top raw (k .2) in
+    let less : top - raw ≡ k .0 = omega (arith, r .1) in
+    (r .0, ap ImmU64 less ∙ sym (k .1))

@@ -14,7 +14,7 @@ use mir.Val.{SFits}
 use Rattle.bits.proofs.Laws.{above-mod}
 use Rattle.operand.specs.Pattern.{patternOf}
 use Rattle.meaning.specs.Fits.{SignedFits}
-use Rattle.meaning.specs.Meaning.{signedOf, rawUp, rawDown, rawSigned}
+use Rattle.meaning.specs.Meaning.{signedOf}
 
 -- half of the numbers of w bits
 pub half : (w : ℕ) → 1 ≤ w → 2 ^ w ≡ 2 ^ (w - 1) + 2 ^ (w - 1)
@@ -83,18 +83,6 @@ not-below-top w n h l = omega (arith, half w h, le-div-iff-mul-le (pow-pos (w - 
 -- whole units
 pub whole-units : (unit n : ℕ) → n % unit ≡ 0 → unit * (n / unit) ≡ n
 whole-units unit n h = let e = div-add-mod' n unit in rw (mul-comm unit (n / unit)) (omega arith)
-
--- an integer is told by its pattern: below 2 ^ 63 it is its own number, else it is what lacks of 2 ^ 64 below zero
-pub raw-by-pattern-up : (unit w : ℕ) (z : ℤ) → SFits w64 z → patternOf z < 2 ^ 63 → rawSigned unit w z ≡ rawUp unit w (patternOf z)
-raw-by-pattern-up unit w (pos n) f h = refl
-raw-by-pattern-up unit w (negsuc n) f h = absurd (let g : n < 2 ^ 63 = f .sfits in omega arith)
-
-pub raw-by-pattern-down : (unit w : ℕ) (z : ℤ) → SFits w64 z → 2 ^ 63 ≤ patternOf z → rawSigned unit w z ≡ rawDown unit w (2 ^ 64 - 1 - patternOf z + 1)
-raw-by-pattern-down unit w (pos n) f h = absurd (let g : n < 2 ^ 63 = f .sfits in omega arith)
-raw-by-pattern-down unit w (negsuc n) f h =
-    let g : n < 2 ^ 63 = f .sfits in
-    let e : suc n ≡ 2 ^ 64 - 1 - (2 ^ 64 - suc n) + 1 = omega arith in
-    ap (rawDown unit w) e
 
 -- a number with a sign is one of 64 bits
 pub signed-fits : (unit w raw : ℕ) → SignedFits unit w → raw < 2 ^ w → SFits w64 (signedOf unit w raw)

@@ -48,13 +48,17 @@ abbrev pub patterned : Bool → ℕ → Operand
 patterned true p = ImmI64 (integerOf p)
 patterned false p = ImmU64 p
 
+-- whether a meaning's values have a sign
+abbrev pub hasSign : Meaning → Bool
+hasSign None = false
+hasSign (Unsigned plus) = false
+hasSign (Signed unit) = true
+hasSign (Chosen signed list) = signed
+hasSign (Complement top) = false
+
 -- the value with that pattern, of the kind that a meaning's values have
 abbrev pub operandFor : Meaning → ℕ → Operand
-operandFor None p = NoOperand
-operandFor (Unsigned plus) p = patterned false p
-operandFor (Signed unit) p = patterned true p
-operandFor (Chosen signed list) p = patterned signed p
-operandFor (Complement top) p = patterned false p
+operandFor m p = patterned (hasSign m) p
 
 -- a value's raw number, and the refusal of a value that has none
 abbrev pub Is : ℕ → Raw
@@ -78,17 +82,14 @@ rawSigned unit w (negsuc v) = rawDown unit w (suc v)
 abbrev pub within : ℕ → ℕ → Raw
 within w raw = cond (ltb raw (2 ^ w)) (Is raw) Bad
 
--- the raw number of so much more than `plus`, and of so much less than `top`
-abbrev pub rawUnsigned : ℕ → ℕ → ℕ → Raw
-rawUnsigned plus w v = cond (ltb v plus) Bad (within w (v - plus))
-
-abbrev pub rawComplement : ℕ → ℕ → ℕ → Raw
-rawComplement top w v = cond (ltb top v) Bad (within w (top - v))
+-- the raw number that a number is above another
+abbrev pub rawAbove : ℕ → ℕ → ℕ → Raw
+rawAbove low w high = cond (ltb high low) Bad (within w (high - low))
 
 -- the number of 8 bits of a value, with a sign or without
 abbrev pub entryOf : Bool → Operand → Raw
 entryOf true value = ofI64 value (rawSigned 1 8) Bad
-entryOf false value = ofU64 value (rawUnsigned 0 8) Bad
+entryOf false value = ofU64 value (rawAbove 0 8) Bad
 
 -- the place, below n, at which a list has a number
 abbrev pub placeIn : ℕ → ℕ → ℕ → Raw
@@ -98,7 +99,7 @@ placeIn list (suc n) b = cond (eqb (entry list n) b) (Is n) (placeIn list n b)
 -- the raw number of a value; a value of another kind, range or multiple, or that isn't in the list, has none
 abbrev pub rawOf : Meaning → ℕ → Operand → Raw
 rawOf None w value = Bad
-rawOf (Unsigned plus) w value = ofU64 value (rawUnsigned plus w) Bad
+rawOf (Unsigned plus) w value = ofU64 value (rawAbove plus w) Bad
 rawOf (Signed unit) w value = ofI64 value (rawSigned unit w) Bad
 rawOf (Chosen signed list) w value = let b = entryOf signed value in cond (eqb (b .answer) accepted) (placeIn list (2 ^ w) (b .raw)) Bad
-rawOf (Complement top) w value = ofU64 value (rawComplement top w) Bad
+rawOf (Complement top) w value = ofU64 value (λ v. rawAbove v w top) Bad

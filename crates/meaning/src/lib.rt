@@ -1,9 +1,10 @@
 // What a raw number means, and the raw number of a value.
 ghost use mathlib.Core.Path.{_≡_};
+ghost use mathlib.Core.Bool.{true, false};
 ghost use Prim.Native.Nat.{_≤_, _<_, _^_};
-ghost use Rattle.operand.specs.Pattern.{patternOf};
-ghost use Rattle.meaning.specs.Meaning.{signedOf, valueOf, entry, entryValue, patterned, operandFor, within, entryOf, placeIn, rawUp, rawDown, rawOf};
-ghost use Rattle.meaning.specs.Fits.{UnsignedFits, SignedFits, ChosenFits, ComplementFits, Fitting};
+ghost use Rattle.operand.specs.Pattern.{patternOf, integerOf};
+ghost use Rattle.meaning.specs.Meaning.{signedOf, valueOf, entry, entryValue, patterned, hasSign, operandFor, within, entryOf, placeIn, rawUp, rawDown, rawSigned, rawAbove, rawOf};
+ghost use Rattle.meaning.specs.Fits.{SignedFits, ChosenFits, Fitting, TakenBy, TakenFor};
 use answer::ACCEPTED;
 use answer::BAD_VALUE;
 use operand::Operand;
@@ -73,28 +74,62 @@ pub fn displacement(unit: u64, width: u32, raw: u64) -> u64
     std::num::wrapping_sub_u64(unit * low, unit * (raw - low))
 }
 
-// The value with a 64-bit pattern, of the kind that the meaning's values have.
-pub fn operand_for(meaning: Meaning, pattern: u64) -> Operand
-    ensures { λ r. ⌜ r ≡ operandFor meaning pattern ⌝ }
+// The 64-bit pattern of a value, taken out of its operand, or the refusal of an operand of another kind.
+pub struct Taken {
+    pub answer: u8,
+    pub pattern: u64,
+}
+
+const OTHER: Taken = Taken {
+    answer: BAD_VALUE,
+    pattern: 0,
+};
+
+// A value of the kind that the meaning's values have.
+pub fn take_out(meaning: Meaning, value: Operand) -> Taken
+    ensures { λ r. ⌜ TakenFor meaning value r ⌝ }
 {
-    match meaning {
-        Meaning::None => Operand::None,
-        Meaning::Unsigned(_) => Operand::ImmU64(pattern),
-        Meaning::Signed(_) => pattern_value(true, pattern),
-        Meaning::Chosen(signed, _) => pattern_value(signed, pattern),
-        Meaning::Complement(_) => Operand::ImmU64(pattern),
+    if has_sign(meaning) {
+        take_signed(value)
+    } else {
+        take_unsigned(value)
     }
 }
 
-// A 64-bit pattern as a value.
-fn pattern_value(signed: bool, pattern: u64) -> Operand
-    ensures { λ r. ⌜ r ≡ patterned signed pattern ⌝ }
+// Whether the meaning's values have a sign.
+fn has_sign(meaning: Meaning) -> bool
+    ensures { λ r. ⌜ r ≡ hasSign meaning ⌝ }
 {
-    if signed {
-        let integer = operand::integer(pattern);
-        Operand::ImmI64(integer)
-    } else {
-        Operand::ImmU64(pattern)
+    match meaning {
+        Meaning::None => false,
+        Meaning::Unsigned(_) => false,
+        Meaning::Signed(_) => true,
+        Meaning::Chosen(signed, _) => signed,
+        Meaning::Complement(_) => false,
+    }
+}
+
+fn take_signed(value: Operand) -> Taken
+    ensures { λ r. ⌜ TakenBy true value r ⌝ }
+{
+    let Operand::ImmI64(v) = value else {
+        return OTHER;
+    };
+    Taken {
+        answer: ACCEPTED,
+        pattern: operand::pattern(v),
+    }
+}
+
+fn take_unsigned(value: Operand) -> Taken
+    ensures { λ r. ⌜ TakenBy false value r ⌝ }
+{
+    let Operand::ImmU64(v) = value else {
+        return OTHER;
+    };
+    Taken {
+        answer: ACCEPTED,
+        pattern: v,
     }
 }
 
@@ -109,44 +144,29 @@ const BAD: Raw = Raw {
     raw: 0,
 };
 
-// The raw number of a value, where its kind, range and multiple are the meaning's, or its list has it.
-pub fn raw_of(meaning: Meaning, width: u32, value: Operand) -> Raw
+// The raw number of the value with a 64-bit pattern, where its range and multiple are the meaning's, or its list has it.
+pub fn raw_of(meaning: Meaning, width: u32, pattern: u64) -> Raw
     requires { ⌜ Fitting meaning width ⌝ }
-    ensures { λ r. ⌜ r ≡ rawOf meaning width value ⌝ }
+    ensures { λ r. ⌜ r ≡ rawOf meaning width (operandFor meaning pattern) ⌝ }
 {
     match meaning {
         Meaning::None => BAD,
-        Meaning::Unsigned(plus) => raw_unsigned(plus, width, value),
-        Meaning::Signed(unit) => raw_signed(unit, width, value),
-        Meaning::Chosen(signed, list) => raw_chosen(signed, list, width, value),
-        Meaning::Complement(top) => raw_complement(top, width, value),
+        Meaning::Unsigned(plus) => raw_above(plus, width, pattern),
+        Meaning::Signed(unit) => raw_signed(unit, width, pattern),
+        Meaning::Chosen(signed, list) => raw_chosen(signed, list, width, pattern),
+        Meaning::Complement(top) => raw_above(pattern, width, top),
     }
 }
 
-fn raw_unsigned(plus: u64, width: u32, value: Operand) -> Raw
-    requires { ⌜ UnsignedFits plus width ⌝ }
-    ensures { λ r. ⌜ r ≡ rawOf (Meaning.Unsigned plus) width value ⌝ }
+// The raw number that a number is above another.
+fn raw_above(low: u64, width: u32, high: u64) -> Raw
+    requires { ⌜ (1 ≤ width) × (width ≤ 64) ⌝ }
+    ensures { λ r. ⌜ r ≡ rawAbove low width high ⌝ }
 {
-    let Operand::ImmU64(v) = value else {
-        return BAD;
-    };
-    if v < plus {
+    if high < low {
         return BAD;
     }
-    raw_within(width, v - plus)
-}
-
-fn raw_complement(top: u64, width: u32, value: Operand) -> Raw
-    requires { ⌜ ComplementFits top width ⌝ }
-    ensures { λ r. ⌜ r ≡ rawOf (Meaning.Complement top) width value ⌝ }
-{
-    let Operand::ImmU64(v) = value else {
-        return BAD;
-    };
-    if top < v {
-        return BAD;
-    }
-    raw_within(width, top - v)
+    raw_within(width, high - low)
 }
 
 // A raw number that is to have so many bits.
@@ -164,14 +184,11 @@ fn raw_within(width: u32, raw: u64) -> Raw
     }
 }
 
-fn raw_signed(unit: u64, width: u32, value: Operand) -> Raw
+// The raw number of the integer with a pattern.
+fn raw_signed(unit: u64, width: u32, pattern: u64) -> Raw
     requires { ⌜ SignedFits unit width ⌝ }
-    ensures { λ r. ⌜ r ≡ rawOf (Meaning.Signed unit) width value ⌝ }
+    ensures { λ r. ⌜ r ≡ rawSigned unit width (integerOf pattern) ⌝ }
 {
-    let Operand::ImmI64(v) = value else {
-        return BAD;
-    };
-    let pattern = operand::pattern(v);
     if pattern < HALF {
         raw_up(unit, width, pattern)
     } else {
@@ -217,26 +234,26 @@ fn raw_down(unit: u64, width: u32, below: u64) -> Raw
     }
 }
 
-// The place of a value in a list.
-fn raw_chosen(signed: bool, list: u64, width: u32, value: Operand) -> Raw
+// The place in a list of the value with a pattern.
+fn raw_chosen(signed: bool, list: u64, width: u32, pattern: u64) -> Raw
     requires { ⌜ ChosenFits list width ⌝ }
-    ensures { λ r. ⌜ r ≡ rawOf (Meaning.Chosen signed list) width value ⌝ }
+    ensures { λ r. ⌜ r ≡ rawOf (Meaning.Chosen signed list) width (patterned signed pattern) ⌝ }
 {
-    let entry = entry_of(signed, value);
+    let entry = entry_of(signed, pattern);
     if entry.answer != ACCEPTED {
         return BAD;
     }
     place_in(list, 1 << width, entry.raw)
 }
 
-// The number of 8 bits of a value.
-fn entry_of(signed: bool, value: Operand) -> Raw
-    ensures { λ r. ⌜ r ≡ entryOf signed value ⌝ }
+// The number of 8 bits of the value with a pattern.
+fn entry_of(signed: bool, pattern: u64) -> Raw
+    ensures { λ r. ⌜ r ≡ entryOf signed (patterned signed pattern) ⌝ }
 {
     if signed {
-        raw_signed(1, 8, value)
+        raw_signed(1, 8, pattern)
     } else {
-        raw_unsigned(0, 8, value)
+        raw_above(0, 8, pattern)
     }
 }
 

@@ -9,9 +9,7 @@ use Rattle.bundle.specs.declared.half.Halves.{Halves}
 use Rattle.form.specs.Form.{noForm, same}
 use Rattle.form.specs.declared.Edit.{Edit}
 use Rattle.operand.specs.Pattern.{patternIn}
-use Rattle.meaning.specs.Meaning.{operandFor}
-use Rattle.row.specs.Row.{rowOf}
-use Rattle.immediate.specs.Immediate.{changedNumber, changedOf}
+use Rattle.immediate.specs.Immediate.{changedNumber, changedOf, editTold}
 use Rattle.immediate.specs.declared.outcome.Changed.{Changed}
 use Rattle.record.specs.declared.Record.{Record}
 
@@ -47,7 +45,7 @@ isFree r = isWhole r && eqb (r .party) 0 && eqb (r .bundle) 0 && sameHalves (r .
 
 -- the edit that a record tells of
 abbrev pub told : Record → Edit
-told r = record { bundle = r .bundle; slot = r .slot; form = r .form; value = operandFor (rowOf (r .form) .meaning) (r .value) }
+told r = editTold (r .bundle) (r .slot) (r .form) (r .value)
 
 -- a change is taken and gives this bundle
 abbrev pub gives : Changed → Halves → Bool

@@ -1,14 +1,11 @@
 // Records of edits: what was done to a bundle, and the bundle before and after.
 ghost use mathlib.Core.Path.{_≡_};
-ghost use Rattle.row.specs.Row.{rowOf};
-ghost use Rattle.record.specs.Record.{wholeRecord, isWhole, sameHalves, isFree, told, mayStand};
+ghost use Rattle.record.specs.Record.{wholeRecord, isWhole, sameHalves, isFree, mayStand};
 ghost use Rattle.record.specs.Record.{passes as Record·passes};
 use answer::ACCEPTED;
 use bundle::Halves;
-use form::Edit;
 use form::Form;
 use form::NO_FORM;
-use row::Row;
 
 // The highest number of a bundle.
 const HIGHEST: u64 = 4095;
@@ -77,21 +74,6 @@ pub fn is_free(place: Record) -> bool
         & same_halves(new, ZERO)
 }
 
-// The edit that a record tells of, by the row of its form.
-fn edit_told(row: Row, one: Record) -> Edit
-    requires { ⌜ row ≡ rowOf (one .form) ⌝ }
-    ensures { λ r. ⌜ r ≡ told one ⌝ }
-{
-    let form = one.form;
-    let meaning = row.meaning;
-    Edit {
-        bundle: one.bundle,
-        slot: one.slot,
-        form,
-        value: meaning::operand_for(meaning, one.value),
-    }
-}
-
 // Whether a record is one of a whole bundle, or its edit makes its new bundle of its old one.
 fn passes(one: Record) -> bool
     ensures { λ r. ⌜ r ≡ Record·passes one ⌝ }
@@ -99,10 +81,9 @@ fn passes(one: Record) -> bool
     if is_whole(one) {
         return true;
     }
-    let form = one.form;
-    let row = row::row_of(form);
     let old = one.old;
-    let changed = immediate::change_by(row, old, edit_told(row, one));
+    let form = one.form;
+    let changed = immediate::change_told(old, one.slot, form, one.value);
     let made = changed.bundle;
     let new = one.new;
     (changed.answer == ACCEPTED) & same_halves(made, new)

@@ -1,81 +1,106 @@
 -- `change_by` meets its contract: a row that stands in the slot is sound there, so the value's raw number is scattered into the bundle's number.
 -- Assumes nothing.
 use mathlib.Core.Path.{_≡_, refl, _∙_, ap, sym, subst}
+use mathlib.Core.Bool.{Bool, true, false}
 use Prim.Native.Nat.{ℕ, _<_, _^_}
 use native.Mathlib.Omega.{arith}
 use borrow.Author.Needs.{needs}
-use borrow.Author.Tests.{eqb-false}
-use Rattle.answer.specs.Answer.{accepted, first}
+use borrow.Author.Tests.{eqb-false, not-true, not-false}
+use Rattle.answer.specs.Answer.{accepted, badValue, first}
 use Rattle.bundle.specs.Bundle.{whole, halvesOf}
 use Rattle.bundle.proofs.Halves.{halves-whole}
 use Rattle.parts.specs.Placed.{widthOf}
 use Rattle.row.specs.Row.{rowOf}
 use Rattle.meaning.specs.Fits.{Fitting}
-use Rattle.meaning.specs.Meaning.{rawOf}
+use Rattle.meaning.specs.Meaning.{Bad, operandFor, rawOf}
 use Rattle.row.specs.declared.Row.{Row}
 use Rattle.meaning.specs.declared.Raw.{Raw}
 use Rattle.row.proofs.Rows.{row-good}
 use Rattle.meaning.proofs.Inverse.{raw-told}
-use Rattle.immediate.specs.Sound.{Sound}
+use Rattle.meaning.proofs.Patterns.{raw-of-none}
+use Rattle.form.specs.declared.Edit.{Edit}
+use Rattle.immediate.specs.Sound.{Sound, editBy}
 use Rattle.immediate.specs.Immediate.{readRefusals, rawFor, withRaw, noChange}
 use Rattle.immediate.proofs.Laws.{read-sound, unchanged-by, not-read, no-raw, changed-done}
 use Rattle.immediate.proofs.change_by.Statement.{statement}
 use Rattle.immediate.proofs.change_by.Tie as tie
 
+-- the edit, by its value or by none
+abbrev edit : tie.Start → Edit
+edit s = let a = s .args in editBy (a .slot) (a .form) (a .told) (a .pattern)
+
 answer : (c : tie.After-read-answer) →
-    let a = c .before .before .args in
-    c .read-answer .result ≡ first (readRefusals (whole (a .bundle)) (a .edit .slot) (a .edit .form) (rowOf (a .edit .form)))
+    let a = c .before .args in
+    c .read-answer .result ≡ first (readRefusals (whole (a .bundle)) (a .slot) (a .form) (rowOf (a .form)))
 answer c =
-    let s = c .before .before in
+    let s = c .before in
     let a = s .args in
-    c .read-answer .ensures ∙ ap (λ (row : Row). first (readRefusals (whole (a .bundle)) (a .edit .slot) (a .edit .form) row)) (s .pre)
+    c .read-answer .ensures ∙ ap (λ (row : Row). first (readRefusals (whole (a .bundle)) (a .slot) (a .form) row)) (s .pre)
 
 -- the row stands in the slot
 module _ (c : tie.Else1) where
-  read : let a = c .before .before .before .args in first (readRefusals (whole (a .bundle)) (a .edit .slot) (a .edit .form) (rowOf (a .edit .form))) ≡ accepted
+  read : let a = c .before .before .args in first (readRefusals (whole (a .bundle)) (a .slot) (a .form) (rowOf (a .form))) ≡ accepted
   read = sym (answer (c .before)) ∙ c .if1 .left
 
-  is-sound : let a = c .before .before .before .args in Sound (a .edit .slot) (a .row)
+  is-sound : let a = c .before .before .args in Sound (a .slot) (a .row)
   is-sound =
-      let s = c .before .before .before in
+      let s = c .before .before in
       let a = s .args in
-      subst (λ (row : Row). Sound (a .edit .slot) row) (sym (s .pre))
-      (read-sound (whole (a .bundle)) (a .edit .slot) (a .edit .form) (rowOf (a .edit .form)) (row-good (a .edit .form)) read)
+      subst (λ (row : Row). Sound (a .slot) row) (sym (s .pre))
+      (read-sound (whole (a .bundle)) (a .slot) (a .form) (rowOf (a .form)) (row-good (a .form)) read)
 
 returns : tie.Need-returns
 returns c =
     let r = c .before .before in
-    let a = r .before .before .args in
+    let s = r .before in
+    let n = whole (s .args .bundle) in
     let refused = c .before .if1 .taken in
-    c .unchanged .ensures
-    ∙ unchanged-by (whole (a .bundle)) (a .edit) _ (not-read (whole (a .bundle)) (a .edit) (λ e. refused (answer r ∙ e)) ∙ sym (answer r)) refused
+    c .unchanged .ensures ∙ unchanged-by n (edit s) _ (not-read n (edit s) (λ e. refused (answer r ∙ e)) ∙ sym (answer r)) refused
+
+-- no value
+returns-2 : tie.Need-returns-2
+returns-2 c =
+    let e1 = c .before .before in
+    let s = e1 .before .before in
+    let n = whole (s .args .bundle) in
+    let row = rowOf (s .args .form) in
+    let none : rawFor row (edit s .value) ≡ Bad = rw (not-true (s .args .told) (c .before .if2 .taken)) (raw-of-none (row .meaning) (widthOf (row .parts))) in
+    let bad : rawFor row (edit s .value) .answer ≡ accepted → ⊥ = λ e. eqb-false badValue accepted refl (sym (ap (λ (x : Raw). x .answer) none) ∙ e) in
+    c .unchanged2 .ensures ∙ unchanged-by n (edit s) _ (no-raw n (edit s) (read e1) bad) (eqb-false badValue accepted refl)
 
 width-requires : tie.Need-width-requires
-width-requires c κs = is-sound (c .before) .reads
+width-requires c κs = is-sound (c .before .before) .reads
 
 raw-of-requires : tie.Need-raw-of-requires
-raw-of-requires c κs = let e = c .before .before in subst (Fitting (e .before .before .before .args .row .meaning)) (sym (c .width .ensures)) (is-sound e .fitting)
+raw-of-requires c κs =
+    let e1 = c .before .before .before in
+    subst (Fitting (e1 .before .before .args .row .meaning)) (sym (c .width .ensures)) (is-sound e1 .fitting)
 
 -- the value's raw number, or its refusal
 raw-is : (c : tie.After-raw-of) →
-    let a = c .before .before .before .before .before .before .args in
-    c .raw-of .result ≡ rawFor (rowOf (a .edit .form)) (a .edit .value)
-raw-is c =
     let s = c .before .before .before .before .before .before in
+    c .raw-of .result ≡ rawFor (rowOf (s .args .form)) (edit s .value)
+raw-is c =
+    let e2 = c .before .before .before in
+    let s = e2 .before .before .before in
     let a = s .args in
-    c .raw-of .ensures ∙ ap (λ (w : ℕ). rawOf (a .row .meaning) w (a .edit .value)) (c .before .width .ensures) ∙ ap (λ (row : Row). rawFor row (a .edit .value)) (s .pre)
+    rw (not-false (a .told) (e2 .if2 .left))
+    (c .raw-of .ensures
+    ∙ ap (λ (w : ℕ). rawOf (a .row .meaning) w (operandFor (a .row .meaning) (a .pattern))) (c .before .width .ensures)
+    ∙ ap (λ (row : Row). rawFor row (operandFor (row .meaning) (a .pattern))) (s .pre))
 
-returns-2 : tie.Need-returns-2
-returns-2 c =
+returns-3 : tie.Need-returns-3
+returns-3 c =
     let r = c .before .before in
-    let e1 = r .before .before .before in
-    let a = e1 .before .before .before .args in
-    let n = whole (a .bundle) in
+    let e1 = r .before .before .before .before in
+    let s = e1 .before .before in
+    let n = whole (s .args .bundle) in
+    let row = rowOf (s .args .form) in
     let is = ap (λ (x : Raw). x .answer) (raw-is r) in
-    let refused = c .before .if2 .taken in
-    let none : rawFor (rowOf (a .edit .form)) (a .edit .value) .answer ≡ accepted → ⊥ = λ e. refused (is ∙ e) in
-    let six = is ∙ ap (λ (x : Raw). x .answer) (raw-told (rowOf (a .edit .form) .meaning) (widthOf (rowOf (a .edit .form) .parts)) (a .edit .value) none) in
-    c .unchanged2 .ensures ∙ unchanged-by n (a .edit) _ (no-raw n (a .edit) (read e1) none ∙ sym six) refused
+    let refused = c .before .if3 .taken in
+    let none : rawFor row (edit s .value) .answer ≡ accepted → ⊥ = λ e. refused (is ∙ e) in
+    let six = is ∙ ap (λ (x : Raw). x .answer) (raw-told (row .meaning) (widthOf (row .parts)) (edit s .value) none) in
+    c .unchanged3 .ensures ∙ unchanged-by n (edit s) _ (no-raw n (edit s) (read e1) none ∙ sym six) refused
 
 cast-scatter : tie.Need-cast-scatter
 cast-scatter c = let h = is-sound (c .before .before .before .before .before) .in-bundle in omega arith
@@ -86,22 +111,22 @@ scatter-requires c κs = let s = is-sound (c .before .before .before .before .be
 halves-fit : (c : tie.After-scatter) → (c .scatter .result .low < 2 ^ 64) × (c .scatter .result .high < 2 ^ 64)
 halves-fit c = (omega (arith, c .scatter .ok), omega (arith, c .scatter .ok))
 
-returns-3 : tie.Need-returns-3
-returns-3 c =
-    let e2 = c .before .before in
-    let r = e2 .before in
-    let e1 = r .before .before .before in
-    let s = e1 .before .before .before in
+returns-4 : tie.Need-returns-4
+returns-4 c =
+    let e3 = c .before in
+    let r = e3 .before in
+    let e1 = r .before .before .before .before in
+    let s = e1 .before .before in
     let a = s .args in
     let n = whole (a .bundle) in
     let is = raw-is r in
     let number = c .scatter .ensures
-    ∙ ap (λ (x : Raw). withRaw (a .row) (a .edit .slot) n (x .raw)) is
-    ∙ ap (λ (row : Row). withRaw row (a .edit .slot) n (rawFor (rowOf (a .edit .form)) (a .edit .value) .raw)) (s .pre) in
+    ∙ ap (λ (x : Raw). withRaw (a .row) (a .slot) n (x .raw)) is
+    ∙ ap (λ (row : Row). withRaw row (a .slot) n (rawFor (rowOf (a .form)) (edit s .value) .raw)) (s .pre) in
     let h = c .scatter .result in
     let bundle = sym (halves-whole (h .low) (h .high) (halves-fit c .0) (halves-fit c .1)) ∙ ap halvesOf number in
     (λ i. record { answer = e1 .if1 .left i; bundle = bundle i })
-    ∙ sym (changed-done n (a .edit) (read e1) (sym (ap (λ (x : Raw). x .answer) is) ∙ e2 .if2 .left))
+    ∙ sym (changed-done n (edit s) (read e1) (sym (ap (λ (x : Raw). x .answer) is) ∙ e3 .if3 .left))
 
 pub change-by-spec : {M : Type 1} → statement M
 change-by-spec =
@@ -110,10 +135,12 @@ change-by-spec =
     (λ c κs. search needs)
     (λ c κs. search needs)
     returns
+    (λ c κs. search needs)
+    returns-2
     width-requires
     raw-of-requires
     (λ c κs. search needs)
-    returns-2
+    returns-3
     cast-scatter
     scatter-requires
-    returns-3)
+    returns-4)

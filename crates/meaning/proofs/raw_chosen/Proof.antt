@@ -4,7 +4,7 @@ use Prim.Native.Nat.{_*_, _%_, _<_, _^_}
 use native.Mathlib.Omega.{arith}
 use borrow.Author.Tests.{eq-eqb, ne-eqb}
 use Rattle.bits.proofs.Shift.{one-shl}
-use Rattle.meaning.specs.Meaning.{entryOf}
+use Rattle.meaning.specs.Meaning.{patterned, entryOf}
 use Rattle.meaning.proofs.Units.{at-most-8}
 use Rattle.meaning.specs.declared.Raw.{Raw}
 use borrow.Author.Needs.{needs}
@@ -14,7 +14,7 @@ use Rattle.meaning.proofs.raw_chosen.Tie as tie
 returns : tie.Need-returns
 returns c =
     let a = c .before .before .before .args in
-    rw (ne-eqb (entryOf (a .signed) (a .value) .answer) 0 (λ e. c .if1 .taken (ap (λ (r : Raw). r .answer) (c .before .before .entry-of .ensures) ∙ e)))
+    rw (ne-eqb (entryOf (a .signed) (patterned (a .signed) (a .pattern)) .answer) 0 (λ e. c .if1 .taken (ap (λ (r : Raw). r .answer) (c .before .before .entry-of .ensures) ∙ e)))
 
 -- the code's 1 << width
 power : (c : tie.Start) → (1 * 2 ^ c .args .width) % 2 ^ 64 ≡ 2 ^ c .args .width
@@ -29,7 +29,7 @@ returns-2 c =
     let a = start .args in
     let is = c .before .before .before .entry-of .ensures in
     let taken = sym (ap (λ (r : Raw). r .answer) is) ∙ c .before .if1 .left in
-    rw (eq-eqb (entryOf (a .signed) (a .value) .answer) 0 taken, sym is, sym (power start)) (c .place-in .ensures)
+    rw (eq-eqb (entryOf (a .signed) (patterned (a .signed) (a .pattern)) .answer) 0 taken, sym is, sym (power start)) (c .place-in .ensures)
 
 pub raw-chosen-spec : {M : Type 1} → statement M
 raw-chosen-spec = tie.close (tie.spec (λ c κs. search needs) returns (λ c. search needs) place-in-requires returns-2)
