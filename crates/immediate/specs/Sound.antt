@@ -18,6 +18,6 @@ pub record Sound (slot : ℕ) (row : Row) : Type 0 where
   pub apart : T (separate (placed slot (row .parts)))
   pub fitting : Fitting (row .meaning) (widthOf (row .parts))
 
--- an edit whose value is told by its pattern, or is none that any row takes
-abbrev pub editBy : ℕ → Form → Bool → ℕ → Edit
-editBy slot form told p = record { bundle = 0; slot = slot; form = form; value = cond told (editTold 0 slot form p .value) NoOperand }
+-- the edit that a slot, a form and its value's pattern tell of; where the value isn't told, one with none
+abbrev pub editIfTold : ℕ → Form → Bool → ℕ → Edit
+editIfTold slot form told p = record { bundle = 0; slot = slot; form = form; value = cond told (editTold 0 slot form p .value) NoOperand }

@@ -11,7 +11,7 @@ ghost use Rattle.bundle.specs.Bundle.{whole};
 ghost use Rattle.operand.specs.Pattern.{patternOf};
 ghost use Rattle.row.specs.Row.{rowOf};
 ghost use Rattle.immediate.specs.Immediate.{valueIn, noImmediate, immediateIn, immediateOf, noChange, changedOf, editTold, displacementIn, noTarget, targetIn, targetOf};
-ghost use Rattle.immediate.specs.Sound.{Sound, editBy};
+ghost use Rattle.immediate.specs.Sound.{Sound, editIfTold};
 use answer::ACCEPTED;
 use answer::BAD_VALUE;
 use bundle::Halves;
@@ -92,7 +92,7 @@ pub fn change_told(bundle: Halves, slot: u64, form: Form, pattern: u64) -> Chang
 // The same by the form's row. A value that isn't told, being of another kind, is refused.
 fn change_by(row: Row, bundle: Halves, slot: u64, form: Form, told: bool, pattern: u64) -> Changed
     requires { ⌜ row ≡ rowOf form ⌝ }
-    ensures { λ r. ⌜ r ≡ changedOf (whole bundle) (editBy slot form told pattern) ⌝ }
+    ensures { λ r. ⌜ r ≡ changedOf (whole bundle) (editIfTold slot form told pattern) ⌝ }
 {
     let answer = fit::read_answer(bundle, slot, form, row);
     if answer != ACCEPTED {

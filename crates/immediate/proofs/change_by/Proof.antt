@@ -19,7 +19,7 @@ use Rattle.row.proofs.Rows.{row-good}
 use Rattle.meaning.proofs.Inverse.{raw-told}
 use Rattle.meaning.proofs.Patterns.{raw-of-none}
 use Rattle.form.specs.declared.Edit.{Edit}
-use Rattle.immediate.specs.Sound.{Sound, editBy}
+use Rattle.immediate.specs.Sound.{Sound, editIfTold}
 use Rattle.immediate.specs.Immediate.{readRefusals, rawFor, withRaw, noChange}
 use Rattle.immediate.proofs.Laws.{read-sound, unchanged-by, not-read, no-raw, changed-done}
 use Rattle.immediate.proofs.change_by.Statement.{statement}
@@ -27,7 +27,7 @@ use Rattle.immediate.proofs.change_by.Tie as tie
 
 -- the edit, by its value or by none
 abbrev edit : tie.Start → Edit
-edit s = let a = s .args in editBy (a .slot) (a .form) (a .told) (a .pattern)
+edit s = let a = s .args in editIfTold (a .slot) (a .form) (a .told) (a .pattern)
 
 answer : (c : tie.After-read-answer) →
     let a = c .before .args in
