@@ -1,4 +1,2 @@
-pub mod Demand3
 pub mod Edit
-pub mod Order
 pub mod Plan

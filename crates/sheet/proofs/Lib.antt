@@ -1,4 +1,3 @@
-pub mod Across
 pub mod ByNumber
 pub mod Found
 pub mod Held
@@ -6,9 +5,7 @@ pub mod Inverse
 pub mod Lengths
 pub mod Lines
 pub mod Made
-pub mod Old
 pub mod OneKind
-pub mod Parties
 pub mod Reading
 pub mod Sheets
 pub mod Twice

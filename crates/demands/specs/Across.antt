@@ -12,11 +12,11 @@ use Rattle.answer.specs.Answer.{accepted, outcome}
 use Rattle.bundle.specs.Bundle.{longestCode}
 use Rattle.records.specs.Journal.{limit}
 use Rattle.journal.specs.Edit.{Outcome}
-use Rattle.journal.specs.Demand3.{Call, step, run, Holds}
+use Rattle.demands.specs.Demand3.{Call, step, run, Holds}
 use Rattle.text.specs.Whole.{wroteOf}
 use Rattle.text.specs.declared.whole.Written.{Written}
 use Rattle.sheet.specs.Sheet.{sheetOf, writeRefusals}
 use Rattle.sheet.specs.Load.{loadOf}
 
 -- an edit or undo; a sheet written to an output; the sheet loaded that the call straight before wrote; any text loaded
 pub data SheetCall : Type 0 where

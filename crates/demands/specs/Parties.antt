@@ -11,11 +11,11 @@ use lib.ListN.{length, getD}
 use Rattle.answer.specs.Answer.{accepted}
 use Rattle.bundle.specs.Bundle.{longestCode}
 use Rattle.journal.specs.Edit.{editBy, undoBy}
-use Rattle.journal.specs.Demand3.{edit, undo}
+use Rattle.demands.specs.Demand3.{edit, undo}
 use Rattle.records.specs.Shared.{Shared, ownOf, placesOf, isOpened, fresh}
 use Rattle.sheet.specs.Sheet.{writeBy}
 use Rattle.sheet.specs.Load.{loadBy}
-use Rattle.sheet.specs.Across.{SheetCall, call, write, load, loadText, State, sheetIn, runAcross, ownSheets, HoldsAcross}
+use Rattle.demands.specs.Across.{SheetCall, call, write, load, loadText, State, sheetIn, runAcross, ownSheets, HoldsAcross}
 
 -- what there is in a run: the shared journal, and of each party its code, what its last call answered and the sheet that this wrote
 pub record Mixed : Type 0 where

@@ -16,19 +16,19 @@ use Rattle.bundle.specs.Bundle.{longestCode}
 use Rattle.bundle.proofs.Bytes.{Bytes}
 use Rattle.records.specs.Journal.{Journal, limit}
 use Rattle.journal.specs.Edit.{Outcome, editOf, undoOf}
-use Rattle.journal.specs.Demand3.{Call, edit, undo, step, run}
-use Rattle.journal.proofs.Run.{OfEdits, holds, run-valid, run-all}
+use Rattle.demands.specs.Demand3.{Call, edit, undo, step, run}
+use Rattle.demands.proofs.Run.{OfEdits, holds, run-valid, run-all}
 use Rattle.record.specs.Record.{editRecord, isHeld, numbersOf}
 use Rattle.record.proofs.Laws.{edit-slot, edit-form, edit-pattern}
 use Rattle.text.specs.Whole.{wroteOf, wholeRefusals}
 use Rattle.text.specs.declared.whole.Written.{Written}
 use Rattle.sheet.specs.RoundTrip.{HasSheet}
 use Rattle.sheet.specs.Sheet.{tells, sheetOf, writeRefusals}
 use Rattle.sheet.specs.declared.line.Kind.the-variants.{Full}
 use Rattle.sheet.specs.Load.{Loaded, loadOf}
-use Rattle.sheet.specs.Across.{SheetCall, call, write, load, loadText, ownSheets, sheetIn, loaded, runAcross, plain, Demand3Across}
+use Rattle.demands.specs.Across.{SheetCall, call, write, load, loadText, ownSheets, sheetIn, loaded, runAcross, plain, Demand3Across}
 use Rattle.sheet.proofs.Held.{are-words}
 use Rattle.sheet.proofs.Inverse.{load-written}
 
 -- the records of edits that bundles take are of the code
 edits-held : (party : ℕ) → OfEdits party isHeld

@@ -27,10 +27,10 @@ use Rattle.record.specs.Record.{highest, noRecord, sameHalves, editRecord, mayS
 use Rattle.record.specs.declared.Record.{Record}
 use Rattle.record.proofs.Laws.{same-halves, edit-passes}
 use Rattle.records.specs.Journal.{Journal, all, standing, journalOf, validOf, viewOf}
 use Rattle.journal.specs.Edit.{Outcome, codeRefusals, rewritten, made, roomRefusals, editOf, undoRefusals, undoOf, recordOf}
-use Rattle.journal.specs.Demand3.{Call, edit, undo, step, run, madeAll, answerTo, taken, after, standingEdits, recordsOf, expected, SetsOnlyItsBits, thenUndo, Holds, Demand3}
+use Rattle.demands.specs.Demand3.{Call, edit, undo, step, run, madeAll, answerTo, taken, after, standingEdits, recordsOf, expected, SetsOnlyItsBits, thenUndo, Holds, Demand3}
 use Rattle.journal.proofs.Laws.{taken-found, taken-changes, taken-lt, parts-accept, first-past}
 use Rattle.journal.proofs.Rewritten.{rewritten-before, rewritten-past, rewritten-number, rewritten-length, rewritten-twice, rewritten-bytes, rewritten-own}
 use Rattle.records.proofs.Standing.{journal-stands, journal-valid, journal-shows, all-append, drop-last-snoc, last-snoc}
 
 -- the code takes the edit

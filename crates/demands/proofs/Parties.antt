@@ -16,20 +16,20 @@ use Rattle.answer.proofs.Laws.{accepts, refuses}
 use Rattle.bundle.proofs.Bytes.{Bytes}
 use Rattle.form.specs.declared.Edit.{Edit}
 use Rattle.journal.specs.Edit.{Outcome, editOf, undoOf, undoRefusals}
-use Rattle.journal.specs.Demand3.{Call, edit, undo, step, run}
-use Rattle.journal.proofs.Kept.{Good, step-good, edit-kept, edit-taken, undo-kept, undo-taken}
+use Rattle.demands.specs.Demand3.{Call, edit, undo, step, run}
+use Rattle.demands.proofs.Kept.{Good, step-good, edit-kept, edit-taken, undo-kept, undo-taken}
 use Rattle.record.specs.declared.Record.{Record}
 use Rattle.records.specs.Journal.{Journal, limit, lent, journalOf, validOf, viewOf}
 use Rattle.records.specs.Shared.{Shared, ownOf, withOwn, placesOf, isOpened, fresh, serves, servedOf, afterBy}
 use Rattle.records.proofs.Sharing.{Serving, serving, serves-when, by-party, served-own, still-serves, fresh-serves, places-within, shown-serves}
 use Rattle.records.proofs.Standing.{view-shows}
 use Rattle.text.specs.Whole.{wroteOf}
 use Rattle.sheet.specs.Sheet.{sheetOf, writeRefusals, writeBy}
 use Rattle.sheet.specs.Load.{Loaded, answerOf, recordsIn, loadOf}
-use Rattle.sheet.specs.Across.{SheetCall, call, write, load, loadText, State, sheetIn, loaded, next, runAcross, ownSheets}
-use Rattle.sheet.specs.Parties.{Mixed, but, left, loadedBy, calledBy, mixed, seenBy, callsOf, aloneOf, AreCodes, Independent, HoldsFor, Demand3Parties}
-use Rattle.sheet.proofs.Across.{demand-3-across}
+use Rattle.demands.specs.Across.{SheetCall, call, write, load, loadText, State, sheetIn, loaded, next, runAcross, ownSheets}
+use Rattle.demands.specs.Parties.{Mixed, but, left, loadedBy, calledBy, mixed, seenBy, callsOf, aloneOf, AreCodes, Independent, HoldsFor, Demand3Parties}
+use Rattle.demands.proofs.Across.{demand-3-across}
 use Rattle.sheet.proofs.Inverse.{load-only-written, loads-valid, refuses-invalid, answer-few, answer-many}
 
 -- loading that is refused leaves the journal, and one that isn't gives a valid one
 module _ (party places : ℕ) (given : Journal) (text : List ℕ) where

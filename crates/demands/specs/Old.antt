@@ -10,13 +10,13 @@ use Rattle.answer.specs.Answer.{accepted}
 use Rattle.bundle.specs.Bundle.{longestCode, numberAt, halvesOf, whole}
 use Rattle.bundle.specs.declared.half.Halves.{Halves}
 use Rattle.journal.specs.Edit.{Outcome, rewritten}
-use Rattle.journal.specs.Demand3.{undo, step}
+use Rattle.demands.specs.Demand3.{undo, step}
 use Rattle.record.specs.Record.{highest, wholeRecord, sameHalves, isHeld}
 use Rattle.record.specs.declared.Record.{Record}
 use Rattle.records.specs.Journal.{Journal, limit, all, journalOf, validOf}
 use Rattle.sheet.specs.Load.{loadOf}
 use Rattle.sheet.specs.Sheet.{sheetAs}
 use Rattle.sheet.specs.declared.line.Kind.the-variants.{Old}
 
 -- a record of that time
 pub record OldRecord : Type 0 where

@@ -15,17 +15,17 @@ use Rattle.bundle.specs.Bundle.{longestCode, numberAt, halvesOf, whole}
 use Rattle.bundle.proofs.Lies.{Lies}
 use Rattle.journal.specs.Edit.{Outcome, rewritten, undoOf}
 use Rattle.journal.proofs.Rewritten.{rewritten-length}
-use Rattle.journal.proofs.Run.{undo-of}
+use Rattle.demands.proofs.Run.{undo-of}
 use Rattle.records.proofs.Standing.{all-append, journal-stands, journal-valid, last-snoc, drop-last-snoc}
 use Rattle.record.specs.Record.{highest, wholeRecord, sameHalves, passes, mayStand, isHeld}
 use Rattle.record.specs.declared.Record.{Record}
 use Rattle.records.specs.Journal.{Journal, limit, all, journalOf, validOf}
 use Rattle.record.proofs.Laws.{whole-passes}
 use Rattle.sheet.specs.RoundTrip.{HasSheet}
 use Rattle.sheet.specs.Sheet.{tells}
-use Rattle.sheet.specs.Old.{OldRecord, wholes, undone, undos, couldStand, OldLoads}
+use Rattle.demands.specs.Old.{OldRecord, wholes, undone, undos, couldStand, OldLoads}
 use Rattle.sheet.specs.declared.line.Kind.the-variants.{Old}
 use Rattle.sheet.proofs.Inverse.{load-written}
 
 abbrev wholeOf : ℕ → OldRecord → Record
 wholeOf party r = wholeRecord party (r .bundle) (r .old) (r .new)

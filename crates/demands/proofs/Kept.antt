@@ -23,11 +23,11 @@ use Rattle.record.specs.declared.Record.{Record}
 use Rattle.records.specs.Journal.{Journal, all, standing, journalOf, validOf, viewOf}
 use Rattle.records.specs.declared.View.{View}
 use Rattle.records.proofs.Standing.{journal-valid, all-append, view-shows, view-counts, valid-counts, valid-few, valid-stand}
 use Rattle.journal.specs.Edit.{Outcome, codeRefusals, made, rewritten, recordOf, roomRefusals, editRefusals, editOf, undoRefusals, undoOf}
-use Rattle.journal.specs.Demand3.{Call, edit, undo, step}
+use Rattle.demands.specs.Demand3.{Call, edit, undo, step}
 use Rattle.journal.proofs.Laws.{taken-found, taken-changes, parts-accept}
 use Rattle.journal.proofs.Rewritten.{rewritten-bytes}
-use Rattle.journal.proofs.Run.{Fits, low, made-bytes, edits-stand}
+use Rattle.demands.proofs.Run.{Fits, low, made-bytes, edits-stand}
 
 -- an outcome that is what a call makes of it or, refused, what it was
 module _ (a : ℕ) (done : Outcome) (code : List ℕ) (j : Journal) (is : done .answer ≡ accepted) where

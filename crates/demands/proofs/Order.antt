@@ -22,14 +22,14 @@ use Rattle.immediate.proofs.Laws.{changed-again, changed-tag, taken-by-tag, cha
 use Rattle.record.specs.declared.Record.{Record}
 use Rattle.records.specs.Journal.{Journal, standing, journalOf, validOf}
 use Rattle.records.proofs.Standing.{journal-stands, valid-is-journal}
 use Rattle.journal.specs.Edit.{Outcome, codeRefusals, rewritten, made, recordOf, editOf}
-use Rattle.journal.specs.Demand3.{edit, step}
-use Rattle.journal.specs.Order.{codeAfter, AllAccepted, Each, Acceptable, Apart, ApartCommute, SameField, LaterDecides, LastCounts, Mix, done, one, other, TwoFiles}
-use Rattle.journal.proofs.Kept.{edit-kept, edit-taken, Good, step-good}
+use Rattle.demands.specs.Demand3.{edit, step}
+use Rattle.demands.specs.Order.{codeAfter, AllAccepted, Each, Acceptable, Apart, ApartCommute, SameField, LaterDecides, LastCounts, Mix, done, one, other, TwoFiles}
+use Rattle.demands.proofs.Kept.{edit-kept, edit-taken, Good, step-good}
 use Rattle.journal.proofs.Laws.{taken-changes}
 use Rattle.journal.proofs.Rewritten.{rewritten-twice}
-use Rattle.journal.proofs.Run.{Fits, newNumber, in-code, made-length, made-bytes, made-number, edit-of}
-use Rattle.journal.proofs.Two.{rewritten-other, rewritten-comm}
+use Rattle.demands.proofs.Run.{Fits, newNumber, in-code, made-length, made-bytes, made-number, edit-of}
+use Rattle.demands.proofs.Two.{rewritten-other, rewritten-comm}
 
 -- an edit d that the code takes
 module _ (code : List ℕ) (b : Bytes code) (d : Edit) (takes : Fits code d) where
