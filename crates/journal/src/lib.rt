@@ -5,7 +5,7 @@ ghost use mathlib.Core.Path.{_≡_};
 ghost use mathlib.Core.Bool.{true};
 ghost use Rattle.answer.specs.Answer.{accepted};
 ghost use Rattle.bundle.specs.Bundle.{findAnswer, whole};
-ghost use Rattle.records.specs.Shared.{sharing, serves, servedOf, ownView};
+ghost use Rattle.records.specs.Shared.{sharing, servedOf, Shows};
 ghost use Rattle.journal.specs.Edit.{outcomeOf, byParty, rewritten, editBy, undoBy};
 ghost use Rattle.journal.specs.Plan.{carriedOut};
 use answer::ACCEPTED;
@@ -57,7 +57,7 @@ fn carry_out(
     own: Own,
     plan: Plan,
 ) -> Edited
-    requires { ⌜ (own ≡ ownView (sharing counts (now records)) party) × (plan .answer ≡ accepted → (serves (sharing counts (now records)) party ≡ true) × (findAnswer (now code) (plan .bundle) ≡ accepted)) ⌝ }
+    requires { ⌜ Shows counts (now records) party own × (plan .answer ≡ accepted → (own .view .valid ≡ true) × (findAnswer (now code) (plan .bundle) ≡ accepted)) ⌝ }
     ensures { λ r. ⌜ outcomeOf r (now (records .exit)) (now (code .exit)) ≡ byParty (sharing counts (now (records .entry))) party (carriedOut (now (code .entry)) (servedOf (sharing counts (now (records .entry))) party) plan) ⌝ }
 {
     let answer = plan.answer;

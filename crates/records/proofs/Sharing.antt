@@ -15,11 +15,11 @@ use mir.Facts.{and-yes, yes-and, or-yes}
 use Rattle.record.specs.Record.{noRecord, mayStand, isHeld}
 use Rattle.record.specs.declared.Record.{Record}
 use Rattle.records.specs.Journal.{Journal, limit, lent, all, standing, journalOf, validOf, shown, viewOf, recordAt}
-use Rattle.records.specs.Shared.{Shared, seam, sharing, firstOf, placesOf, countOf, withCount, ownOf, withOwn, isOpened, openedFor, fresh, sharedValid, serves, servedOf, ownView, HeldBy, OpenedIsFresh, FreshServes, SharingDecides}
+use Rattle.records.specs.Shared.{Shared, seam, sharing, firstOf, placesOf, countOf, withCount, ownOf, withOwn, isOpened, openedFor, fresh, sharedValid, serves, servedOf, ownView, HeldBy, Lent, Shows, OpenedIsFresh, FreshServes, SharingDecides}
 use Rattle.records.specs.declared.Counts.{Counts}
 use Rattle.records.specs.declared.Own.{Own}
 use Rattle.records.specs.declared.View.{View}
-use Rattle.records.proofs.Standing.{journal-valid, valid-places, view-shown, view-counts}
+use Rattle.records.proofs.Standing.{journal-valid, valid-places, view-shown, view-shows, view-counts}
 
 is-true : (t : Bool) → T t → t ≡ true
 is-true true u = refl
@@ -243,6 +243,27 @@ module _ (c : Counts) (rs : List Record) (party : ℕ) (o : Own) (is : o ≡ own
   pub part-put : (n : ℕ) (ys : List Record) → length ys ≡ placesOf (c .parties) party
       → sharing (withCount c party n) (putMid (o .first) (o .first + o .places - o .first) rs ys) ≡ withOwn s party (lent n ys)
   part-put n ys long = (λ i. sharing (withCount c party n) (putMid (part-first i) (part-places i) rs ys)) ∙ own-put c rs party it-serves n ys long
+
+-- what a call is shown of its part, said once for all calls
+pub shows : (c : Counts) (rs : List Record) (party : ℕ) (o : Own) → o ≡ ownView (sharing c rs) party → (serves (sharing c rs) party ≡ true → HeldBy (sharing c rs)) → Shows c rs party o
+shows c rs party o is held =
+    let s = sharing c rs in
+    let n = placesOf (c .parties) party in
+    let valid = ap (λ (o : Own). o .view .valid) is in
+    record {
+      is = is;
+      valid-is = valid ∙ view-shows party n (servedOf s party);
+      part = λ v.
+          let served = shown-serves s party n (sym valid ∙ v) in
+          record {
+            served = served;
+            valid = served-valid c rs party o is served;
+            held = served-held c rs party o is served (held served);
+            within = part-within c rs party o is served;
+            short = part-short c rs party o is served;
+            is-lent = part-journal c rs party o is served;
+          };
+    }
 
 -- free places
 pub opened-is-fresh : OpenedIsFresh

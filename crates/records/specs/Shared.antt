@@ -1,9 +1,10 @@
 -- A journal that one or two parties share: the slice is in two parts, and each party has a journal of its own in its part. A call of a party
 -- is one made with that party's journal, once all of the slice is found valid. Its laws are proved in `proofs/Sharing.antt`. Assumes nothing.
-use Prim.Native.Nat.{ℕ, _+_, _-_, _<_}
+use Prim.Native.Nat.{ℕ, _+_, _-_, _<_, _≤_}
 use mathlib.Core.Path.{_≡_}
 use mathlib.Core.Bool.{Bool, true, false, cond, _&&_, _||_}
 use mathlib.Core.List.{List, []}
+use borrow.Rule.Slice.PartMut.{midOf}
 use lib.Dec.{T, eqb, ltb}
 use lib.ListN.{length, take, drop, replicate}
 use Rattle.answer.specs.Answer.{outcome}
@@ -89,6 +90,21 @@ ownView s party =
 pub record HeldBy (s : Shared) : Type 0 where
   pub lower : T (all isHeld (standing (s .lower)))
   pub upper : T (all isHeld (standing (s .upper)))
+
+-- a party's part, where the journal serves the party: it lies in the slice, and lent it is the party's journal
+pub record Lent (c : Counts) (rs : List Record) (party : ℕ) (o : Own) : Type 0 where
+  pub served : serves (sharing c rs) party ≡ true
+  pub valid : validOf party (placesOf (c .parties) party) (servedOf (sharing c rs) party) ≡ true
+  pub held : T (all isHeld (standing (servedOf (sharing c rs) party)))
+  pub within : o .first + o .places ≤ length rs
+  pub short : o .first + o .places ≤ limit
+  pub is-lent : lent (o .view .count) (midOf (o .first) (o .first + o .places - o .first) rs) ≡ servedOf (sharing c rs) party
+
+-- what a call is shown of its party's part
+pub record Shows (c : Counts) (rs : List Record) (party : ℕ) (o : Own) : Type 0 where
+  pub is : o ≡ ownView (sharing c rs) party
+  pub valid-is : o .view .valid ≡ validOf party (placesOf (c .parties) party) (servedOf (sharing c rs) party)
+  pub part : o .view .valid ≡ true → Lent c rs party o
 
 -- free places and the counts of a fresh journal are one
 abbrev pub OpenedIsFresh : Type 0

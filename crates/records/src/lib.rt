@@ -7,7 +7,7 @@ ghost use lib.Dec.{T, eqb};
 ghost use lib.ListN.{length, getD, set, replicate};
 ghost use Rattle.record.specs.Record.{noRecord, isFree, mayStand, isHeld};
 ghost use Rattle.records.specs.Journal.{limit, lent, all, standing, validOf, shown};
-ghost use Rattle.records.specs.Shared.{sharing, seam, isOpened, serves, shareOf, withCount, openedFor, ownView, HeldBy};
+ghost use Rattle.records.specs.Shared.{sharing, seam, isOpened, serves, shareOf, withCount, openedFor, HeldBy, Shows};
 use record::NONE;
 use record::Record;
 
@@ -243,7 +243,7 @@ fn nothing_shown() -> View
 
 // A party's part of the slice; it shows nothing where all of the slice isn't valid, or the party isn't one of those that share it.
 pub fn own_of(counts: Counts, records: &[Record], party: u64) -> Own
-    ensures { λ r. ⌜ (r ≡ ownView (sharing counts (now (records .entry))) party) × (serves (sharing counts (now (records .entry))) party ≡ true → HeldBy (sharing counts (now (records .entry)))) ⌝ }
+    ensures { λ r. ⌜ Shows counts (now (records .entry)) party r ⌝ }
 {
     let share = share_of(counts, party);
     if !is_served(counts, records, party) {

@@ -9,10 +9,9 @@ use denote.Ref.{now}
 use Rattle.bundle.specs.Bundle.{findAnswer}
 use Rattle.answer.specs.Answer.{accepted}
 use Rattle.records.specs.Journal.{viewOf}
-use Rattle.records.specs.Shared.{Shared, sharing, placesOf, serves, servedOf}
+use Rattle.records.specs.Shared.{Shared, sharing, placesOf, servedOf}
 use Rattle.records.specs.declared.Own.{Own}
 use Rattle.records.specs.declared.View.{View}
-use Rattle.records.proofs.Sharing.{shown-serves}
 use Rattle.journal.specs.Edit.{byParty}
 use Rattle.journal.specs.Plan.{editPlanOf, carriedOut}
 use Rattle.journal.specs.declared.plan.Plan.{Plan}
@@ -24,6 +23,9 @@ use Rattle.journal.proofs.edit.Proof.Tie as tie
 module _ (c : tie.After-edit-plan) where
   abbrev start : tie.Start
   start = c .before .before .before .before .before .before
+
+  abbrev own : Own
+  own = c .before .before .before .own-of .result
 
   abbrev given : Shared
   given = sharing (start .args .counts) (now (start .args .records))
@@ -37,16 +39,16 @@ module _ (c : tie.After-edit-plan) where
   planned : c .edit-plan .result ≡ editPlanOf (start .args .party) places (now (start .args .code)) view (start .args .edit)
   planned =
       let a = start .args in
-      c .edit-plan .ensures ∙ ap (λ (o : Own). editPlanOf (a .party) (o .places) (now (a .code)) (o .view) (a .edit)) (c .before .before .before .own-of .ensures .0)
+      c .edit-plan .ensures ∙ ap (λ (o : Own). editPlanOf (a .party) (o .places) (now (a .code)) (o .view) (a .edit)) (c .before .before .before .own-of .ensures .is)
 
 carry-out-requires : tie.Need-carry-out-requires
 carry-out-requires c κs =
     let p = c .before .before in
     let a = start p .args in
     let code = now (a .code) in (
-      p .before .before .before .own-of .ensures .0,
-      subst (λ (plan : Plan). plan .answer ≡ accepted → (serves (given p) (a .party) ≡ true) × (findAnswer code (plan .bundle) ≡ accepted)) (sym (planned p))
-          (λ q. (shown-serves (given p) (a .party) (places p) (edit-shown (a .party) (places p) code (a .edit) (view p) q), edit-found (a .party) (places p) code (a .edit) (view p) q)),
+      p .before .before .before .own-of .ensures,
+      subst (λ (plan : Plan). plan .answer ≡ accepted → (own p .view .valid ≡ true) × (findAnswer code (plan .bundle) ≡ accepted)) (sym (planned p))
+          (λ q. (ap (λ (o : Own). o .view .valid) (p .before .before .before .own-of .ensures .is) ∙ edit-shown (a .party) (places p) code (a .edit) (view p) q, edit-found (a .party) (places p) code (a .edit) (view p) q)),
     )
 
 returns : tie.Need-returns

@@ -9,10 +9,9 @@ use denote.Ref.{now}
 use Rattle.bundle.specs.Bundle.{findAnswer}
 use Rattle.answer.specs.Answer.{accepted}
 use Rattle.records.specs.Journal.{viewOf}
-use Rattle.records.specs.Shared.{Shared, sharing, placesOf, serves, servedOf}
+use Rattle.records.specs.Shared.{Shared, sharing, placesOf, servedOf}
 use Rattle.records.specs.declared.Own.{Own}
 use Rattle.records.specs.declared.View.{View}
-use Rattle.records.proofs.Sharing.{shown-serves}
 use Rattle.journal.specs.Edit.{byParty}
 use Rattle.journal.specs.Plan.{undoPlanOf, carriedOut}
 use Rattle.journal.specs.declared.plan.Plan.{Plan}
@@ -25,6 +24,9 @@ module _ (c : tie.After-undo-plan) where
   abbrev start : tie.Start
   start = c .before .before .before .before .before .before
 
+  abbrev own : Own
+  own = c .before .before .before .own-of .result
+
   abbrev given : Shared
   given = sharing (start .args .counts) (now (start .args .records))
 
@@ -35,16 +37,16 @@ module _ (c : tie.After-undo-plan) where
   view = viewOf (start .args .party) places (servedOf given (start .args .party))
 
   planned : c .undo-plan .result ≡ undoPlanOf (now (start .args .code)) view
-  planned = c .undo-plan .ensures ∙ ap (λ (o : Own). undoPlanOf (now (start .args .code)) (o .view)) (c .before .before .before .own-of .ensures .0)
+  planned = c .undo-plan .ensures ∙ ap (λ (o : Own). undoPlanOf (now (start .args .code)) (o .view)) (c .before .before .before .own-of .ensures .is)
 
 carry-out-requires : tie.Need-carry-out-requires
 carry-out-requires c κs =
     let p = c .before .before in
     let a = start p .args in
     let code = now (a .code) in (
-      p .before .before .before .own-of .ensures .0,
-      subst (λ (plan : Plan). plan .answer ≡ accepted → (serves (given p) (a .party) ≡ true) × (findAnswer code (plan .bundle) ≡ accepted)) (sym (planned p))
-          (λ q. (shown-serves (given p) (a .party) (places p) (undo-shown (a .party) (places p) code (view p) q), undo-found (a .party) (places p) code (view p) q)),
+      p .before .before .before .own-of .ensures,
+      subst (λ (plan : Plan). plan .answer ≡ accepted → (own p .view .valid ≡ true) × (findAnswer code (plan .bundle) ≡ accepted)) (sym (planned p))
+          (λ q. (ap (λ (o : Own). o .view .valid) (p .before .before .before .own-of .ensures .is) ∙ undo-shown (a .party) (places p) code (view p) q, undo-found (a .party) (places p) code (view p) q)),
     )
 
 returns : tie.Need-returns

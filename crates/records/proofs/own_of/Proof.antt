@@ -13,7 +13,7 @@ use Rattle.record.specs.Record.{noRecord}
 use Rattle.records.specs.Journal.{Journal, shown, viewOf, recordAt}
 use Rattle.records.specs.Shared.{Shared, sharing, placesOf, countOf, ownOf, serves, servedOf}
 use Rattle.records.specs.declared.Share.{Share}
-use Rattle.records.proofs.Sharing.{Serving, serving, served-own, not-shown, own-valid, own-within, own-some, own-count, own-reads}
+use Rattle.records.proofs.Sharing.{Serving, serving, served-own, not-shown, own-valid, own-within, own-some, own-count, own-reads, shows}
 use Rattle.records.proofs.Standing.{valid-counts, valid-few, view-shown}
 use Rattle.records.proofs.own_of.Statement.{statement}
 use Rattle.records.proofs.own_of.Proof.Tie as tie
@@ -28,7 +28,7 @@ returns c =
     let share = s .before .share-of .ensures in
     let no = sym (s .is-served .ensures .0) ∙ not-true _ (c .before .if1 .taken) in
     let view = c .nothing-shown .ensures ∙ sym (not-shown (given (s .before .before)) (a .party) (placesOf (a .counts .parties) (a .party)) no) in
-    ((λ i. record { first = share i .first; places = share i .places; view = view i }), λ e. absurd (subst T (sym (sym no ∙ e)) tt))
+    shows (a .counts) (a .records .now) (a .party) _ (λ i. record { first = share i .first; places = share i .places; view = view i }) (λ e. absurd (subst T (sym (sym no ∙ e)) tt))
 
 -- the journal serves the party
 module _ (c : tie.Else1) where
@@ -97,7 +97,7 @@ returns-2 c =
     (ap (viewOf (a .party) places) (served-own g (a .party) (served e))
     ∙ view-shown (a .party) places (own e)
     ∙ ap (λ (t : Bool). shown t (own e .count) (recordAt (own e) (own e .count - 1))) (own-valid g (a .party) (it-serves e))) in
-    ((λ i. record { first = share i .first; places = share i .places; view = view i }), λ _. e .before .is-served .ensures .1 (not-false _ (e .if1 .left)))
+    shows (a .counts) (a .records .now) (a .party) _ (λ i. record { first = share i .first; places = share i .places; view = view i }) (λ _. e .before .is-served .ensures .1 (not-false _ (e .if1 .left)))
 
 pub own-of-spec : {M : Type 1} → statement M
 own-of-spec =
