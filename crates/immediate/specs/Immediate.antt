@@ -6,10 +6,10 @@ use mathlib.Core.List.{List, [], _∷_, _++_}
 use lib.Dec.{eqb, ltb}
 use lib.IntN.{ℤ}
 use lib.ListN.{getD}
-use Rattle.answer.specs.Answer.{Refusal, first, outcome, accepted, badForm, badSlot, badValue}
+use Rattle.answer.specs.Answer.{Refusal, first, outcome, accepted, badBundle, badForm, badSlot, badValue}
 use Rattle.bits.specs.Parts.{Parts, gather, scatter}
-use Rattle.bundle.specs.Template.{I, unitsOf}
-use Rattle.bundle.specs.Bundle.{numberAt, tagOf, findAnswer, bundleRefusals, halvesOf}
+use Rattle.bundle.specs.Template.{I, unitsOf, unitless}
+use Rattle.bundle.specs.Bundle.{numberAt, tagOf, findAnswer, halvesOf}
 use Rattle.form.specs.Form.{A, M}
 use Rattle.form.specs.declared.Form.{Form}
 use Rattle.form.specs.declared.Edit.{Edit}
@@ -29,21 +29,25 @@ use Rattle.immediate.specs.declared.outcome.Changed.{Changed}
 abbrev pub fits : Form → ℕ → Bool
 fits form unit = cond (eqb (form .family) A) (eqb unit I || eqb unit M) (eqb (form .family) unit)
 
+-- a bundle's units, which decide with its slot and form what it takes
+abbrev pub unitsIn : ℕ → List ℕ
+unitsIn n = unitsOf (tagOf n)
+
 -- the unit of a bundle's slot
 abbrev pub unitAt : ℕ → ℕ → ℕ
-unitAt n slot = getD (unitsOf (tagOf n)) slot 0
+unitAt n slot = getD (unitsIn n) slot 0
 
--- when a bundle is refused for a row: 2, 3
-abbrev pub rowRefusals : ℕ → Row → List Refusal
-rowRefusals n row = bundleRefusals n ++ (badForm, isNone row) ∷ []
+-- when units are refused for a row: 2, 3
+abbrev pub rowRefusals : List ℕ → Row → List Refusal
+rowRefusals units row = (badBundle, unitless units) ∷ (badForm, isNone row) ∷ []
 
--- when a form doesn't stand in a slot: 5
-abbrev pub slotRefusals : ℕ → ℕ → Form → List Refusal
-slotRefusals n slot form = (badSlot, ltb 2 slot || not (fits form (unitAt n slot))) ∷ []
+-- when a form doesn't stand in a slot of them: 5
+abbrev pub slotRefusals : List ℕ → ℕ → Form → List Refusal
+slotRefusals units slot form = (badSlot, ltb 2 slot || not (fits form (getD units slot 0))) ∷ []
 
 -- when reading a form's row in a slot is refused
 abbrev pub readRefusals : ℕ → ℕ → Form → Row → List Refusal
-readRefusals n slot form row = rowRefusals n row ++ slotRefusals n slot form
+readRefusals n slot form row = rowRefusals (unitsIn n) row ++ slotRefusals (unitsIn n) slot form
 
 -- the value that a row reads in a slot
 abbrev pub valueIn : Row → ℕ → ℕ → Operand
@@ -74,7 +78,7 @@ valueRefusals row value = (badValue, not (eqb (rawFor row value .answer) accepte
 -- when an edit of a bundle is refused: 2, 3, then 5, then 6
 abbrev pub changeRefusals : ℕ → Edit → List Refusal
 changeRefusals n e =
-    rowRefusals n (rowOf (e .form)) ++ slotRefusals n (e .slot) (e .form) ++ valueRefusals (rowOf (e .form)) (e .value)
+    rowRefusals (unitsIn n) (rowOf (e .form)) ++ slotRefusals (unitsIn n) (e .slot) (e .form) ++ valueRefusals (rowOf (e .form)) (e .value)
 
 -- the bundle with a raw number in a row's parts
 abbrev pub withRaw : Row → ℕ → ℕ → ℕ → ℕ

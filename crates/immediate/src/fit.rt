@@ -2,7 +2,7 @@
 ghost use mathlib.Core.Path.{_≡_};
 ghost use Rattle.answer.specs.Answer.{first};
 ghost use Rattle.bundle.specs.Bundle.{whole};
-ghost use Rattle.immediate.specs.Immediate.{readRefusals};
+ghost use Rattle.immediate.specs.Immediate.{readRefusals, rowRefusals, slotRefusals};
 ghost use Rattle.immediate.specs.Immediate.{fits as Immediate·fits};
 use answer::ACCEPTED;
 use answer::BAD_BUNDLE;
@@ -13,17 +13,33 @@ use form::A;
 use form::Form;
 use row::Row;
 
-// What reading a form's row in a slot answers.
+// What reading a form's row in a slot answers: 2, 3, then 5.
 pub fn read_answer(bundle: Halves, slot: u64, form: Form, row: Row) -> u8
     ensures { λ r. ⌜ r ≡ first (readRefusals (whole bundle) slot form row) ⌝ }
 {
     let units = bundle::units_of(bundle);
+    let answer = row_answer(units, row);
+    if answer != ACCEPTED {
+        return answer;
+    }
+    slot_answer(units, slot, form)
+}
+
+fn row_answer(units: [u8; 3], row: Row) -> u8
+    ensures { λ r. ⌜ r ≡ first (rowRefusals units row) ⌝ }
+{
     if bundle::unitless(units) {
         return BAD_BUNDLE;
     }
     if row::is_none(row) {
         return BAD_FORM;
     }
+    ACCEPTED
+}
+
+fn slot_answer(units: [u8; 3], slot: u64, form: Form) -> u8
+    ensures { λ r. ⌜ r ≡ first (slotRefusals units slot form) ⌝ }
+{
     if 2 < slot {
         return BAD_SLOT;
     }
