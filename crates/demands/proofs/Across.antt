@@ -7,18 +7,19 @@ use native.Mathlib.Decide.{ℕ-discrete}
 use native.Mathlib.Omega.{arith}
 use lib.Dec.{T}
 use lib.Ieee.Bits.{is-true}
-use lib.ListN.{length, take, drop}
+use lib.ListN.{length, drop}
 use lib.Seq.{take-append-seam}
 use Rattle.answer.specs.Answer.{accepted, first, outcome}
 use Rattle.answer.proofs.Laws.{accepts, refuses}
 use Rattle.bits.proofs.Laws.{part-lt}
-use Rattle.bundle.specs.Bundle.{longestCode}
+use Rattle.bundle.specs.Bundle.{longestCode, halvesOf}
 use Rattle.bundle.proofs.Bytes.{Bytes}
 use Rattle.records.specs.Journal.{Journal, limit}
-use Rattle.journal.specs.Edit.{Outcome, editOf, undoOf}
-use Rattle.demands.specs.Demand3.{Call, edit, undo, step, run}
-use Rattle.demands.proofs.Run.{OfEdits, holds, run-valid, run-all}
-use Rattle.record.specs.Record.{editRecord, isHeld, numbersOf}
+use Rattle.journal.specs.Edit.{Outcome}
+use Rattle.demands.specs.Demand3.{Call, run}
+use Rattle.demands.proofs.Changes.{OfChanges}
+use Rattle.demands.proofs.Run.{same-step, holds, run-valid, run-all}
+use Rattle.record.specs.Record.{editRecord, wholeRecord, isHeld, numbersOf}
 use Rattle.record.proofs.Laws.{edit-slot, edit-form, edit-pattern}
 use Rattle.text.specs.Whole.{wroteOf, wholeRefusals}
 use Rattle.text.specs.declared.whole.Written.{Written}
@@ -30,12 +31,19 @@ use Rattle.demands.specs.Across.{SheetCall, call, write, load, loadText,
 use Rattle.sheet.proofs.Held.{are-words}
 use Rattle.sheet.proofs.Inverse.{load-written}
 
--- the records of edits that bundles take are of the code
-edits-held : (party : ℕ) → OfEdits party isHeld
-edits-held party n e h low taken =
-    is-true (isHeld (editRecord party n e))
-    (are-words (numbersOf (editRecord party n e))
-    (omega (arith, low), (omega (arith, edit-slot n e taken), (omega (arith, edit-form n e taken .2), (edit-pattern n e taken, (part-lt _ 0 64, (part-lt _ 64 64, (part-lt _ 0 64, (part-lt _ 64 64, tt)))))))))
+-- the records of changes are of the code
+changes-held : (party : ℕ) → OfChanges party isHeld
+changes-held party =
+    record {
+      edits = λ n e h low taken.
+          is-true (isHeld (editRecord party n e))
+          (are-words (numbersOf (editRecord party n e))
+          (omega (arith, low), (omega (arith, edit-slot n e taken), (omega (arith, edit-form n e taken .2), (edit-pattern n e taken, (part-lt _ 0 64, (part-lt _ 64 64, (part-lt _ 0 64, (part-lt _ 64 64, tt)))))))));
+      wholes = λ k n m low.
+          is-true (isHeld (wholeRecord party k (halvesOf n) (halvesOf m)))
+          (are-words (numbersOf (wholeRecord party k (halvesOf n) (halvesOf m)))
+          (omega (arith, low), (omega arith, (omega arith, (omega arith, (part-lt _ 0 64, (part-lt _ 64 64, (part-lt _ 0 64, (part-lt _ 64 64, tt)))))))));
+    }
 
 -- the sheet in an output is the one that was written
 sheet-in : (party places : ℕ) (j : Journal) (out text : List ℕ) → sheetIn (wroteOf (writeRefusals party places j) (sheetOf j) out) ≡ some text → text ≡ sheetOf j
@@ -61,18 +69,13 @@ record Reached (party places : ℕ) (code : List ℕ) (calls : List SheetCall) :
   journals : runAcross party places code calls .after .journal ≡ run party places code (plain calls) .journal
   sheets : (text : List ℕ) → runAcross party places code calls .sheet ≡ some text → text ≡ sheetOf (run party places code (plain calls) .journal)
 
--- a call comes to the same from the same code and journal
-same-step : (party places : ℕ) (s t : Outcome) → s .code ≡ t .code → s .journal ≡ t .journal → (c : Call) → step party places s c ≡ step party places t c
-same-step party places s t p q (edit e) = ap₂ (λ (code : List ℕ) (journal : Journal). editOf party places code journal e) p q
-same-step party places s t p q undo = ap₂ (undoOf party places) p q
-
 module _ (party places : ℕ) (within : places ≤ limit) (code : List ℕ) (b : Bytes code) (short : length code ≤ longestCode) where
   run-sheet : (calls : List Call) → HasSheet party places Full (run party places code calls .journal)
   run-sheet calls =
       record {
         valid = run-valid party places code b short calls;
-        held = subst T (sym (run-all party places code b short isHeld (edits-held party) calls)) tt;
-        told = subst T (sym (run-all party places code b short (tells Full) (λ n e h low taken. refl) calls)) tt;
+        held = subst T (sym (run-all party places code b short isHeld (changes-held party) calls)) tt;
+        told = subst T (sym (run-all party places code b short (tells Full) (record { edits = λ n e h low taken. refl; wholes = λ k n m low. refl }) calls)) tt;
       }
 
   -- loading the sheet of the run's journal gives that journal

@@ -1,33 +1,33 @@
 -- What calls keep: a refused one the journal and the code, and any one a valid journal valid and the code bytes. By the definitions' cases.
 -- Assumes nothing.
 use mathlib.Core.Path.{_≡_, refl, sym, ap, ap₂, _∙_, subst}
-use mathlib.Core.Bool.{Bool, true, _&&_}
+use mathlib.Core.Bool.{Bool, true, not, _&&_}
 use mathlib.Core.List.{List, [], _∷_, _++_, dropLast}
 use Prim.Native.Nat.{ℕ, _+_, _≤_, _<_}
 use native.Mathlib.Decide.{ℕ-discrete}
 use native.Mathlib.Omega.{arith}
 use borrow.Author.Tests.{le-leb, leb-false, ltb-false, not-false}
-use lib.Dec.{T}
+use lib.Dec.{T, ltb}
 use lib.Ieee.Bits.{is-true}
 use lib.ListN.{length, length-append}
 use mir.Facts.{and-yes, yes-and}
-use Rattle.answer.specs.Answer.{accepted, first, outcome}
-use Rattle.answer.proofs.Laws.{none-applies, accepts, refuses, answered}
-use Rattle.bundle.specs.Bundle.{numberAt, whole}
+use Rattle.answer.specs.Answer.{Refusal, accepted, full, badJournal, first, outcome}
+use Rattle.answer.proofs.Laws.{numbered, none-applies, accepts, refuses, answered}
+use Rattle.bundle.specs.Bundle.{whole}
 use Rattle.bundle.proofs.Bytes.{Bytes}
-use Rattle.bundle.proofs.Laws.{number-at-lt}
 use Rattle.bundle.proofs.Lies.{Lies}
 use Rattle.form.specs.declared.Edit.{Edit}
 use Rattle.record.specs.Record.{mayStand}
 use Rattle.record.specs.declared.Record.{Record}
 use Rattle.records.specs.Journal.{Journal, all, standing, journalOf, validOf, viewOf}
-use Rattle.records.specs.declared.View.{View}
 use Rattle.records.proofs.Standing.{journal-valid, all-append, view-shows, view-counts, valid-counts, valid-few, valid-stand}
-use Rattle.journal.specs.Edit.{Outcome, codeRefusals, made, rewritten, recordOf, roomRefusals, editRefusals, editOf, undoRefusals, undoOf}
-use Rattle.demands.specs.Demand3.{Call, edit, undo, step}
-use Rattle.journal.proofs.Laws.{taken-found, taken-changes, parts-accept}
+use Rattle.journal.specs.Edit.{Outcome, codeRefusals, roomRefusals, editRefusals, editOf, undoRefusals, undoOf}
+use Rattle.demands.specs.Demand3.{refusalsOf, changesOf, Call, make, undo, step}
+use Rattle.journal.specs.Change.{Change, madeAll, recordsOf, makeOf}
+use Rattle.journal.proofs.Laws.{parts-accept}
 use Rattle.journal.proofs.Rewritten.{rewritten-bytes}
-use Rattle.demands.proofs.Run.{Fits, low, made-bytes, edits-stand}
+use Rattle.demands.proofs.Changes.{Stand, changes-stand, all-bytes, all-records, records-length, making-stands, making-numbered}
+use Rattle.demands.proofs.Edits.{Fits, making-is}
 
 -- an outcome that is what a call makes of it or, refused, what it was
 module _ (a : ℕ) (done : Outcome) (code : List ℕ) (j : Journal) (is : done .answer ≡ accepted) where
@@ -59,6 +59,25 @@ module _ (party places : ℕ) (code : List ℕ) (j : Journal) where
       let valid = sym (view-shows party places j) ∙ not-false _ (n .0) in
       (p .0, valid, omega (arith, leb-false places (view .count) (n .1 .0), view-counts party places j valid, valid-counts party places j valid))
 
+  -- changes that are refused, or made
+  module _ (refusals : List Refusal) (cs : List Change) where
+    pub make-kept : (makeOf party places code j refusals cs .answer ≡ accepted → ⊥) → (makeOf party places code j refusals cs .journal ≡ j) × (makeOf party places code j refusals cs .code ≡ code)
+    unfolding makeOf
+    make-kept = kept (first (refusals ++ (badJournal, not (viewOf party places j .valid)) ∷ (full, ltb places (viewOf party places j .count + length cs)) ∷ [])) _ code j refl
+
+    pub make-taken : T (numbered refusals) → makeOf party places code j refusals cs .answer ≡ accepted
+        → (first refusals ≡ accepted) × (validOf party places j ≡ true) × (length (standing j) + length cs ≤ places)
+        × (makeOf party places code j refusals cs ≡ record { answer = accepted; journal = journalOf places (standing j ++ recordsOf party code cs); code = madeAll code cs })
+    unfolding makeOf
+    make-taken h q =
+        let view = viewOf party places j in
+        let room : List Refusal = (badJournal, not (view .valid)) ∷ (full, ltb places (view .count + length cs)) ∷ [] in
+        let a = sym (answer-is (first (refusals ++ room)) _ code j refl) ∙ q in
+        let p = parts-accept refusals room h a in
+        let n = none-applies room tt (p .1) in
+        let valid = sym (view-shows party places j) ∙ not-false _ (n .0) in
+        (p .0, valid, omega (arith, ltb-false places (view .count + length cs) (n .1 .0), view-counts party places j valid, valid-counts party places j valid), accepts _ _ _ a)
+
   pub undo-kept : (undoOf party places code j .answer ≡ accepted → ⊥) → (undoOf party places code j .journal ≡ j) × (undoOf party places code j .code ≡ code)
   unfolding undoOf
   undo-kept = kept (first (undoRefusals code (viewOf party places j))) _ code j refl
@@ -88,25 +107,22 @@ module _ (party places : ℕ) (o : Outcome) (g : Good party places o) where
   abbrev j : Journal
   j = o .journal
 
-  edit-good : (e : Edit) → Good party places (editOf party places (o .code) j e)
-  unfolding editOf
-  edit-good e = go (ℕ-discrete (editOf party places (o .code) j e .answer) accepted)
+  make-good : (refusals : List Refusal) (cs : List Change) → T (numbered refusals) → (first refusals ≡ accepted → Stand (o .code) cs) → Good party places (makeOf party places (o .code) j refusals cs)
+  make-good refusals cs h f = go (ℕ-discrete (makeOf party places (o .code) j refusals cs .answer) accepted)
     where
-      go : Dec (editOf party places (o .code) j e .answer ≡ accepted) → Good party places (editOf party places (o .code) j e)
+      go : Dec (makeOf party places (o .code) j refusals cs .answer ≡ accepted) → Good party places (makeOf party places (o .code) j refusals cs)
       go (yes q) =
-          let k = edit-taken party places (o .code) j e q in
-          let fits = k .0 in
-          let r = recordOf party (o .code) e in
-          let one = edits-stand party (numberAt (o .code) (e .bundle)) e (number-at-lt (o .code) (e .bundle) (taken-found (o .code) e fits) (g .bytes)) (low (o .code) e fits) (taken-changes (o .code) e fits) in
-          let few : length (standing j ++ (r ∷ [])) ≤ places = omega (arith, length-append (standing j) (r ∷ []), k .2) in
-          let stand = all-append (mayStand party) (standing j) (r ∷ []) ∙ ap₂ (λ (t u : Bool). t && (u && true)) (is-true (all (mayStand party) (standing j)) (valid-stand party places j (g .valid))) one in
-          subst (Good party places) (sym (accepts _ _ _ (sym (answer-is (first (editRefusals places (o .code) (viewOf party places j) e)) _ (o .code) j refl) ∙ q)))
+          let k = make-taken party places (o .code) j refusals cs h q in
+          let rs = recordsOf party (o .code) cs in
+          let few : length (standing j ++ rs) ≤ places = omega (arith, length-append (standing j) rs, records-length (o .code) party cs, k .2) in
+          let stand = all-append (mayStand party) (standing j) rs ∙ ap₂ (λ (t u : Bool). t && u) (is-true (all (mayStand party) (standing j)) (valid-stand party places j (g .valid))) (all-records (o .code) party (mayStand party) (changes-stand party) (g .bytes) cs (f (k .0))) in
+          subst (Good party places) (sym (k .3))
           (record {
-            valid = journal-valid party places (standing j ++ (r ∷ [])) ∙ ap₂ (λ (t u : Bool). t && u) (le-leb _ places few) stand;
-            bytes = made-bytes (o .code) e fits (g .bytes);
+            valid = journal-valid party places (standing j ++ rs) ∙ ap₂ (λ (t u : Bool). t && u) (le-leb _ places few) stand;
+            bytes = all-bytes (o .code) (g .bytes) cs (f (k .0));
           })
       go (no d) =
-          let k = edit-kept party places (o .code) j e d in
+          let k = make-kept party places (o .code) j refusals cs d in
           record { valid = ap (validOf party places) (k .0) ∙ g .valid; bytes = subst Bytes (sym (k .1)) (g .bytes) }
 
   undo-good : Good party places (undoOf party places (o .code) j)
@@ -132,5 +148,16 @@ module _ (party places : ℕ) (o : Outcome) (g : Good party places o) where
           record { valid = ap (validOf party places) (k .0) ∙ g .valid; bytes = subst Bytes (sym (k .1)) (g .bytes) }
 
   pub step-good : (c : Call) → Good party places (step party places o c)
-  step-good (edit e) = edit-good e
+  step-good (make m) = subst (Good party places) (sym (making-is party places (o .code) j m)) (make-good (refusalsOf (o .code) m) (changesOf m) (making-numbered (o .code) m) (making-stands (o .code) m))
   step-good undo = undo-good
+
+-- any call: a refused one keeps the code and the journal, and one that is taken goes by a valid journal
+module _ (party places : ℕ) (o : Outcome) where
+  pub step-kept : (c : Call) → (step party places o c .answer ≡ accepted → ⊥) → (step party places o c .journal ≡ o .journal) × (step party places o c .code ≡ o .code)
+  step-kept (make m) = subst (λ (p : Outcome). (p .answer ≡ accepted → ⊥) → (p .journal ≡ o .journal) × (p .code ≡ o .code)) (sym (making-is party places (o .code) (o .journal) m)) (make-kept party places (o .code) (o .journal) (refusalsOf (o .code) m) (changesOf m))
+  step-kept undo = undo-kept party places (o .code) (o .journal)
+
+  pub step-valid : (c : Call) → step party places o c .answer ≡ accepted → validOf party places (o .journal) ≡ true
+  step-valid (make m) a =
+      make-taken party places (o .code) (o .journal) (refusalsOf (o .code) m) (changesOf m) (making-numbered (o .code) m) (ap (λ (p : Outcome). p .answer) (sym (making-is party places (o .code) (o .journal) m)) ∙ a) .1
+  step-valid undo a = undo-taken party places (o .code) (o .journal) a .0

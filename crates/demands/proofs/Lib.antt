@@ -1,4 +1,6 @@
 pub mod Across
+pub mod Changes
+pub mod Edits
 pub mod Kept
 pub mod Old
 pub mod Order

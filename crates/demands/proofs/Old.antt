@@ -15,7 +15,7 @@ use Rattle.bundle.specs.Bundle.{longestCode, numberAt, halvesOf, whole}
 use Rattle.bundle.proofs.Lies.{Lies}
 use Rattle.journal.specs.Edit.{Outcome, rewritten, undoOf}
 use Rattle.journal.proofs.Rewritten.{rewritten-length}
-use Rattle.demands.proofs.Run.{undo-of}
+use Rattle.demands.proofs.Edits.{undo-of}
 use Rattle.records.proofs.Standing.{all-append, journal-stands, journal-valid, last-snoc, drop-last-snoc}
 use Rattle.record.specs.Record.{highest, wholeRecord, sameHalves, passes, mayStand, isHeld}
 use Rattle.record.specs.declared.Record.{Record}

@@ -23,12 +23,12 @@ use Rattle.record.specs.declared.Record.{Record}
 use Rattle.records.specs.Journal.{Journal, standing, journalOf, validOf}
 use Rattle.records.proofs.Standing.{journal-stands, valid-is-journal}
 use Rattle.journal.specs.Edit.{Outcome, codeRefusals, rewritten, made, recordOf, editOf}
-use Rattle.demands.specs.Demand3.{edit, step}
+use Rattle.demands.specs.Demand3.{edit, make, step}
 use Rattle.demands.specs.Order.{codeAfter, AllAccepted, Each, Acceptable, Apart, ApartCommute, SameField, LaterDecides, LastCounts, Mix, done, one, other, TwoFiles}
 use Rattle.demands.proofs.Kept.{edit-kept, edit-taken, Good, step-good}
 use Rattle.journal.proofs.Laws.{taken-changes}
 use Rattle.journal.proofs.Rewritten.{rewritten-twice}
-use Rattle.demands.proofs.Run.{Fits, newNumber, in-code, made-length, made-bytes, made-number, edit-of}
+use Rattle.demands.proofs.Edits.{Fits, newNumber, in-code, made-length, made-bytes, made-number, edit-of}
 use Rattle.demands.proofs.Two.{rewritten-other, rewritten-comm}
 
 -- an edit d that the code takes
@@ -159,13 +159,13 @@ module _ (party places : ℕ) where
     abbrev rs : List Record
     rs = standing (o .journal)
 
-    takes-one : step party places o (edit e) ≡ record { answer = accepted; journal = journalOf places (rs ++ (recordOf party (o .code) e ∷ [])); code = made (o .code) e }
+    takes-one : step party places o (make (edit e)) ≡ record { answer = accepted; journal = journalOf places (rs ++ (recordOf party (o .code) e ∷ [])); code = made (o .code) e }
     takes-one =
         let own = valid-is-journal party places (o .journal) (g .valid) in
         ap (λ (j : Journal). editOf party places (o .code) j e) (sym own)
         ∙ edit-of party places (o .code) rs (ap (validOf party places) own ∙ g .valid) e accepted (first-on (codeRefusals (o .code) e) ((full, leb places (length rs)) ∷ []) tt fits ∙ rw (lt-leb places (length rs) room))
 
-    one-more : length (standing (step party places o (edit e) .journal)) ≡ length rs + 1
+    one-more : length (standing (step party places o (make (edit e)) .journal)) ≡ length rs + 1
     one-more = ap (λ (o : Outcome). length (standing (o .journal))) takes-one ∙ ap length (journal-stands places _) ∙ length-append rs _
 
   -- all are accepted, and the code is the one that the table makes
@@ -179,7 +179,7 @@ module _ (party places : ℕ) where
       let is = takes-one o g e (fits .0) here in
       let more = one-more o g e (fits .0) here in
       let others = subst (λ (o : Outcome). Each (Fits (o .code)) es) (sym is) (all-still (o .code) (g .bytes) e (fits .0) es (fits .1)) in
-      let rest = turns (step party places o (edit e)) (step-good party places o g (edit e)) es others (omega arith) in
+      let rest = turns (step party places o (make (edit e))) (step-good party places o g (make (edit e))) es others (omega arith) in
       ((ap (λ (o : Outcome). o .answer) is, rest .0), rest .1 ∙ ap (λ (o : Outcome). madeInTurn (o .code) es) is)
 
   -- from any journal in which there is room, where each edit is acceptable

@@ -5,29 +5,29 @@ use mathlib.Core.Path.{_≡_, refl, sym, ap, ap₂, _∙_, subst}
 use mathlib.Core.Bool.{Bool, true, false, cond}
 use mathlib.Core.List.{List, [], _∷_, map}
 use mathlib.Core.Option.{Option, none, some}
-use Prim.Native.Nat.{ℕ, zero, suc, _≤_, _<_}
+use Prim.Native.Nat.{ℕ, _<_}
 use native.Mathlib.Decide.{ℕ-discrete, decLt}
 use native.Mathlib.Omega.{arith}
-use borrow.Author.Tests.{eq-eqb, ne-eqb, lt-leb, le-leb}
-use lib.Dec.{T, eqb}
+use borrow.Author.Tests.{eq-eqb, ne-eqb}
+use lib.Dec.{eqb}
 use lib.ListN.{length}
-use Rattle.answer.specs.Answer.{accepted, first}
+use Rattle.answer.specs.Answer.{accepted}
 use Rattle.answer.proofs.Laws.{accepts, refuses}
 use Rattle.bundle.proofs.Bytes.{Bytes}
-use Rattle.form.specs.declared.Edit.{Edit}
-use Rattle.journal.specs.Edit.{Outcome, editOf, undoOf, undoRefusals}
-use Rattle.demands.specs.Demand3.{Call, edit, undo, step, run}
-use Rattle.demands.proofs.Kept.{Good, step-good, edit-kept, edit-taken, undo-kept, undo-taken}
+use Rattle.journal.specs.Edit.{Outcome}
+use Rattle.demands.specs.Demand3.{Call, step}
+use Rattle.demands.proofs.Kept.{Good, step-good, step-kept, step-valid}
+use Rattle.demands.proofs.Run.{same-step}
 use Rattle.record.specs.declared.Record.{Record}
-use Rattle.records.specs.Journal.{Journal, limit, lent, journalOf, validOf, viewOf}
+use Rattle.records.specs.Journal.{Journal, limit, journalOf, validOf}
 use Rattle.records.specs.Shared.{Shared, ownOf, withOwn, placesOf, isOpened, fresh, serves, servedOf, afterBy}
 use Rattle.records.proofs.Sharing.{Serving, serving, serves-when, by-party, served-own, still-serves, fresh-serves, places-within, shown-serves}
 use Rattle.records.proofs.Standing.{view-shows}
 use Rattle.text.specs.Whole.{wroteOf}
 use Rattle.sheet.specs.Sheet.{sheetOf, writeRefusals, writeBy}
 use Rattle.sheet.specs.Load.{Loaded, answerOf, recordsIn, loadOf}
-use Rattle.demands.specs.Across.{SheetCall, call, write, load, loadText, State, sheetIn, loaded, next, runAcross, ownSheets}
-use Rattle.demands.specs.Parties.{Mixed, but, left, loadedBy, calledBy, mixed, seenBy, callsOf, aloneOf, AreCodes, Independent, HoldsFor, Demand3Parties}
+use Rattle.demands.specs.Across.{SheetCall, call, write, load, loadText, State, sheetIn, loaded, next, runAcross}
+use Rattle.demands.specs.Parties.{Mixed, but, left, loadedBy, ByContract, calledBy, mixed, seenBy, callsOf, aloneOf, AreCodes, Independent, Demand3Parties}
 use Rattle.demands.proofs.Across.{demand-3-across}
 use Rattle.sheet.proofs.Inverse.{load-only-written, loads-valid, refuses-invalid, answer-few, answer-many}
 
@@ -119,6 +119,9 @@ leaves-other : (s t : Shared) (party q : ℕ) → Leaves s party t → Serving s
 leaves-other s t party q (same e) w d = ap (λ (r : Shared). ownOf r q) e
 leaves-other s t party q (own j v valid e) w d = ap (λ (r : Shared). ownOf r q) e ∙ other-with s party q j (serving s party v) w d
 
+pub by-contract : (code : List ℕ) (s : Shared) (party : ℕ) → ByContract code s party
+by-contract code s party = record { edits = λ e. refl; undoes = refl }
+
 -- one call of a party
 module _ (m : Mixed) (party : ℕ) (bytes : Bytes (m .code party)) where
   abbrev s : Shared
@@ -150,15 +153,10 @@ module _ (m : Mixed) (party : ℕ) (bytes : Bytes (m .code party)) where
   before = record { answer = accepted; journal = held; code = m .code party }
 
   call-comes : (c : Call) → Comes (step party places before c)
-  call-comes (edit e) =
+  call-comes c =
       record {
-        keeps = edit-kept party places (m .code party) held e;
-        taken = λ a. let v = edit-taken party places (m .code party) held e a .1 in (v, step-good party places before (record { valid = v; bytes = bytes }) (edit e));
-      }
-  call-comes undo =
-      record {
-        keeps = undo-kept party places (m .code party) held;
-        taken = λ a. let v = undo-taken party places (m .code party) held a .0 in (v, step-good party places before (record { valid = v; bytes = bytes }) undo);
+        keeps = step-kept party places before c;
+        taken = λ a. let v = step-valid party places before c a in (v, step-good party places before (record { valid = v; bytes = bytes }) c);
       }
 
   load-comes : (text : List ℕ) → Comes (loaded party places before (some text))
@@ -183,8 +181,7 @@ module _ (m : Mixed) (party : ℕ) (bytes : Bytes (m .code party)) where
   loaded-left (some text) = left-so (loaded party places before (some text)) none (load-comes text)
 
   called-left : (c : SheetCall) → Left (calledBy m party c)
-  called-left (call (edit e)) = left-so (step party places before (edit e)) none (call-comes (edit e))
-  called-left (call undo) = left-so (step party places before undo) none (call-comes undo)
+  called-left (call c) = left-so (step party places before c) none (call-comes c)
   called-left (write out) = let w = writeBy s party out in left-same (w .0 .answer) (sheetIn w)
   called-left load = loaded-left (m .sheet party)
   called-left (loadText text) = loaded-left (some text)
@@ -220,8 +217,7 @@ module _ (m : Mixed) (party : ℕ) (bytes : Bytes (m .code party)) where
     seen-call c = let o = step party places before c in seen-left (afterBy s party (o .answer) (o .journal)) o none (own-after o (call-comes c))
 
     sees-next : (c : SheetCall) → seenBy (calledBy m party c) party ≡ next party places (seenBy m party) c
-    sees-next (call (edit e)) = seen-call (edit e) ∙ ap (λ (j : Journal). record { after = editOf party places (m .code party) j e; sheet = none }) is-own
-    sees-next (call undo) = seen-call undo ∙ ap (λ (j : Journal). record { after = undoOf party places (m .code party) j; sheet = none }) is-own
+    sees-next (call c) = seen-call c ∙ ap (λ (o : Outcome). record { after = o; sheet = none }) (same-step party places before (seenBy m party .after) refl is-own c)
     sees-next (write out) =
         let w = writeBy s party out in
         seen-left s (record { answer = w .0 .answer; journal = ownOf s party; code = m .code party }) (sheetIn w) refl
@@ -250,8 +246,7 @@ module _ (m : Mixed) (party : ℕ) (bytes : Bytes (m .code party)) where
       by-load (some text) = by (loaded party places before (some text)) none (load-comes text)
 
       go : (c : SheetCall) → seenBy (calledBy m party c) q ≡ seenBy m q
-      go (call (edit e)) = by (step party places before (edit e)) none (call-comes (edit e))
-      go (call undo) = by (step party places before undo) none (call-comes undo)
+      go (call c) = by (step party places before c) none (call-comes c)
       go (write out) = let x = writeBy s party out in kept s (x .0 .answer) (m .code party) (sheetIn x) refl
       go load = by-load (m .sheet party)
       go (loadText text) = by-load (some text)
@@ -265,8 +260,7 @@ module _ (m : Mixed) (party : ℕ) (bytes : Bytes (m .code party)) where
       by-load (some text) = but-other (m .code) party (m .code party) q d
 
       go : (c : SheetCall) → calledBy m party c .code q ≡ m .code q
-      go (call (edit e)) = but-other (m .code) party (step party places before (edit e) .code) q d
-      go (call undo) = but-other (m .code) party (step party places before undo .code) q d
+      go (call c) = but-other (m .code) party (step party places before c .code) q d
       go (write out) = but-other (m .code) party (m .code party) q d
       go load = by-load (m .sheet party)
       go (loadText text) = by-load (some text)

@@ -1,6 +1,6 @@
 -- Demand 3 across sheets: a party's run may write sheets, and load the one that its call straight before wrote from the same journal. Code,
--- journal and the answers of edits and undos are then those of the run's edits and undos alone. (A run may load any other text too; it is then
--- no run of demand 3.) Proved in `proofs/Across.antt`. Assumes nothing.
+-- journal and the answers of all other calls are then those of a run of these alone. (A run may load any other text too; it is then no run of
+-- demand 3.) Proved in `proofs/Across.antt`. Assumes nothing.
 use Prim.Native.Nat.{ℕ, _≤_, _<_, _^_}
 use mathlib.Core.Path.{_≡_}
 use mathlib.Core.Bool.{Bool, true, false}
@@ -18,7 +18,7 @@ use Rattle.text.specs.declared.whole.Written.{Written}
 use Rattle.sheet.specs.Sheet.{sheetOf, writeRefusals}
 use Rattle.sheet.specs.Load.{loadOf}
 
--- an edit or undo; a sheet written to an output; the sheet loaded that the call straight before wrote; any text loaded
+-- a call of demand 3; a sheet written to an output; the sheet loaded that the call straight before wrote; any text loaded
 pub data SheetCall : Type 0 where
   call : Call → SheetCall
   write : List ℕ → SheetCall
@@ -53,7 +53,7 @@ abbrev pub runAcross : ℕ → ℕ → List ℕ → List SheetCall → State
 runAcross party places code [] = record { after = run party places code []; sheet = none }
 runAcross party places code (c ∷ cs) = next party places (runAcross party places code cs) c
 
--- its edits and undos
+-- its calls of demand 3
 abbrev pub plain : List SheetCall → List Call
 plain [] = []
 plain (call c ∷ cs) = c ∷ plain cs

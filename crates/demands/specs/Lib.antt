@@ -3,3 +3,4 @@ pub mod Demand3
 pub mod Old
 pub mod Order
 pub mod Parties
+pub mod Sets

@@ -1,5 +1,5 @@
 -- Parties that share a journal: each has what it would have had alone, and demand 3 holds for each. A run is one list of calls, each with its
--- party; it is about `editBy`, `undoBy`, `writeBy` and `loadBy`, with which the contracts of the calls equate all that they do, and each
+-- party; it is about what the contracts of the calls equate all with that they do (`editBy`, `undoBy`, `writeBy`, `loadBy`, and so on), and each
 -- party's code is written by that party alone. Proved in `proofs/Parties.antt`. Assumes nothing.
 use Prim.Native.Nat.{ℕ, _<_, _^_, _≤_}
 use mathlib.Core.Path.{_≡_}
@@ -10,9 +10,10 @@ use lib.Dec.{T, eqb}
 use lib.ListN.{length, getD}
 use Rattle.answer.specs.Answer.{accepted}
 use Rattle.bundle.specs.Bundle.{longestCode}
-use Rattle.journal.specs.Edit.{editBy, undoBy}
-use Rattle.demands.specs.Demand3.{edit, undo}
-use Rattle.records.specs.Shared.{Shared, ownOf, placesOf, isOpened, fresh}
+use Rattle.form.specs.declared.Edit.{Edit}
+use Rattle.journal.specs.Edit.{SharedOutcome, byParty, editBy, undoBy}
+use Rattle.demands.specs.Demand3.{Call, edit, make, undo, step}
+use Rattle.records.specs.Shared.{Shared, ownOf, placesOf, servedOf, isOpened, fresh}
 use Rattle.sheet.specs.Sheet.{writeBy}
 use Rattle.sheet.specs.Load.{loadBy}
 use Rattle.demands.specs.Across.{SheetCall, call, write, load, loadText, State, sheetIn, runAcross, ownSheets, HoldsAcross}
@@ -38,10 +39,18 @@ abbrev pub loadedBy : Mixed → ℕ → Option (List ℕ) → Mixed
 loadedBy m party none = left m party (m .journal) (m .answer party) (m .code party) none
 loadedBy m party (some text) = let l = loadBy (m .journal) party text in left m party (l .journal) (l .answer) (m .code party) none
 
+-- what a party's call of demand 3 comes to with the shared journal, by what it comes to with the party's own
+abbrev pub callBy : List ℕ → Shared → ℕ → Call → SharedOutcome
+callBy code s party c = byParty s party (step party (placesOf (s .parties) party) (record { answer = accepted; journal = servedOf s party; code = code }) c)
+
+-- which is what the contracts say
+pub record ByContract (code : List ℕ) (s : Shared) (party : ℕ) : Type 0 where
+  pub edits : (e : Edit) → callBy code s party (make (edit e)) ≡ editBy code s party e
+  pub undoes : callBy code s party undo ≡ undoBy code s party
+
 -- one call of a party
 abbrev pub calledBy : Mixed → ℕ → SheetCall → Mixed
-calledBy m party (call (edit e)) = let o = editBy (m .code party) (m .journal) party e in left m party (o .journal) (o .answer) (o .code) none
-calledBy m party (call undo) = let o = undoBy (m .code party) (m .journal) party in left m party (o .journal) (o .answer) (o .code) none
+calledBy m party (call c) = let o = callBy (m .code party) (m .journal) party c in left m party (o .journal) (o .answer) (o .code) none
 calledBy m party (write out) = let w = writeBy (m .journal) party out in left m party (m .journal) (w .0 .answer) (m .code party) (sheetIn w)
 calledBy m party load = loadedBy m party (m .sheet party)
 calledBy m party (loadText text) = loadedBy m party (some text)

@@ -1,2 +1,3 @@
+pub mod Change
 pub mod Edit
 pub mod Plan
