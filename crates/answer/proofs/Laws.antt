@@ -45,6 +45,15 @@ pub first-stop : (rs qs : List Refusal) → (first rs ≡ accepted → ⊥) → 
 first-stop [] qs d = absurd (d refl)
 first-stop (r ∷ rs) qs d = stopped (r .1) (r .0) (first rs) (first (rs ++ qs)) (first-stop rs qs) d
 
+goes-on : (b : Bool) (n m k : ℕ) → (m ≡ accepted → k ≡ accepted) → cond b n m ≡ accepted → cond b n k ≡ accepted
+goes-on true n m k f e = e
+goes-on false n m k f e = f e
+
+-- a list with one more refusal inside accepts only where the list does
+pub first-without : (rs : List Refusal) (r : Refusal) (qs : List Refusal) → T (not (eqb (r .0) accepted)) → first (rs ++ (r ∷ qs)) ≡ accepted → first (rs ++ qs) ≡ accepted
+first-without [] r qs n e = passed (r .1) (r .0) (first qs) n e .1
+first-without (s ∷ rs) r qs n e = goes-on (s .1) (s .0) (first (rs ++ (r ∷ qs))) (first (rs ++ qs)) (first-without rs r qs n) e
+
 pub accepts {ℓ} : {A : Type ℓ} (a : ℕ) (done refused : A) → a ≡ accepted → outcome a done refused ≡ done
 accepts a done refused e = ap (λ (b : Bool). cond b done refused) (eq-eqb a accepted e)
 

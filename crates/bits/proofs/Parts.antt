@@ -10,7 +10,7 @@ use lib.Dec.{T, leb, leb→le, le→leb, lit<}
 use lib.Pow.{mod-pow-add}
 use mir.Facts.{and-yes, or-yes}
 use Rattle.bits.specs.Part.{part, above, put, bit}
-use Rattle.bits.specs.Parts.{Parts, widths, gather, scatter, apart, apartFrom, meetNot, separate, within}
+use Rattle.bits.specs.Parts.{Parts, widths, gather, scatter, apart, apartFrom, meetNot, separate, allBelow}
 use Rattle.bits.proofs.Laws.{part-lt, above-mod, above-div, above-lt, get-put, put-get, put-put, put-comm, put-lt, put-below, put-above, put-low-bits}
 
 pub gather-lt : (n : ℕ) (ps : Parts) → gather n ps < 2 ^ widths ps
@@ -29,11 +29,11 @@ scatter-none n p ps v =
     let same = put-low-bits n p 0 v ∙ ap (put n p 0) (mod-one v ∙ sym (mod-one (n / 2 ^ p))) ∙ put-get n p 0 in
     ap₂ (λ (m u : ℕ). scatter m ps u) same (div-one v)
 
-pub scatter-lt : (m n : ℕ) (ps : Parts) (v : ℕ) → T (within m ps) → n < 2 ^ m → scatter n ps v < 2 ^ m
+pub scatter-lt : (m n : ℕ) (ps : Parts) (v : ℕ) → T (allBelow m ps) → n < 2 ^ m → scatter n ps v < 2 ^ m
 unfolding scatter
 scatter-lt m n [] v t h = h
 scatter-lt m n (p ∷ ps) v t h =
-    let s = and-yes (leb (p .0 + p .1) m) (within m ps) t in
+    let s = and-yes (leb (p .0 + p .1) m) (allBelow m ps) t in
     scatter-lt m _ ps _ (s .1) (put-lt n (p .0) (p .1) v m (leb→le _ _ (s .0)) h)
 
 -- parts apart: one ends where the other begins or before, and so do those that lie within them

@@ -44,6 +44,6 @@ separate [] = true
 separate (p ∷ ps) = apartFrom p ps && separate ps
 
 -- each lies within the lowest m bits
-abbrev pub within : ℕ → Parts → Bool
-within m [] = true
-within m (p ∷ ps) = leb (p .0 + p .1) m && within m ps
+abbrev pub allBelow : ℕ → Parts → Bool
+allBelow m [] = true
+allBelow m (p ∷ ps) = leb (p .0 + p .1) m && allBelow m ps

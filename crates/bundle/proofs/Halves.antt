@@ -75,10 +75,7 @@ tag-of-whole n = ap tagOf (part-join n 0 64 64) ∙ part-part n 0 128 0 5 (lit�
 
 pub slots-of-whole : (n : ℕ) → slotsOf (whole (halvesOf n)) ≡ slotsOf n
 slots-of-whole n =
-    let s₀ = part-part n 0 128 5 41 (lit≤ tt) in
-    let s₁ = part-part n 0 128 46 41 (lit≤ tt) in
-    let s₂ = part-part n 0 128 87 41 (lit≤ tt) in
-    ap slotsOf (part-join n 0 64 64) ∙ (λ i. s₀ i ∷ s₁ i ∷ s₂ i ∷ [])
+    rw (part-join n 0 64 64, part-part n 0 128 5 41 (lit≤ tt), part-part n 0 128 46 41 (lit≤ tt), part-part n 0 128 87 41 (lit≤ tt))
 
 pub whole-halves : (n : ℕ) → n < 2 ^ 128 → whole (halvesOf n) ≡ n
 whole-halves n h = part-join n 0 64 64 ∙ part-whole n 128 h

@@ -2,7 +2,7 @@
 -- Assumes nothing.
 use mathlib.Core.Path.{_≡_, refl, ap, subst}
 use mathlib.Core.Bool.{Bool, true, false, cond, _||_}
-use mathlib.Core.List.{List, [], _++_}
+use mathlib.Core.List.{List, _++_}
 use Prim.Native.Nat.{ℕ, _*_, _≤_, _<_, _^_, suc-le-suc}
 use native.Mathlib.Omega.{arith}
 use borrow.Author.Tests.{ltb-false, leb-false}
@@ -10,10 +10,10 @@ use lib.Dec.{T, eqb, ltb, leb}
 use lib.ListN.{length, getD, drop, length-drop}
 use lib.Seq.{length-take-le}
 use Rattle.answer.specs.Answer.{accepted, badBundle, first}
-use Rattle.answer.proofs.Laws.{none-applies, accepts, refuses}
+use Rattle.answer.proofs.Laws.{none-applies, refuses}
 use Rattle.bundle.specs.Bytes.{bytes}
 use Rattle.bundle.specs.Template.{reserved, templateOf}
-use Rattle.bundle.specs.Bundle.{bundleAt, numberAt, findAnswer, findOf, tagOf, slotsOf, halvesOf, whole, joined, loadedOf, bundleRefusals, cutNumber, uncut, cutOf, joinRefusals, joinOf}
+use Rattle.bundle.specs.Bundle.{bundleAt, numberAt, findAnswer, tagOf, slotsOf, halvesOf, whole, joined, loadedOf, bundleRefusals, cutNumber, uncut, cutOf, joinRefusals, joinOf}
 use Rattle.bundle.proofs.Bytes.{Bytes, number-lt, bytes-take, bytes-drop}
 use Rattle.bundle.proofs.Halves.{Fitting, tag-of-whole, slots-of-whole}
 use Rattle.bundle.proofs.Lies.{lies}
@@ -31,11 +31,10 @@ module _ (n : ℕ) where
   -- its tag and slots lie in its halves
   cut-whole : cutNumber (whole (halvesOf n)) ≡ cutNumber n
   unfolding cutNumber
-  cut-whole = rw (tag-of-whole n) (λ i. record { answer = first (bundleRefusals n); template = templateOf (tagOf n); slots = by-answer (eqb (first (bundleRefusals n)) accepted) i })
-    where
-      by-answer : (b : Bool) → slotsOf (cond b (whole (halvesOf n)) 0) ≡ slotsOf (cond b n 0)
-      by-answer true = slots-of-whole n
-      by-answer false = refl
+  cut-whole =
+      let answer = first (bundleRefusals n) in
+      let slots = elim (eqb answer accepted) as (λ b. slotsOf (cond b (whole (halvesOf n)) 0) ≡ slotsOf (cond b n 0)) [ true ↦ slots-of-whole n | false ↦ refl ] in
+      rw (tag-of-whole n) (λ i. record { answer = answer; template = templateOf (tagOf n); slots = slots i })
 
 module _ (code : List ℕ) (k : ℕ) where
   module _ (refused : findAnswer code k ≡ accepted → ⊥) where

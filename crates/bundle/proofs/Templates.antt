@@ -8,7 +8,7 @@ use lib.ListN.{length}
 use Rattle.table.specs.Table.{select}
 use Rattle.table.proofs.Check.{below, checked, same, same→eq}
 use Rattle.table.proofs.Held.{held}
-use Rattle.bundle.specs.Template.{noUnits, noStops, unitless, templates, unitsIn, stopsIn, unitsOf, stopsOf, reserved, templateOf, markedUnits}
+use Rattle.bundle.specs.Template.{noUnits, noStops, unitless, templates, unitsInLine, stopsInLine, unitsOf, stopsOf, reserved, templateOf, markedUnits}
 
 beq→eq : (a b : Bool) → T (Bool·beq a b) → a ≡ b
 beq→eq true true t = refl
@@ -22,14 +22,14 @@ unfolding unitsOf stopsOf
 reserved-stopless tag r =
     same→eq Bool·beq beq→eq (stopsOf tag) noStops
     (subst (λ (b : Bool). T (cond b (same Bool·beq (stopsOf tag) noStops) true)) r
-    (held (λ _ line. cond (unitless (unitsIn line)) (same Bool·beq (stopsIn line) noStops) true) tag templates noUnits tt tt))
+    (held (λ _ line. cond (unitless (unitsInLine line)) (same Bool·beq (stopsInLine line) noStops) true) tag templates noUnits tt tt))
 
 -- a tag's units with their stops are its line, which has at most five characters
 pub marked-line : (tag : ℕ) → markedUnits (templateOf tag) ≡ select tag templates noUnits
 unfolding unitsOf stopsOf markedUnits
 marked-line tag =
     same→eq eqb eqb→eq _ _
-    (held (λ _ line. same eqb (markedUnits (record { tag = 0; units = unitsIn line; stops = stopsIn line })) line) tag templates noUnits tt tt)
+    (held (λ _ line. same eqb (markedUnits (record { tag = 0; units = unitsInLine line; stops = stopsInLine line })) line) tag templates noUnits tt tt)
 
 pub marked-most : (tag : ℕ) → length (markedUnits (templateOf tag)) ≤ 5
 marked-most tag = rw (marked-line tag) (leb→le _ 5 (held (λ _ line. leb (length line) 5) tag templates noUnits tt tt))
@@ -38,7 +38,7 @@ marked-most tag = rw (marked-line tag) (leb→le _ 5 (held (λ _ line. leb (leng
 abbrev halved : List (ℕ × List ℕ) → List (ℕ × List ℕ)
 halved [] = []
 halved (e ∷ []) = []
-halved (e ∷ _ ∷ es) = (e .0 / 2, unitsIn (e .1)) ∷ halved es
+halved (e ∷ _ ∷ es) = (e .0 / 2, unitsInLine (e .1)) ∷ halved es
 
 abbrev pub unitsByHalf : List (ℕ × List ℕ)
 unitsByHalf = halved templates

@@ -8,12 +8,9 @@ use Rattle.table.specs.Ascii.{ascii}
 use Rattle.table.specs.Table.{select}
 use Rattle.bundle.specs.declared.template.Template.{Template}
 
--- the units that are no family's letter; a unit is its letter's byte
-abbrev pub I : ℕ
-I = 73
-
-abbrev pub L : ℕ
-L = 76
+-- a unit is its letter's byte; this one is no form's family
+abbrev pub unitL : ℕ
+unitL = 76
 
 -- no units, no stops
 abbrev pub noUnits : List ℕ
@@ -59,20 +56,20 @@ abbrev pub stop : ℕ
 stop = 59
 
 -- the units of a line, and after which of them a stop stands
-abbrev pub unitsIn : List ℕ → List ℕ
-unitsIn [] = []
-unitsIn (c ∷ cs) = cond (eqb c stop) (unitsIn cs) (c ∷ unitsIn cs)
+abbrev pub unitsInLine : List ℕ → List ℕ
+unitsInLine [] = []
+unitsInLine (c ∷ cs) = cond (eqb c stop) (unitsInLine cs) (c ∷ unitsInLine cs)
 
-abbrev pub stopsIn : List ℕ → List Bool
-stopsIn [] = []
-stopsIn (c ∷ cs) = cond (eqb c stop) (stopsIn cs) (eqb (getD cs 0 0) stop ∷ stopsIn cs)
+abbrev pub stopsInLine : List ℕ → List Bool
+stopsInLine [] = []
+stopsInLine (c ∷ cs) = cond (eqb c stop) (stopsInLine cs) (eqb (getD cs 0 0) stop ∷ stopsInLine cs)
 
 -- the units and the stops of a tag
 unfoldable pub unitsOf : ℕ → List ℕ
-unitsOf tag = unitsIn (select tag templates noUnits)
+unitsOf tag = unitsInLine (select tag templates noUnits)
 
 unfoldable pub stopsOf : ℕ → List Bool
-stopsOf tag = stopsIn (select tag templates noUnits)
+stopsOf tag = stopsInLine (select tag templates noUnits)
 
 -- a tag without units
 abbrev pub reserved : ℕ → Bool

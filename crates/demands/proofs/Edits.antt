@@ -2,7 +2,7 @@
 use mathlib.Core.Path.{_≡_, refl, sym, ap, _∙_}
 use mathlib.Core.Bool.{Bool, true, false, not}
 use mathlib.Core.List.{List, [], _∷_, _++_, dropLast, getLastD}
-use Prim.Native.Nat.{ℕ, _+_, _≤_}
+use Prim.Native.Nat.{ℕ, _+_}
 use native.Mathlib.Omega.{arith}
 use borrow.Author.Tests.{lt-ltb, le-ltb, leb-true, leb-false}
 use lib.Dec.{leb, ltb}
@@ -16,12 +16,12 @@ use Rattle.form.specs.declared.Edit.{Edit}
 use Rattle.row.specs.Row.{rowOf}
 use Rattle.immediate.specs.Immediate.{valueIn, changedNumber}
 use Rattle.immediate.proofs.Laws.{changed-value, changed-bit}
-use Rattle.record.specs.Record.{highest, noRecord}
+use Rattle.record.specs.Record.{noRecord}
 use Rattle.record.specs.declared.Record.{Record}
 use Rattle.records.specs.Journal.{Journal, standing, journalOf, validOf, viewOf}
 use Rattle.journal.specs.Edit.{codeRefusals, rewritten, made, recordOf, roomRefusals, editOf, undoRefusals, undoOf}
 use Rattle.journal.proofs.Laws.{taken-found, taken-changes, taken-lt, first-past}
-use Rattle.journal.proofs.Rewritten.{rewritten-before, rewritten-past, rewritten-number, rewritten-length, rewritten-bytes}
+use Rattle.journal.proofs.Rewritten.{rewritten-before, rewritten-past, rewritten-number}
 use Rattle.records.proofs.Standing.{journal-stands, journal-shows}
 use Rattle.journal.specs.Change.{Change, field, madeAll, recordsOf, makeOf}
 use Rattle.demands.specs.Demand3.{Making, edit, makingOf, refusalsOf, changesOf}
@@ -31,40 +31,21 @@ use Rattle.demands.specs.Sets.{SetsOnlyItsBits}
 abbrev pub Fits : List ℕ → Edit → Type 0
 Fits code e = first (codeRefusals code e) ≡ accepted
 
--- the number that an edit makes of its bundle
-abbrev pub newNumber : List ℕ → Edit → ℕ
-newNumber code e = changedNumber (numberAt code (e .bundle)) e
-
 -- one edit that the code takes
 module _ (code : List ℕ) (e : Edit) (fits : Fits code e) where
   pub in-code : Lies code (e .bundle)
   in-code = lies code (e .bundle) (taken-found code e fits)
 
-  pub low : e .bundle ≤ highest
-  low = omega (arith, in-code .short, in-code .within)
-
-  pub made-length : length (made code e) ≡ length code
-  unfolding made
-  made-length = rewritten-length code (e .bundle) in-code (newNumber code e)
-
-  module _ (b : Bytes code) where
-    pub made-bytes : Bytes (made code e)
-    unfolding made
-    made-bytes = rewritten-bytes code (e .bundle) in-code b (newNumber code e)
-
-    pub made-number : numberAt (made code e) (e .bundle) ≡ newNumber code e
-    unfolding made
-    made-number = rewritten-number code (e .bundle) in-code (newNumber code e) (taken-lt code e fits b)
-
-    pub only-its-bits : SetsOnlyItsBits code e
-    unfolding made
-    only-its-bits =
-        record {
-          value = ap (valueIn (rowOf (e .form)) (e .slot)) made-number ∙ changed-value (numberAt code (e .bundle)) e (taken-changes code e fits);
-          before = rewritten-before code (e .bundle) in-code (newNumber code e);
-          bits = λ i t. ap (λ (n : ℕ). bit n i) made-number ∙ changed-bit (numberAt code (e .bundle)) e i t;
-          past = rewritten-past code (e .bundle) in-code (newNumber code e);
-        }
+  pub only-its-bits : Bytes code → SetsOnlyItsBits code e
+  only-its-bits b =
+      let new = changedNumber (numberAt code (e .bundle)) e in
+      let number = rewritten-number code (e .bundle) in-code new (taken-lt code e fits b) in
+      record {
+        value = ap (valueIn (rowOf (e .form)) (e .slot)) number ∙ changed-value (numberAt code (e .bundle)) e (taken-changes code e fits);
+        before = rewritten-before code (e .bundle) in-code new;
+        bits = λ i t. ap (λ (n : ℕ). bit n i) number ∙ changed-bit (numberAt code (e .bundle)) e i t;
+        past = rewritten-past code (e .bundle) in-code new;
+      }
 
 -- there is no place for one more
 no-place : (places n : ℕ) → leb places n ≡ ltb places (n + 1)
@@ -100,15 +81,6 @@ module _ (party places : ℕ) (code : List ℕ) (rs : List Record) (valid : vali
   unfolding makeOf
   make-of refusals cs a q =
       rw (shown, journal-stands, first-past refusals ((badJournal, not true) ∷ (full, ltb places (length rs + length cs)) ∷ []) ((full, ltb places (length rs + length cs)) ∷ []) refl, q)
-
-  -- an edit
-  pub edit-of : (e : Edit) (a : ℕ) → first (codeRefusals code e ++ (full, leb places (length rs)) ∷ []) ≡ a
-      → editOf party places code (journalOf places rs) e
-      ≡ outcome a
-      (record { answer = accepted; journal = journalOf places (rs ++ (recordOf party code e ∷ [])); code = made code e })
-      (record { answer = a; journal = journalOf places rs; code = code })
-  unfolding editOf made
-  edit-of e a q = rw (shown, journal-stands, first-past (codeRefusals code e) (roomRefusals places (record { valid = true; count = length rs; last = getLastD rs noRecord })) ((full, leb places (length rs)) ∷ []) refl, q)
 
   -- undoing a last record
   pub undo-of : (last : Record) (a : ℕ) → getLastD rs noRecord ≡ last → first (undoRefusals code (record { valid = true; count = length rs; last = last })) ≡ a

@@ -3,10 +3,10 @@
 use mathlib.Core.Path.{_≡_, refl, sym, ap, ap₂, _∙_, subst}
 use mathlib.Core.Bool.{Bool, true, not, _&&_}
 use mathlib.Core.List.{List, [], _∷_, _++_, dropLast}
-use Prim.Native.Nat.{ℕ, _+_, _≤_, _<_}
+use Prim.Native.Nat.{ℕ, _+_, _≤_}
 use native.Mathlib.Decide.{ℕ-discrete}
 use native.Mathlib.Omega.{arith}
-use borrow.Author.Tests.{le-leb, leb-false, ltb-false, not-false}
+use borrow.Author.Tests.{le-leb, ltb-false, not-false}
 use lib.Dec.{T, ltb}
 use lib.Ieee.Bits.{is-true}
 use lib.ListN.{length, length-append}
@@ -16,18 +16,17 @@ use Rattle.answer.proofs.Laws.{numbered, none-applies, accepts, refuses, answer
 use Rattle.bundle.specs.Bundle.{whole}
 use Rattle.bundle.proofs.Bytes.{Bytes}
 use Rattle.bundle.proofs.Lies.{Lies}
-use Rattle.form.specs.declared.Edit.{Edit}
 use Rattle.record.specs.Record.{mayStand}
 use Rattle.record.specs.declared.Record.{Record}
 use Rattle.records.specs.Journal.{Journal, all, standing, journalOf, validOf, viewOf}
 use Rattle.records.proofs.Standing.{journal-valid, all-append, view-shows, view-counts, valid-counts, valid-few, valid-stand}
-use Rattle.journal.specs.Edit.{Outcome, codeRefusals, roomRefusals, editRefusals, editOf, undoRefusals, undoOf}
+use Rattle.journal.specs.Edit.{Outcome, undoRefusals, undoOf}
 use Rattle.demands.specs.Demand3.{refusalsOf, changesOf, Call, make, undo, step}
 use Rattle.journal.specs.Change.{Change, madeAll, recordsOf, makeOf}
 use Rattle.journal.proofs.Laws.{parts-accept}
 use Rattle.journal.proofs.Rewritten.{rewritten-bytes}
-use Rattle.demands.proofs.Changes.{Stand, changes-stand, all-bytes, all-records, records-length, making-stands, making-numbered}
-use Rattle.demands.proofs.Edits.{Fits, making-is}
+use Rattle.demands.proofs.Changes.{OfChanges, Stand, changes-stand, all-bytes, all-records, records-length, making-stands, making-numbered}
+use Rattle.demands.proofs.Edits.{making-is}
 
 -- an outcome that is what a call makes of it or, refused, what it was
 module _ (a : ℕ) (done : Outcome) (code : List ℕ) (j : Journal) (is : done .answer ≡ accepted) where
@@ -43,22 +42,6 @@ module _ (a : ℕ) (done : Outcome) (code : List ℕ) (j : Journal) (is : done .
       (ap (λ (o : Outcome). o .journal) same, ap (λ (o : Outcome). o .code) same)
 
 module _ (party places : ℕ) (code : List ℕ) (j : Journal) where
-  -- an edit that is refused
-  pub edit-kept : (e : Edit) → (editOf party places code j e .answer ≡ accepted → ⊥) → (editOf party places code j e .journal ≡ j) × (editOf party places code j e .code ≡ code)
-  unfolding editOf
-  edit-kept e = kept (first (editRefusals places code (viewOf party places j) e)) _ code j refl
-
-  -- an edit that is accepted: the code takes it, the journal is valid, and there is a place for its record
-  pub edit-taken : (e : Edit) → editOf party places code j e .answer ≡ accepted → Fits code e × (validOf party places j ≡ true) × (length (standing j) < places)
-  unfolding editOf
-  edit-taken e q =
-      let view = viewOf party places j in
-      let a = first (editRefusals places code view e) in
-      let p = parts-accept (codeRefusals code e) (roomRefusals places view) tt (sym (answer-is a _ code j refl) ∙ q) in
-      let n = none-applies (roomRefusals places view) tt (p .1) in
-      let valid = sym (view-shows party places j) ∙ not-false _ (n .0) in
-      (p .0, valid, omega (arith, leb-false places (view .count) (n .1 .0), view-counts party places j valid, valid-counts party places j valid))
-
   -- changes that are refused, or made
   module _ (refusals : List Refusal) (cs : List Change) where
     pub make-kept : (makeOf party places code j refusals cs .answer ≡ accepted → ⊥) → (makeOf party places code j refusals cs .journal ≡ j) × (makeOf party places code j refusals cs .code ≡ code)
@@ -107,6 +90,12 @@ module _ (party places : ℕ) (o : Outcome) (g : Good party places o) where
   abbrev j : Journal
   j = o .journal
 
+  -- what holds of every change's record and of those that stood holds of all after changes that the code takes
+  pub all-more : (test : Record → Bool) → OfChanges party test → T (all test (standing j)) → (cs : List Change) → Stand (o .code) cs → all test (standing j ++ recordsOf party (o .code) cs) ≡ true
+  all-more test of-changes t cs s =
+      all-append test (standing j) (recordsOf party (o .code) cs)
+      ∙ ap₂ (λ (t u : Bool). t && u) (is-true (all test (standing j)) t) (all-records (o .code) party test of-changes (g .bytes) cs s)
+
   make-good : (refusals : List Refusal) (cs : List Change) → T (numbered refusals) → (first refusals ≡ accepted → Stand (o .code) cs) → Good party places (makeOf party places (o .code) j refusals cs)
   make-good refusals cs h f = go (ℕ-discrete (makeOf party places (o .code) j refusals cs .answer) accepted)
     where
@@ -115,7 +104,7 @@ module _ (party places : ℕ) (o : Outcome) (g : Good party places o) where
           let k = make-taken party places (o .code) j refusals cs h q in
           let rs = recordsOf party (o .code) cs in
           let few : length (standing j ++ rs) ≤ places = omega (arith, length-append (standing j) rs, records-length (o .code) party cs, k .2) in
-          let stand = all-append (mayStand party) (standing j) rs ∙ ap₂ (λ (t u : Bool). t && u) (is-true (all (mayStand party) (standing j)) (valid-stand party places j (g .valid))) (all-records (o .code) party (mayStand party) (changes-stand party) (g .bytes) cs (f (k .0))) in
+          let stand = all-more (mayStand party) (changes-stand party) (valid-stand party places j (g .valid)) cs (f (k .0)) in
           subst (Good party places) (sym (k .3))
           (record {
             valid = journal-valid party places (standing j ++ rs) ∙ ap₂ (λ (t u : Bool). t && u) (le-leb _ places few) stand;

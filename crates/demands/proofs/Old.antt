@@ -17,7 +17,7 @@ use Rattle.journal.specs.Edit.{Outcome, rewritten, undoOf}
 use Rattle.journal.proofs.Rewritten.{rewritten-length}
 use Rattle.demands.proofs.Edits.{undo-of}
 use Rattle.records.proofs.Standing.{all-append, journal-stands, journal-valid, last-snoc, drop-last-snoc}
-use Rattle.record.specs.Record.{highest, wholeRecord, sameHalves, passes, mayStand, isHeld}
+use Rattle.record.specs.Record.{highest, wholeRecord, sameHalves, passes, mayStand, fits64}
 use Rattle.record.specs.declared.Record.{Record}
 use Rattle.records.specs.Journal.{Journal, limit, all, journalOf, validOf}
 use Rattle.record.proofs.Laws.{whole-passes}
@@ -44,7 +44,7 @@ wholes-all party test h (r ∷ rs) t =
 
 may : (party : ℕ) (r : OldRecord) → T (couldStand (wholeOf party r)) → T (mayStand party (wholeOf party r))
 may party r t =
-    yes-and (leb (r .bundle) highest) (passes (wholeOf party r) && eqb party party) (and-yes (leb (r .bundle) highest) (isHeld (wholeOf party r)) t .0)
+    yes-and (leb (r .bundle) highest) (passes (wholeOf party r) && eqb party party) (and-yes (leb (r .bundle) highest) (fits64 (wholeOf party r)) t .0)
     (yes-and (passes (wholeOf party r)) (eqb party party) (subst T (sym (whole-passes party (r .bundle) (r .old) (r .new))) tt) (eqb-refl party))
 
 module _ (party places : ℕ) (rs : List OldRecord) (few : length rs ≤ places) (t : T (all couldStand (wholes party rs))) where
@@ -58,7 +58,7 @@ module _ (party places : ℕ) (rs : List OldRecord) (few : length rs ≤ places)
       let stand = sym (journal-stands places (wholes party rs)) in
       record {
         valid = valid;
-        held = subst (λ (qs : List Record). T (all isHeld qs)) stand (wholes-all party isHeld (λ r h. and-yes (leb (r .bundle) highest) (isHeld (wholeOf party r)) h .1) rs t);
+        held = subst (λ (qs : List Record). T (all fits64 qs)) stand (wholes-all party fits64 (λ r h. and-yes (leb (r .bundle) highest) (fits64 (wholeOf party r)) h .1) rs t);
         told = subst (λ (qs : List Record). T (all (tells Old) qs)) stand (wholes-all party (tells Old) (λ r h. tt) rs t);
       }
 

@@ -32,11 +32,12 @@ refusalsOf code (edit e) = codeRefusals code e
 abbrev pub changesOf : Making → List Change
 changesOf (edit e) = field e ∷ []
 
+-- a call of demand 3: one that makes changes, or an undo
 pub data Call : Type 0 where
   make : Making → Call
   undo : Call
 
--- one call with a party's journal of so many places, given the code and the journal that the last handed back
+-- one call with a party's journal of this number of places, given the code and the journal that the last handed back
 abbrev pub step : ℕ → ℕ → Outcome → Call → Outcome
 step party places s (make m) = makingOf party places (s .code) (s .journal) m
 step party places s undo = undoOf party places (s .code) (s .journal)
@@ -74,21 +75,28 @@ expected party places code cs call =
       code = madeAll code (after places code cs call);
     }
 
--- the calls, and then so many undos
+-- the calls, and then n undos
 abbrev pub thenUndo : ℕ → List Call → List Call
 thenUndo n calls = replicate n undo ++ calls
 
 -- what demand 3 says after a run
 pub record Holds (party places : ℕ) (code : List ℕ) (calls : List Call) : Type 0 where
+  -- the code is the first code with the standing changes made in order
   pub code-is : run party places code calls .code ≡ madeAll code (standingChanges places code calls)
+  -- the journal has their records and no other
   pub journal-is : run party places code calls .journal ≡ journalOf places (recordsOf party code (standingChanges places code calls))
+  -- any next call answers and leaves what is expected of it
   pub next-is : (call : Call) → run party places code (call ∷ calls) ≡ expected party places code (standingChanges places code calls) call
+  -- each standing change sets what is its own and nothing else
   pub own-only : EachSetsItsOwn code (standingChanges places code calls)
+  -- a call that is refused leaves code and journal as they were
   pub refused-keeps : (call : Call) → (run party places code (call ∷ calls) .answer ≡ accepted → ⊥)
       → (run party places code (call ∷ calls) .code ≡ run party places code calls .code) × (run party places code (call ∷ calls) .journal ≡ run party places code calls .journal)
+  -- an undo is refused only where no change stands
   pub undo-refused : (run party places code (undo ∷ calls) .answer ≡ accepted → ⊥) → standingChanges places code calls ≡ []
+  -- and as many undos as changes stand give the first code back
   pub undone : run party places code (thenUndo (length (standingChanges places code calls)) calls) .code ≡ code
 
--- of every party, every number of places, every code of at most `longestCode` bytes and every run
+-- demand 3: of every party, every number of places, every code of at most `longestCode` bytes and every run
 abbrev pub Demand3 : Type 0
 Demand3 = (party places : ℕ) (code : List ℕ) → ((i : ℕ) → getD code i 0 < 2 ^ 8) → length code ≤ longestCode → (calls : List Call) → Holds party places code calls

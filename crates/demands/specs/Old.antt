@@ -11,14 +11,14 @@ use Rattle.bundle.specs.Bundle.{longestCode, numberAt, halvesOf, whole}
 use Rattle.bundle.specs.declared.half.Halves.{Halves}
 use Rattle.journal.specs.Edit.{Outcome, rewritten}
 use Rattle.demands.specs.Demand3.{undo, step}
-use Rattle.record.specs.Record.{highest, wholeRecord, sameHalves, isHeld}
+use Rattle.record.specs.Record.{highest, wholeRecord, sameHalves, fits64}
 use Rattle.record.specs.declared.Record.{Record}
 use Rattle.records.specs.Journal.{Journal, limit, all, journalOf, validOf}
 use Rattle.sheet.specs.Load.{loadOf}
 use Rattle.sheet.specs.Sheet.{sheetAs}
 use Rattle.sheet.specs.declared.line.Kind.the-variants.{Old}
 
--- a record of that time
+-- a record of that time: a bundle, what it was and what it is
 pub record OldRecord : Type 0 where
   pub bundle : ℕ
   pub old : Halves
@@ -36,22 +36,24 @@ undone code (r ∷ rs) =
     cond (ltb (length code) (16 * r .bundle + 16)) code
     (cond (sameHalves (halvesOf (numberAt code (r .bundle))) (r .new)) (undone (rewritten code (r .bundle) (whole (r .old))) rs) code)
 
--- so many undos
+-- n undos, one after the other
 abbrev pub undos : ℕ → ℕ → ℕ → Outcome → Outcome
 undos party places zero o = o
 undos party places (suc n) o = undos party places n (step party places o undo)
 
 -- a record that could stand: of a bundle up to the highest, in numbers of 64 bits
 abbrev pub couldStand : Record → Bool
-couldStand r = leb (r .bundle) highest && isHeld r
+couldStand r = leb (r .bundle) highest && fits64 r
 
--- what is so of a journal of that time, loaded by a party with so many places
+-- what is so of a journal of that time that a party with this number of places loads
 pub record LoadsOld (party places : ℕ) (given : Journal) (rs : List OldRecord) : Type 0 where
+  -- its sheet, in old lines, is taken and gives its records
   pub loads : loadOf limit party places given (sheetAs Old (journalOf places (wholes party rs))) ≡ record { answer = accepted; journal = journalOf places (wholes party rs) }
+  -- and as many undos as records give the bytes that the tool of that time gave
   pub undoes : (code : List ℕ) → length code ≤ longestCode
       → undos party places (length rs) (record { answer = accepted; journal = journalOf places (wholes party rs); code = code }) .code ≡ undone code rs
 
--- of every one
+-- of every such journal of records that could stand, at most as many as the party has places, over any valid one
 abbrev pub OldLoads : Type 0
 OldLoads =
     (party places : ℕ) (given : Journal) (rs : List OldRecord) → places ≤ limit → validOf party places given ≡ true → length rs ≤ places → T (all couldStand (wholes party rs))

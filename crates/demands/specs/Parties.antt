@@ -5,7 +5,6 @@ use Prim.Native.Nat.{ℕ, _<_, _^_, _≤_}
 use mathlib.Core.Path.{_≡_}
 use mathlib.Core.Bool.{true, cond}
 use mathlib.Core.List.{List, [], _∷_, map}
-use mathlib.Core.Option.{Option, none, some}
 use lib.Dec.{T, eqb}
 use lib.ListN.{length, getD}
 use Rattle.answer.specs.Answer.{accepted}
@@ -13,31 +12,32 @@ use Rattle.bundle.specs.Bundle.{longestCode}
 use Rattle.form.specs.declared.Edit.{Edit}
 use Rattle.journal.specs.Edit.{SharedOutcome, byParty, editBy, undoBy}
 use Rattle.demands.specs.Demand3.{Call, edit, make, undo, step}
-use Rattle.records.specs.Shared.{Shared, ownOf, placesOf, servedOf, isOpened, fresh}
-use Rattle.sheet.specs.Sheet.{writeBy}
+use Rattle.records.specs.Shared.{Shared, ownOf, placesOf, serves, servedOf, isOpened, fresh}
+use Rattle.sheet.specs.Sheet.{writeBy, writeLineBy}
 use Rattle.sheet.specs.Load.{loadBy}
-use Rattle.demands.specs.Across.{SheetCall, call, write, load, loadText, State, sheetIn, runAcross, ownSheets, HoldsAcross}
+use Rattle.demands.specs.Across.{SheetCall, call, write, writeLine, load, loadText, Wrote, nothing, sheet, line, State, wroteAs, runAcross, ownSheets, HoldsAcross}
 
--- what there is in a run: the shared journal, and of each party its code, what its last call answered and the sheet that this wrote
+-- what there is in a run: the shared journal, and of each party its code, what its last call answered and what that wrote
 pub record Mixed : Type 0 where
   pub journal : Shared
   pub code : ℕ → List ℕ
   pub answer : ℕ → ℕ
-  pub sheet : ℕ → Option (List ℕ)
+  pub wrote : ℕ → Wrote
 
 -- the same for all parties but one
 abbrev pub but : {A : Type 0} → (ℕ → A) → ℕ → A → ℕ → A
 but f party a q = cond (eqb q party) a (f q)
 
--- after a party's call that leaves this journal, this answer, this code and this sheet
-abbrev pub left : Mixed → ℕ → Shared → ℕ → List ℕ → Option (List ℕ) → Mixed
-left m party journal answer code sheet =
-    record { journal = journal; code = but (m .code) party code; answer = but (m .answer) party answer; sheet = but (m .sheet) party sheet }
+-- after a party's call that leaves this journal, answers this, leaves this code and wrote this
+abbrev pub left : Mixed → ℕ → Shared → ℕ → List ℕ → Wrote → Mixed
+left m party journal answer code wrote =
+    record { journal = journal; code = but (m .code) party code; answer = but (m .answer) party answer; wrote = but (m .wrote) party wrote }
 
--- loading a text; where none was written by the party's call before, there is nothing to load
-abbrev pub loadedBy : Mixed → ℕ → Option (List ℕ) → Mixed
-loadedBy m party none = left m party (m .journal) (m .answer party) (m .code party) none
-loadedBy m party (some text) = let l = loadBy (m .journal) party text in left m party (l .journal) (l .answer) (m .code party) none
+-- loading what was written: a sheet; where the party's call before wrote none, there is nothing to load
+abbrev pub loadedBy : Mixed → ℕ → Wrote → Mixed
+loadedBy m party nothing = left m party (m .journal) (m .answer party) (m .code party) nothing
+loadedBy m party (sheet text) = let l = loadBy (m .journal) party text in left m party (l .journal) (l .answer) (m .code party) nothing
+loadedBy m party (line text) = left m party (m .journal) (m .answer party) (m .code party) nothing
 
 -- what a party's call of demand 3 comes to with the shared journal, by what it comes to with the party's own
 abbrev pub callBy : List ℕ → Shared → ℕ → Call → SharedOutcome
@@ -45,24 +45,27 @@ callBy code s party c = byParty s party (step party (placesOf (s .parties) party
 
 -- which is what the contracts say
 pub record ByContract (code : List ℕ) (s : Shared) (party : ℕ) : Type 0 where
+  -- of an edit
   pub edits : (e : Edit) → callBy code s party (make (edit e)) ≡ editBy code s party e
+  -- and of an undo
   pub undoes : callBy code s party undo ≡ undoBy code s party
 
 -- one call of a party
 abbrev pub calledBy : Mixed → ℕ → SheetCall → Mixed
-calledBy m party (call c) = let o = callBy (m .code party) (m .journal) party c in left m party (o .journal) (o .answer) (o .code) none
-calledBy m party (write out) = let w = writeBy (m .journal) party out in left m party (m .journal) (w .0 .answer) (m .code party) (sheetIn w)
-calledBy m party load = loadedBy m party (m .sheet party)
-calledBy m party (loadText text) = loadedBy m party (some text)
+calledBy m party (call c) = let o = callBy (m .code party) (m .journal) party c in left m party (o .journal) (o .answer) (o .code) nothing
+calledBy m party (write out) = let w = writeBy (m .journal) party out in left m party (m .journal) (w .0 .answer) (m .code party) (wroteAs sheet w)
+calledBy m party (writeLine i out) = let w = writeLineBy (m .journal) party i out in left m party (m .journal) (w .0 .answer) (m .code party) (wroteAs line w)
+calledBy m party load = loadedBy m party (m .wrote party)
+calledBy m party (loadText text) = loadedBy m party (sheet text)
 
--- a run from a fresh journal, opened for so many, with a code for each party; the last call stands first
-abbrev pub mixed : ℕ → (ℕ → List ℕ) → List (ℕ × SheetCall) → Mixed
-mixed parties codes [] = record { journal = fresh parties; code = codes; answer = λ _. accepted; sheet = λ _. none }
-mixed parties codes (c ∷ cs) = calledBy (mixed parties codes cs) (c .0) (c .1)
+-- a run from a shared journal, with a code for each party; the last call stands first
+abbrev pub mixed : Shared → (ℕ → List ℕ) → List (ℕ × SheetCall) → Mixed
+mixed s codes [] = record { journal = s; code = codes; answer = λ _. accepted; wrote = λ _. nothing }
+mixed s codes (c ∷ cs) = calledBy (mixed s codes cs) (c .0) (c .1)
 
--- what a party has of it: what its last call answered, its journal, its code, and the sheet that it wrote
+-- what a party has of it: what its last call answered, its journal, its code, and what that call wrote
 abbrev pub seenBy : Mixed → ℕ → State
-seenBy m party = record { after = record { answer = m .answer party; journal = ownOf (m .journal) party; code = m .code party }; sheet = m .sheet party }
+seenBy m party = record { after = record { answer = m .answer party; journal = ownOf (m .journal) party; code = m .code party }; wrote = m .wrote party }
 
 -- the calls of one party among them
 abbrev pub callsOf : ℕ → List (ℕ × SheetCall) → List SheetCall
@@ -77,16 +80,17 @@ aloneOf party cs = map (λ (c : SheetCall). (party, c)) (callsOf party cs)
 abbrev pub AreCodes : (ℕ → List ℕ) → Type 0
 AreCodes codes = (party i : ℕ) → getD (codes party) i 0 < 2 ^ 8
 
--- independence: in a journal opened for two, under any mixing of calls, each party has what it would have had alone in one opened for two
+-- independence: with any journal that serves a party, under any mixing of calls, the party has what it would have had alone with that
+-- journal; so with a fresh one that is opened for two, which serves both (`FreshServes` of `records`)
 abbrev pub Independent : Type 0
 Independent =
-    (codes : ℕ → List ℕ) → AreCodes codes → (calls : List (ℕ × SheetCall)) (party : ℕ) → party < 2
-    → seenBy (mixed 2 codes calls) party ≡ seenBy (mixed 2 codes (aloneOf party calls)) party
+    (s : Shared) (codes : ℕ → List ℕ) → AreCodes codes → (calls : List (ℕ × SheetCall)) (party : ℕ) → serves s party ≡ true
+    → seenBy (mixed s codes calls) party ≡ seenBy (mixed s codes (aloneOf party calls)) party
 
--- what is so of each party, whether one or two share the journal
+-- what is so of each party of a fresh journal, whether one or two share it
 pub record HoldsFor (parties : ℕ) (codes : ℕ → List ℕ) (calls : List (ℕ × SheetCall)) (party : ℕ) : Type 0 where
   -- it has what its own calls come to with a journal of its own, of as many places
-  pub has : seenBy (mixed parties codes calls) party ≡ runAcross party (placesOf parties party) (codes party) (callsOf party calls)
+  pub has : seenBy (mixed (fresh parties) codes calls) party ≡ runAcross party (placesOf parties party) (codes party) (callsOf party calls)
   -- and of these demand 3 holds, where it loads no sheet but the one that its own call before wrote
   pub holds : length (codes party) ≤ longestCode → T (ownSheets (callsOf party calls)) → HoldsAcross party (placesOf parties party) (codes party) (callsOf party calls)
 

@@ -48,8 +48,8 @@ abbrev pub noForm : Form
 noForm = record { family = 0; number = 0 }
 
 -- the same form
-abbrev pub same : Form → Form → Bool
-same f g = eqb (f .family) (g .family) && eqb (f .number) (g .number)
+abbrev pub sameForm : Form → Form → Bool
+sameForm f g = eqb (f .family) (g .family) && eqb (f .number) (g .number)
 
 -- the families, each with its last number
 abbrev pub families : List (ℕ × ℕ)

@@ -14,12 +14,12 @@ pub record Filled : Type 0 where
   pub out : List ℕ
 
 -- a cut bundle's ten numbers: the tag, the units, the slots, and 1 for each slot that a stop follows, else 0
-abbrev pub numbersOf : Bundle → List ℕ
-numbersOf b = b .template .tag ∷ (b .template .units ++ b .slots ++ map (λ stop. cond stop 1 0) (b .template .stops))
+abbrev pub cutNumbers : Bundle → List ℕ
+cutNumbers b = b .template .tag ∷ (b .template .units ++ b .slots ++ map (λ stop. cond stop 1 0) (b .template .stops))
 
 -- a cut, refused or not, fills the output
 unfoldable pub cutCall : List ℕ → ℕ → Filled
-cutCall code k = record { answer = cutOf code k .answer; out = numbersOf (cutOf code k) }
+cutCall code k = record { answer = cutOf code k .answer; out = cutNumbers (cutOf code k) }
 
 -- an answer, and the number that is then in the output
 pub record Answered : Type 0 where

@@ -1,6 +1,6 @@
 // The calls for programs in C and Rust: cut, immediate and target, on numbers and byte slices.
 ghost use mathlib.Core.Path.{_≡_};
-ghost use Rattle.glindorsc.specs.Calls.{Answered, Filled, numbersOf, cutCall, immediateCall, targetCall};
+ghost use Rattle.glindorsc.specs.Calls.{Answered, Filled, cutNumbers, cutCall, immediateCall, targetCall};
 use bundle::Bundle;
 use form::Form;
 
@@ -15,7 +15,7 @@ pub extern "C" fn glindorsc_cut(code: &[u8], bundle: u64, out: &mut [u64; 10]) -
 }
 
 fn numbers(cut: Bundle) -> [u64; 10]
-    ensures { λ r. ⌜ r ≡ numbersOf cut ⌝ }
+    ensures { λ r. ⌜ r ≡ cutNumbers cut ⌝ }
 {
     let units = cut.template.units;
     let slots = cut.slots;

@@ -1,34 +1,20 @@
--- What stands at the front of a text of hex bytes, a case at a time, and what reading on makes of each. By the clauses of
--- `front` and `hexBytes`. Assumes nothing.
+-- What reading on makes of what stands at the front of a text of hex bytes, and what decoding hands back. By the clauses of `front` and
+-- `hexBytes`. Assumes nothing.
 use mathlib.Core.Path.{_≡_, refl, ap}
 use mathlib.Core.Bool.{Bool, true, false, cond, _||_}
 use mathlib.Core.List.{List, [], _∷_}
-use Prim.Native.Nat.{ℕ, zero, suc, _+_, _≤_, _<_}
-use native.Mathlib.Numerals.{add-one, add-two}
+use Prim.Native.Nat.{ℕ, zero, suc, _≤_, _<_}
 use native.Mathlib.Omega.{arith}
 use lib.Dec.{ltb, lit≤}
-use lib.ListN.{length, getD, take, drop, drop-of-length-le}
-use lib.Seq.{drop-cons, take-append-seam}
+use lib.ListN.{length, take, drop}
+use lib.Seq.{take-append-seam}
 use Rattle.hex.specs.declared.Decoded.{Decoded}
 use Rattle.hex.specs.declared.Ending.{Ending}
-use Rattle.hex.specs.declared.Ending.the-variants.{Whole, BadHex, TooLong}
+use Rattle.hex.specs.declared.Ending.the-variants.{BadHex, TooLong}
 use Rattle.hex.specs.declared.Front.{Front}
 use Rattle.hex.specs.declared.Front.the-variants.{Byte, Stop}
-use Rattle.hex.specs.Hex.{valueOf, parted, pairOf, front, Bytes, goOn, hexBytes, decodedOf}
+use Rattle.hex.specs.Hex.{digitValue, pairOf, front, Bytes, goOn, hexBytes, decodedOf}
 use Rattle.text.proofs.Writing.{written-start}
-
-module _ (room : ℕ) (t : List ℕ) (at : ℕ) where
-  pub front-none : length t ≤ at → Stop Whole ≡ front room (drop at t)
-  unfolding front
-  front-none h = rw (drop-of-length-le t h)
-
-  pub front-one : at + 1 ≡ length t → Stop BadHex ≡ front room (drop at t)
-  unfolding front
-  front-one h = rw (drop-cons t at 0 (omega arith), drop-of-length-le t {i = suc at} (omega arith))
-
-  pub front-two : at + 1 < length t → pairOf (valueOf (getD t at 0)) (valueOf (getD t (at + 1) 0)) room (parted (drop (at + 2) t)) ≡ front room (drop at t)
-  unfolding front
-  front-two h = rw (drop-cons t at 0 (omega arith), add-one, add-two, drop-cons t (suc at) 0 (omega arith))
 
 -- a byte has room and text
 module _ {b : ℕ} where
@@ -41,7 +27,7 @@ module _ {b : ℕ} where
   byte-room (suc room) t e = omega arith
   byte-room zero [] e = let z : _≡_ {A = ℕ} 0 1 = cc in absurd (omega arith)
   byte-room zero (x ∷ []) e = let z : _≡_ {A = ℕ} 0 1 = cc in absurd (omega arith)
-  byte-room zero (x ∷ y ∷ t) e = absurd (no-byte (ltb 15 (valueOf x) || ltb 15 (valueOf y)) e)
+  byte-room zero (x ∷ y ∷ t) e = absurd (no-byte (ltb 15 (digitValue x) || ltb 15 (digitValue y)) e)
 
   pub byte-text : (room : ℕ) (t : List ℕ) → front room t ≡ Byte b → 0 < length t
   unfolding front
@@ -72,21 +58,19 @@ unfolding hexBytes
 hex-room zero t = none-read (front zero t) ([], TooLong) (λ b e. omega (arith, byte-room zero t e))
 hex-room (suc room) t = one-read (front (suc room) t) (hexBytes room (drop 3 t)) room (hex-room room (drop 3 t))
 
--- what decoding hands back, and where its bytes stand
-module _ (text out out′ : List ℕ) (r : Decoded) (e : (r, out′) ≡ decodedOf text out) where
-  pub decoded-ending : r .ending ≡ hexBytes (length out) text .1
-  unfolding decodedOf
-  decoded-ending = ap (λ (d : Decoded × List ℕ). d .0 .ending) e
+-- what decoding hands back where there is so much room, and where its bytes stand
+pub record Handed (text : List ℕ) (room : ℕ) (r : Decoded) (out : List ℕ) : Type 0 where
+  pub ending : r .ending ≡ hexBytes room text .1
+  pub within : r .count ≤ room
+  pub bytes : take (r .count) out ≡ hexBytes room text .0
 
-  pub decoded-count : r .count ≡ length (hexBytes (length out) text .0)
-  unfolding decodedOf
-  decoded-count = ap (λ (d : Decoded × List ℕ). d .0 .count) e
-
-  pub decoded-room : r .count ≤ length out
-  decoded-room = rw decoded-count (hex-room (length out) text)
-
-  pub decoded-bytes : take (r .count) out′ ≡ hexBytes (length out) text .0
-  unfolding decodedOf
-  decoded-bytes =
-      rw (decoded-count, ap (λ (d : Decoded × List ℕ). d .1) e, written-start out _ (hex-room (length out) text))
-      (take-append-seam (hexBytes (length out) text .0) _)
+pub handed : (text out : List ℕ) {r : Decoded} {out′ : List ℕ} → (r, out′) ≡ decodedOf text out → Handed text (length out) r out′
+unfolding decodedOf
+handed text out {r} {out′} e =
+    let bytes = hexBytes (length out) text .0 in
+    let n : r .count ≡ length bytes = ap (λ (d : Decoded × List ℕ). d .0 .count) e in
+    record {
+      ending = ap (λ (d : Decoded × List ℕ). d .0 .ending) e;
+      within = omega (arith, hex-room (length out) text);
+      bytes = rw (n, ap (λ (d : Decoded × List ℕ). d .1) e, written-start out bytes (hex-room (length out) text)) (take-append-seam bytes _);
+    }

@@ -13,8 +13,8 @@ use Rattle.hex.specs.declared.Front.the-variants.{Byte, Stop}
 use Rattle.text.specs.Put.{written}
 
 -- the value of a hex digit: `0` to `9`, `A` to `F`, `a` to `f`; 16 for any other byte
-unfoldable pub valueOf : ℕ → ℕ
-valueOf c = cond (within 48 57 c) (c - 48) (cond (within 65 70 c) (c - 55) (cond (within 97 102 c) (c - 87) 16))
+unfoldable pub digitValue : ℕ → ℕ
+digitValue c = cond (within 48 57 c) (c - 48) (cond (within 65 70 c) (c - 55) (cond (within 97 102 c) (c - 87) 16))
 
 -- what may follow a byte: nothing, or a text that begins with a space or newline
 unfoldable pub parted : List ℕ → Bool
@@ -30,7 +30,7 @@ pairOf high low room ends =
 unfoldable pub front : ℕ → List ℕ → Front
 front room [] = Stop Whole
 front room (a ∷ []) = Stop BadHex
-front room (a ∷ b ∷ rest) = pairOf (valueOf a) (valueOf b) room (parted rest)
+front room (a ∷ b ∷ rest) = pairOf (digitValue a) (digitValue b) room (parted rest)
 
 -- the bytes read, and how reading ended
 abbrev pub Bytes : Type 0

@@ -3,7 +3,7 @@
 ghost use mathlib.Core.Path.{_≡_};
 ghost use Prim.Native.Nat.{_<_};
 ghost use lib.ListN.{drop};
-ghost use Rattle.hex.specs.Hex.{valueOf, parted, pairOf, front, decodedOf, digitOf, hexOf};
+ghost use Rattle.hex.specs.Hex.{digitValue, parted, pairOf, front, decodedOf, digitOf, hexOf};
 ghost use Rattle.text.specs.Put.{Put};
 use text::put_byte;
 
@@ -28,7 +28,7 @@ pub struct Decoded {
 
 // A hex digit's value, and 16 for any other byte; the table goes from `0` to `f`.
 pub fn digit_value(c: u8) -> u8
-    ensures { λ r. ⌜ r ≡ valueOf c ⌝ }
+    ensures { λ r. ⌜ r ≡ digitValue c ⌝ }
 {
     let table =
         b"\x00\x01\x02\x03\x04\x05\x06\x07\x08\x09\x10\x10\x10\x10\x10\x10\x10\x0a\x0b\x0c\x0d\x0e\x0f\x10\x10\x10\x10\x10\x10\x10\x10\x10\x10\x10\x10\x10\x10\x10\x10\x10\x10\x10\x10\x10\x10\x10\x10\x10\x10\x0a\x0b\x0c\x0d\x0e\x0f";
@@ -49,7 +49,7 @@ fn ends(text: &[u8], at: usize) -> bool
         return true;
     }
     let c = text[at];
-    c == b' ' || c == b'\n'
+    (c == b' ') | (c == b'\n')
 }
 
 // The byte of two digits' values, or why there is none.

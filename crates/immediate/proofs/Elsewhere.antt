@@ -8,7 +8,7 @@ use lib.Dec.{T, eqb, eqb→eq}
 use Rattle.bits.specs.Parts.{meetNot}
 use Rattle.bits.proofs.Laws.{part-lt}
 use Rattle.bits.proofs.Parts.{part-scatter}
-use Rattle.bundle.specs.Template.{L}
+use Rattle.bundle.specs.Template.{unitL}
 use Rattle.bundle.specs.Bundle.{tagOf, slotOf}
 use Rattle.form.specs.Form.{A, X}
 use Rattle.form.specs.declared.Form.{Form}
@@ -29,13 +29,13 @@ slot-kept form slot row n raw j g some d x =
     (elsewhere (eqb (form .family) X) slot (row .parts) (word j) (in-words form row g some) (words-apart j slot d) (λ t. words-apart j 1 (x (eqb→eq (form .family) X t))))
 
 -- no form fits L
-fits-l : (form : Form) → fits form L ≡ true → isNone (rowOf form) ≡ false → ⊥
+fits-l : (form : Form) → fits form unitL ≡ true → isNone (rowOf form) ≡ false → ⊥
 unfolding rowOf
 fits-l form fit some = by-family (eqb (form .family) A) fit
   where
-    by-family : (b : Bool) → cond b false (eqb (form .family) L) ≡ true → ⊥
+    by-family : (b : Bool) → cond b false (eqb (form .family) unitL) ≡ true → ⊥
     by-family true e = subst T (sym e) tt
-    by-family false e = subst T (sym (sym some ∙ ap (λ (f : ℕ). isNone (rowOf (record { family = f; number = form .number }))) (eqb-true (form .family) L e))) tt
+    by-family false e = subst T (sym (sym some ∙ ap (λ (f : ℕ). isNone (rowOf (record { family = f; number = form .number }))) (eqb-true (form .family) unitL e))) tt
 
 module _ (n : ℕ) where
   -- a form that a bundle has in a slot

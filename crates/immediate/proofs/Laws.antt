@@ -1,6 +1,6 @@
 -- When a form's row is read or changed in a slot of a bundle: none of the refusals applies, so the row is sound there. Assumes nothing.
 use mathlib.Core.Path.{_≡_, refl, sym, ap, ap₂, _∙_}
-use mathlib.Core.Bool.{true, false, not, _||_}
+use mathlib.Core.Bool.{true, false, not}
 use mathlib.Core.List.{List, [], _∷_, _++_}
 use Prim.Native.Nat.{ℕ, _<_, _^_, suc-le-suc}
 use borrow.Author.Tests.{ltb-false, not-false, eqb-true, eq-eqb, ne-eqb}
@@ -16,7 +16,7 @@ use Rattle.form.specs.declared.Edit.{Edit}
 use Rattle.operand.specs.declared.Operand.{Operand}
 use Rattle.row.specs.Row.{isNone, rowOf}
 use Rattle.meaning.specs.Meaning.{Is}
-use Rattle.immediate.specs.Sound.{Sound}
+use Rattle.immediate.specs.inner.Sound.{Sound}
 use Rattle.immediate.specs.Immediate.{fits, unitAt, readRefusals, rawFor, valueRefusals, changeRefusals, valueIn, withRaw, partsOf, changedNumber, noChange, changedOf}
 use Rattle.row.specs.declared.Row.{Row}
 use Rattle.meaning.specs.declared.Raw.{Raw}

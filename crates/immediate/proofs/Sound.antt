@@ -9,7 +9,7 @@ use lib.ListN.{getD}
 use mir.Facts.{and-yes, eqb-no}
 use Rattle.bits.proofs.Laws.{part-lt}
 use Rattle.table.proofs.Check.{checked}
-use Rattle.bundle.specs.Template.{L, unitsOf}
+use Rattle.bundle.specs.Template.{unitL, unitsOf}
 use Rattle.form.specs.Form.{X}
 use Rattle.bundle.specs.Bundle.{tagOf}
 use Rattle.form.specs.declared.Form.{Form}
@@ -17,7 +17,7 @@ use Rattle.parts.specs.Placed.{inWords}
 use Rattle.row.specs.Row.{isNone}
 use Rattle.row.specs.declared.Row.{Row}
 use Rattle.row.proofs.Rows.{good, good-has, separateIn}
-use Rattle.immediate.specs.Sound.{Sound}
+use Rattle.immediate.specs.inner.Sound.{Sound}
 use Rattle.immediate.specs.Immediate.{fits, unitAt}
 
 -- no X in slots 0 and 1
@@ -33,11 +33,11 @@ x-in-2 tag (suc (suc (suc slot))) t h e = absurd (let g : suc (suc (suc slot)) <
 
 -- beside an X stands an L
 abbrev besideX : ℕ → Bool
-besideX tag = cond (eqb (getD (unitsOf tag) 2 0) X) (eqb (getD (unitsOf tag) 1 0) L) true
+besideX tag = cond (eqb (getD (unitsOf tag) 2 0) X) (eqb (getD (unitsOf tag) 1 0) unitL) true
 
-pub x-beside-l : (tag : ℕ) → tag < 32 → getD (unitsOf tag) 2 0 ≡ X → getD (unitsOf tag) 1 0 ≡ L
+pub x-beside-l : (tag : ℕ) → tag < 32 → getD (unitsOf tag) 2 0 ≡ X → getD (unitsOf tag) 1 0 ≡ unitL
 unfolding unitsOf
-x-beside-l tag t e = eqb→eq _ _ (subst (λ (b : Bool). T (cond b (eqb (getD (unitsOf tag) 1 0) L) true)) (eq-eqb (getD (unitsOf tag) 2 0) X e) (checked besideX 32 tt tag t))
+x-beside-l tag t e = eqb→eq _ _ (subst (λ (b : Bool). T (cond b (eqb (getD (unitsOf tag) 1 0) unitL) true)) (eq-eqb (getD (unitsOf tag) 2 0) X e) (checked besideX 32 tt tag t))
 
 three : (P : ℕ → Bool) (slot : ℕ) → slot < 3 → T (P 0 && (P 1 && P 2)) → T (P slot)
 three P zero h t = and-yes (P 0) (P 1 && P 2) t .0

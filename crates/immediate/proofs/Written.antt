@@ -15,7 +15,7 @@ use Rattle.parts.proofs.Placed.{past-tag, within-bundle}
 use Rattle.parts.proofs.Steps.{widths-placed, gathered-lt}
 use Rattle.operand.specs.declared.Operand.{Operand}
 use Rattle.meaning.specs.Meaning.{means, Is, valueOf, rawOf}
-use Rattle.immediate.specs.Sound.{Sound}
+use Rattle.immediate.specs.inner.Sound.{Sound}
 use Rattle.row.specs.Row.{isNone}
 use Rattle.immediate.specs.Immediate.{valueIn, withRaw}
 use Rattle.row.specs.declared.Row.{Row}

@@ -8,9 +8,9 @@ use lib.IntN.{ℤ}
 use lib.ListN.{getD}
 use Rattle.answer.specs.Answer.{Refusal, first, outcome, accepted, badBundle, badForm, badSlot, badValue}
 use Rattle.bits.specs.Parts.{Parts, gather, scatter}
-use Rattle.bundle.specs.Template.{I, unitsOf, unitless}
+use Rattle.bundle.specs.Template.{unitsOf, unitless}
 use Rattle.bundle.specs.Bundle.{numberAt, tagOf, findAnswer, halvesOf}
-use Rattle.form.specs.Form.{A, M}
+use Rattle.form.specs.Form.{A, I, M}
 use Rattle.form.specs.declared.Form.{Form}
 use Rattle.form.specs.declared.Edit.{Edit}
 use Rattle.parts.specs.Placed.{placed, widthOf}
@@ -103,8 +103,8 @@ changedOf n e =
     outcome answer (record { answer = accepted; bundle = halvesOf (changedNumber n e) }) (noChange answer)
 
 -- the edit of bundle k that a slot, a form and its value's pattern tell of
-abbrev pub editTold : ℕ → ℕ → Form → ℕ → Edit
-editTold k slot form p = record { bundle = k; slot = slot; form = form; value = operandFor (rowOf form .meaning) p }
+abbrev pub editByPattern : ℕ → ℕ → Form → ℕ → Edit
+editByPattern k slot form p = record { bundle = k; slot = slot; form = form; value = operandFor (rowOf form .meaning) p }
 
 -- the displacement that a row of a target reads
 abbrev pub displacementIn : Row → ℕ → ℕ → ℤ

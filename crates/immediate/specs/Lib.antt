@@ -1,2 +1,2 @@
 pub mod Immediate
-pub mod Sound
+pub mod inner

@@ -10,8 +10,8 @@ ghost use Prim.Native.Nat.{ℕ};
 ghost use Rattle.bundle.specs.Bundle.{whole};
 ghost use Rattle.operand.specs.Pattern.{patternOf};
 ghost use Rattle.row.specs.Row.{rowOf};
-ghost use Rattle.immediate.specs.Immediate.{valueIn, noImmediate, immediateIn, immediateOf, noChange, changedOf, editTold, displacementIn, noTarget, targetIn, targetOf};
-ghost use Rattle.immediate.specs.Sound.{Sound, editIfTold};
+ghost use Rattle.immediate.specs.Immediate.{valueIn, noImmediate, immediateIn, immediateOf, noChange, changedOf, editByPattern, displacementIn, noTarget, targetIn, targetOf};
+ghost use Rattle.immediate.specs.inner.Sound.{Sound, editIfPattern};
 use answer::ACCEPTED;
 use answer::BAD_VALUE;
 use bundle::Halves;
@@ -83,8 +83,8 @@ pub fn change(bundle: Halves, edit: Edit) -> Changed
 }
 
 // The same for an edit whose value is told by its 64-bit pattern; its bundle can have any number.
-pub fn change_told(bundle: Halves, slot: u64, form: Form, pattern: u64) -> Changed
-    ensures { λ r. ⌜ ((k : ℕ) → r ≡ changedOf (whole bundle) (editTold k slot form pattern)) ⌝ }
+pub fn change_by_pattern(bundle: Halves, slot: u64, form: Form, pattern: u64) -> Changed
+    ensures { λ r. ⌜ ((k : ℕ) → r ≡ changedOf (whole bundle) (editByPattern k slot form pattern)) ⌝ }
 {
     change_by(row::row_of(form), bundle, slot, form, true, pattern)
 }
@@ -92,7 +92,7 @@ pub fn change_told(bundle: Halves, slot: u64, form: Form, pattern: u64) -> Chang
 // The same by the form's row. A value that isn't told, being of another kind, is refused.
 fn change_by(row: Row, bundle: Halves, slot: u64, form: Form, told: bool, pattern: u64) -> Changed
     requires { ⌜ row ≡ rowOf form ⌝ }
-    ensures { λ r. ⌜ r ≡ changedOf (whole bundle) (editIfTold slot form told pattern) ⌝ }
+    ensures { λ r. ⌜ r ≡ changedOf (whole bundle) (editIfPattern slot form told pattern) ⌝ }
 {
     let answer = fit::read_answer(bundle, slot, form, row);
     if answer != ACCEPTED {

@@ -1,13 +1,12 @@
--- A plan carried out is the call: its refusals are the call's, and what it writes is what the call comes to, by the laws of the journal's
+-- A plan carried out is the act: its refusals are the act's, and what it writes is what the act comes to, by the laws of the journal's
 -- view. Assumes nothing.
-use mathlib.Core.Path.{_≡_, refl, sym, ap, ap₂, _∙_, subst}
-use mathlib.Core.Bool.{Bool, true, false, cond, not}
+use mathlib.Core.Path.{_≡_, refl, sym, ap, _∙_}
+use mathlib.Core.Bool.{Bool, true, false, cond}
 use mathlib.Core.List.{List, [], _∷_, _++_}
-use Prim.Native.Nat.{ℕ, _+_, _-_, _*_, _≤_, _<_, _^_}
+use Prim.Native.Nat.{ℕ, _<_, _^_}
 use native.Mathlib.Decide.{ℕ-discrete}
 use borrow.Author.Tests.{leb-false, ltb-false, eqb-true, eqb-false, not-false}
 use lib.Dec.{T, eqb}
-use lib.ListN.{length}
 use Rattle.answer.specs.Answer.{Refusal, accepted, first, outcome}
 use Rattle.answer.proofs.Laws.{numbered, none-applies, first-on, first-stop, accepts, refuses}
 use Rattle.bundle.specs.Bundle.{findRefusals, findAnswer, numberAt, whole}
@@ -18,10 +17,15 @@ use Rattle.bundle.proofs.Lies.{found-when}
 use Rattle.form.specs.declared.Edit.{Edit}
 use Rattle.immediate.specs.Immediate.{changeRefusals, changedNumber}
 use Rattle.immediate.proofs.Laws.{changed-lt}
-use Rattle.journal.specs.Edit.{Outcome, codeRefusals, rewritten, made, recordOf, roomRefusals, editRefusals, editOf, undoRefusals, undoOf}
-use Rattle.records.specs.Journal.{Journal, viewOf, withRecord}
-use Rattle.journal.specs.Plan.{refusedPlan, editPlanOf, undoPlanOf, carriedOut}
+use Rattle.journal.specs.Edit.{Outcome, codeRefusals, rewritten, made, recordOf, roomRefusals, editRefusals, editOf, undoRefusals, undoOf, byParty, actBy}
+use Rattle.journal.specs.inner.Plan.{refusedPlan, editPlanOf, undoPlanOf, planOf, carriedOut}
+use Rattle.journal.specs.declared.Act.{Act}
+use Rattle.journal.specs.declared.Act.the-variants.{Edit as EditAct, Undo}
 use Rattle.journal.specs.declared.plan.Plan.{Plan}
+use Rattle.records.specs.Journal.{Journal, viewOf, withRecord}
+use Rattle.records.specs.Shared.{Shared, placesOf, servedOf}
+use Rattle.records.specs.inner.Shows.{ownView}
+use Rattle.records.specs.declared.Own.{Own}
 use Rattle.records.specs.declared.View.{View}
 use Rattle.records.proofs.Standing.{view-pushes, view-pops}
 
@@ -43,31 +47,23 @@ first-past [] qs ps e = e
 first-past (r ∷ rs) qs ps e = ap (λ (n : ℕ). cond (r .1) (r .0) n) (first-past rs qs ps e)
 
 -- a plan that is accepted or refused by a
-module _ (code : List ℕ) (plan : Plan) (a : ℕ) where
+module _ (plan : Plan) (a : ℕ) where
   abbrev Decided : Plan
   Decided = outcome a plan (refusedPlan a)
 
-  decided-taken : Decided .answer ≡ accepted → a ≡ accepted
-  decided-taken = go (eqb a accepted) refl
+  decided : Decided .answer ≡ accepted → (a ≡ accepted) × (Decided ≡ plan)
+  decided q = go (ℕ-discrete a accepted)
     where
-      go : (t : Bool) → eqb a accepted ≡ t → cond t plan (refusedPlan a) .answer ≡ accepted → a ≡ accepted
-      go true e q = eqb-true a accepted e
-      go false e q = q
-
-  -- its bundle is in the code where it is accepted
-  decided-found : (a ≡ accepted → findAnswer code (plan .bundle) ≡ accepted) → Decided .answer ≡ accepted → findAnswer code (Decided .bundle) ≡ accepted
-  decided-found f = go (eqb a accepted) refl
-    where
-      go : (t : Bool) → eqb a accepted ≡ t → cond t plan (refusedPlan a) .answer ≡ accepted → findAnswer code (cond t plan (refusedPlan a) .bundle) ≡ accepted
-      go true e q = f (eqb-true a accepted e)
-      go false e q = absurd (eqb-false a accepted e q)
+      go : Dec (a ≡ accepted) → (a ≡ accepted) × (Decided ≡ plan)
+      go (yes e) = (e, accepts a plan _ e)
+      go (no d) = absurd (d (sym (ap (λ (p : Plan). p .answer) (refuses a plan _ d)) ∙ q))
 
   -- what carrying it out comes to, where it leaves this journal and this code
-  decided-carried : (j after : Journal) (written : List ℕ) → plan .answer ≡ accepted
+  decided-carried : (code : List ℕ) (j after : Journal) (written : List ℕ) → plan .answer ≡ accepted
       → (a ≡ accepted → (withRecord j (plan .place) (plan .kept) (plan .count) ≡ after) × (rewritten code (plan .bundle) (whole (plan .halves)) ≡ written))
       → carriedOut code j Decided ≡ outcome a (record { answer = accepted; journal = after; code = written }) (record { answer = a; journal = j; code = code })
   unfolding carriedOut
-  decided-carried j after written h f = go (eqb a accepted) refl
+  decided-carried code j after written h f = go (eqb a accepted) refl
     where
       done : Outcome
       done = record { answer = accepted; journal = after; code = written }
@@ -88,47 +84,42 @@ module _ (code : List ℕ) (e : Edit) (taken : first (codeRefusals code e) ≡ a
   pub taken-lt : Bytes code → changedNumber (numberAt code (e .bundle)) e < 2 ^ 128
   taken-lt b = changed-lt (numberAt code (e .bundle)) e taken-changes (number-at-lt code (e .bundle) taken-found b)
 
--- an edit's plan carried out is the edit
-module _ (party places : ℕ) (code : List ℕ) (e : Edit) where
-  pub edit-found : (view : View) → editPlanOf party places code view e .answer ≡ accepted → findAnswer code (editPlanOf party places code view e .bundle) ≡ accepted
-  unfolding editPlanOf
-  edit-found view =
-      decided-found code _ (first (editRefusals places code view e)) (λ a. taken-found code e (parts-accept (codeRefusals code e) (roomRefusals places view) tt a .0))
+-- an act that is accepted goes by a valid journal, and its bundle is in the code
+pub act-taken : (party : ℕ) (code : List ℕ) (own : Own) (act : Act) → planOf party code own act .answer ≡ accepted
+    → (own .view .valid ≡ true) × (findAnswer code (planOf party code own act .bundle) ≡ accepted)
+unfolding editPlanOf undoPlanOf
+act-taken party code own (EditAct e) q =
+    let d = decided _ (first (editRefusals (own .places) code (own .view) e)) q in
+    let p = parts-accept (codeRefusals code e) (roomRefusals (own .places) (own .view)) tt (d .0) in (
+      not-false _ (none-applies (roomRefusals (own .places) (own .view)) tt (p .1) .0),
+      ap (λ (p : Plan). findAnswer code (p .bundle)) (d .1) ∙ taken-found code e (p .0),
+    )
+act-taken party code own Undo q =
+    let d = decided _ (first (undoRefusals code (own .view))) q in
+    let n = none-applies (undoRefusals code (own .view)) tt (d .0) in (
+      not-false _ (n .1 .0),
+      ap (λ (p : Plan). findAnswer code (p .bundle)) (d .1) ∙ found-when code (own .view .last .bundle) (record { short = ltb-false _ _ (n .0); within = ltb-false _ _ (n .1 .1 .1 .0) }),
+    )
 
-  -- a plan that is accepted goes by a valid journal
-  pub edit-shown : (view : View) → editPlanOf party places code view e .answer ≡ accepted → view .valid ≡ true
-  unfolding editPlanOf
-  edit-shown view q =
-      let a = decided-taken code _ (first (editRefusals places code view e)) q in
-      not-false _ (none-applies (roomRefusals places view) tt (parts-accept (codeRefusals code e) (roomRefusals places view) tt a .1) .0)
+-- carried out it is the act, by what the party's journal shows
+module _ (party places : ℕ) (code : List ℕ) (j : Journal) where
+  abbrev view : View
+  view = viewOf party places j
 
-  pub edit-carried : Bytes code → (j : Journal) → carriedOut code j (editPlanOf party places code (viewOf party places j) e) ≡ editOf party places code j e
+  edit-carried : Bytes code → (e : Edit) → carriedOut code j (editPlanOf party places code view e) ≡ editOf party places code j e
   unfolding editPlanOf editOf made
-  edit-carried b j =
-      decided-carried code _ (first (editRefusals places code (viewOf party places j) e)) j _ _ refl
+  edit-carried b e =
+      decided-carried _ (first (editRefusals places code view e)) code j _ _ refl
       (λ a.
-      let p = parts-accept (codeRefusals code e) (roomRefusals places (viewOf party places j)) tt a in
-      let n = none-applies (roomRefusals places (viewOf party places j)) tt (p .1) in (
-        view-pushes party places j (not-false _ (n .0)) (recordOf party code e) (leb-false places (viewOf party places j .count) (n .1 .0)),
-        ap (rewritten code (e .bundle)) (whole-halves _ (taken-lt code e (p .0) b)),
-      ))
+      let p = parts-accept (codeRefusals code e) (roomRefusals places view) tt a in
+      let n = none-applies (roomRefusals places view) tt (p .1) in
+      (view-pushes party places j (not-false _ (n .0)) (recordOf party code e) (leb-false places (view .count) (n .1 .0)), ap (rewritten code (e .bundle)) (whole-halves _ (taken-lt code e (p .0) b))))
 
--- an undo's plan carried out is the undo
-module _ (party places : ℕ) (code : List ℕ) where
-  pub undo-found : (view : View) → undoPlanOf code view .answer ≡ accepted → findAnswer code (undoPlanOf code view .bundle) ≡ accepted
-  unfolding undoPlanOf
-  undo-found view =
-      decided-found code _ (first (undoRefusals code view))
-      (λ e.
-      let n = none-applies (undoRefusals code view) tt e in
-      found-when code (view .last .bundle) (record { short = ltb-false _ _ (n .0); within = ltb-false _ _ (n .1 .1 .1 .0) }))
-
-  pub undo-shown : (view : View) → undoPlanOf code view .answer ≡ accepted → view .valid ≡ true
-  unfolding undoPlanOf
-  undo-shown view q = not-false _ (none-applies (undoRefusals code view) tt (decided-taken code _ (first (undoRefusals code view)) q) .1 .0)
-
-  pub undo-carried : (j : Journal) → carriedOut code j (undoPlanOf code (viewOf party places j)) ≡ undoOf party places code j
+  undo-carried : carriedOut code j (undoPlanOf code view) ≡ undoOf party places code j
   unfolding undoPlanOf undoOf
-  undo-carried j =
-      decided-carried code _ (first (undoRefusals code (viewOf party places j))) j _ _ refl
-      (λ e. (view-pops party places j (not-false _ (none-applies (undoRefusals code (viewOf party places j)) tt e .1 .0)), refl))
+  undo-carried = decided-carried _ (first (undoRefusals code view)) code j _ _ refl (λ e. (view-pops party places j (not-false _ (none-applies (undoRefusals code view) tt e .1 .0)), refl))
+
+pub act-carried : (party : ℕ) (code : List ℕ) → Bytes code → (s : Shared) (act : Act)
+    → byParty s party (carriedOut code (servedOf s party) (planOf party code (ownView s party) act)) ≡ actBy code s party act
+act-carried party code b s (EditAct e) = ap (byParty s party) (edit-carried party (placesOf (s .parties) party) code (servedOf s party) b e)
+act-carried party code b s Undo = ap (byParty s party) (undo-carried party (placesOf (s .parties) party) code (servedOf s party))

@@ -1,3 +1,4 @@
 pub mod carry_out
 pub mod edit
+pub mod perform
 pub mod undo

@@ -1,16 +1,15 @@
 -- A code with one bundle made anew: its length and every other byte stay, and the bundle reads as it was made. Where the bundle lies
 -- in the code its front has just the length 16 * k. Assumes nothing.
-use mathlib.Core.Path.{_≡_, refl, sym, ap, ap₂, _∙_, subst}
+use mathlib.Core.Path.{_≡_, sym, ap, ap₂, _∙_}
 use mathlib.Core.List.{List, [], _∷_, _++_}
-use Prim.Native.Nat.{ℕ, zero, suc, _+_, _*_, _/_, _%_, _≤_, _<_, _^_}
+use Prim.Native.Nat.{ℕ, zero, suc, _+_, _*_, _/_, _<_, _^_}
 use native.Mathlib.Nat.{mod-lt}
 use native.Mathlib.Omega.{arith}
-use lib.ListN.{length, take, drop, getD, take-append-drop, length-append}
-use lib.Seq.{length-take-le, take-at, drop-at, drop-drop, length-front}
+use lib.ListN.{length, take, drop, take-append-drop, length-append, length-drop}
+use lib.Seq.{length-take-le, take-at, drop-at, drop-drop}
 use lib.Pow.{pow-pos}
 use Rattle.bundle.specs.Bytes.{number, bytes}
-use Rattle.bundle.specs.Bundle.{numberAt, bundleAt, findAnswer}
-use Rattle.answer.specs.Answer.{accepted}
+use Rattle.bundle.specs.Bundle.{numberAt, bundleAt}
 use Rattle.bundle.proofs.Bytes.{Bytes, length-bytes, number-bytes, bytes-number, bytes-take, bytes-drop}
 use Rattle.bundle.proofs.Lies.{Lies, found-when}
 use Rattle.bundle.proofs.Laws.{found-sixteen}
@@ -53,14 +52,7 @@ module _ (code : List ℕ) (k : ℕ) (l : Lies code k) where
 
   pub rewritten-length : (n : ℕ) → length (rewritten code k n) ≡ length code
   unfolding rewritten
-  rewritten-length n =
-      length-append (take (16 * k) code) _
-      ∙ ap (λ (m : ℕ). length (take (16 * k) code) + m) (length-append (bytes 16 n) (drop (16 * k + 16) code) ∙ ap (λ (m : ℕ). m + length (drop (16 * k + 16) code)) (length-bytes 16 n ∙ sym sixteen) ∙ sym (length-append (bundleAt code k) _) ∙ ap length rest)
-      ∙ sym (length-append (take (16 * k) code) (drop (16 * k) code))
-      ∙ ap length (take-append-drop (16 * k) code)
-    where
-      rest : bundleAt code k ++ drop (16 * k + 16) code ≡ drop (16 * k) code
-      rest = ap (λ (r : List ℕ). bundleAt code k ++ r) (sym (drop-drop 16 (16 * k) code)) ∙ take-append-drop 16 (drop (16 * k) code)
+  rewritten-length n = let h = l .within in simp (length-append, front, length-bytes, length-drop) (omega arith)
 
   pub rewritten-twice : (n m : ℕ) → rewritten (rewritten code k n) k m ≡ rewritten code k m
   unfolding rewritten

@@ -4,7 +4,7 @@ use mathlib.Core.Path.{_≡_, sym, ap, _∙_}
 use mathlib.Core.List.{List}
 use Prim.Native.Nat.{ℕ}
 use Rattle.record.specs.declared.Record.{Record}
-use Rattle.records.proofs.Sharing.{sharing-decides}
+use Rattle.records.proofs.Sharing.{sharing-injective}
 use Rattle.journal.specs.Edit.{SharedOutcome, outcomeOf}
 use Rattle.journal.specs.declared.Edited.{Edited}
 
@@ -13,5 +13,5 @@ pub outcome-unique : {o : SharedOutcome} (r s : Edited) (rs qs : List Record) (c
 outcome-unique r s rs qs code other e f =
     let same = e ∙ sym f in
     let answer = ap (λ (o : SharedOutcome). o .answer) same in
-    let kept = sharing-decides (r .counts) (s .counts) rs qs (ap (λ (o : SharedOutcome). o .journal) same) in
+    let kept = sharing-injective (r .counts) (s .counts) rs qs (ap (λ (o : SharedOutcome). o .journal) same) in
     ((λ i. record { answer = answer i; counts = kept .0 i }), kept .1, ap (λ (o : SharedOutcome). o .code) same)

@@ -14,6 +14,8 @@ use Rattle.record.specs.declared.Record.{Record}
 use Rattle.records.specs.Journal.{Journal, standing, journalOf, viewOf}
 use Rattle.records.specs.Shared.{Shared, sharing, placesOf, servedOf, afterBy}
 use Rattle.records.specs.declared.View.{View}
+use Rattle.journal.specs.declared.Act.{Act}
+use Rattle.journal.specs.declared.Act.the-variants.{Edit as EditAct, Undo}
 use Rattle.journal.specs.declared.Edited.{Edited}
 
 -- the code with bundle k made anew
@@ -96,3 +98,8 @@ editBy code s party e = byParty s party (editOf party (placesOf (s .parties) par
 -- what `undo` comes to
 abbrev pub undoBy : List ℕ → Shared → ℕ → SharedOutcome
 undoBy code s party = byParty s party (undoOf party (placesOf (s .parties) party) code (servedOf s party))
+
+-- what an act comes to
+abbrev pub actBy : List ℕ → Shared → ℕ → Act → SharedOutcome
+actBy code s party (EditAct e) = editBy code s party e
+actBy code s party Undo = undoBy code s party

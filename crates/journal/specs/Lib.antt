@@ -1,3 +1,3 @@
 pub mod Change
 pub mod Edit
-pub mod Plan
+pub mod inner

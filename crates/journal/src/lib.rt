@@ -5,9 +5,10 @@ ghost use mathlib.Core.Path.{_≡_};
 ghost use mathlib.Core.Bool.{true};
 ghost use Rattle.answer.specs.Answer.{accepted};
 ghost use Rattle.bundle.specs.Bundle.{findAnswer, whole};
-ghost use Rattle.records.specs.Shared.{sharing, servedOf, Shows};
-ghost use Rattle.journal.specs.Edit.{outcomeOf, byParty, rewritten, editBy, undoBy};
-ghost use Rattle.journal.specs.Plan.{carriedOut};
+ghost use Rattle.records.specs.Shared.{sharing, servedOf};
+ghost use Rattle.records.specs.inner.Shows.{Shows};
+ghost use Rattle.journal.specs.Edit.{outcomeOf, byParty, rewritten, editBy, undoBy, actBy};
+ghost use Rattle.journal.specs.inner.Plan.{carriedOut};
 use answer::ACCEPTED;
 use bundle::Halves;
 use form::Edit;
@@ -22,6 +23,12 @@ pub struct Edited {
     pub counts: Counts,
 }
 
+// What a party can do.
+pub enum Act {
+    Edit(Edit),
+    Undo,
+}
+
 // Makes a party's edit, and records its bundle before and after.
 pub fn edit(
     code: &mut [u8],
@@ -32,19 +39,28 @@ pub fn edit(
 ) -> Edited
     ensures { λ r. ⌜ outcomeOf r (now (records .exit)) (now (code .exit)) ≡ editBy (now (code .entry)) (sharing counts (now (records .entry))) party edit ⌝ }
 {
-    let own = records::own_of(counts, records, party);
-    let view = own.view;
-    let plan = plan::edit_plan(code, party, own.places, view, edit);
-    carry_out(code, counts, records, party, own, plan)
+    perform(code, counts, records, party, Act::Edit(edit))
 }
 
 // Writes the old bundle of a party's last record, and frees its place.
 pub fn undo(code: &mut [u8], counts: Counts, records: &mut [Record], party: u64) -> Edited
     ensures { λ r. ⌜ outcomeOf r (now (records .exit)) (now (code .exit)) ≡ undoBy (now (code .entry)) (sharing counts (now (records .entry))) party ⌝ }
 {
+    perform(code, counts, records, party, Act::Undo)
+}
+
+// Does a party's act: it is planned on values, and the plan carried out.
+pub fn perform(
+    code: &mut [u8],
+    counts: Counts,
+    records: &mut [Record],
+    party: u64,
+    act: Act,
+) -> Edited
+    ensures { λ r. ⌜ outcomeOf r (now (records .exit)) (now (code .exit)) ≡ actBy (now (code .entry)) (sharing counts (now (records .entry))) party act ⌝ }
+{
     let own = records::own_of(counts, records, party);
-    let view = own.view;
-    let plan = plan::undo_plan(code, view);
+    let plan = plan::plan_of(code, party, own, act);
     carry_out(code, counts, records, party, own, plan)
 }
 

@@ -1,8 +1,9 @@
-// What `edit` and `undo` decide, on values alone: nothing is written here.
+// What an act decides, on values alone: nothing is written here.
 ghost use mathlib.Core.Path.{_≡_};
 ghost use Rattle.answer.specs.Answer.{first};
 ghost use Rattle.journal.specs.Edit.{roomRefusals, undoRefusals};
-ghost use Rattle.journal.specs.Plan.{refusedPlan, editPlanOf, undoPlanOf};
+ghost use Rattle.journal.specs.inner.Plan.{refusedPlan, editPlanOf, undoPlanOf, planOf};
+use crate::Act;
 use answer::ACCEPTED;
 use answer::BAD_JOURNAL;
 use answer::EMPTY;
@@ -14,6 +15,7 @@ use bundle::Halves;
 use form::Edit;
 use record::NONE;
 use record::Record;
+use records::Own;
 use records::View;
 
 // The answer, the bundle to write, the record to keep and its place, and how many records stand then.
@@ -39,8 +41,19 @@ fn refused(answer: u8) -> Plan
     }
 }
 
+// A party's act, by the code and what the party's journal shows.
+pub fn plan_of(code: &[u8], party: u64, own: Own, act: Act) -> Plan
+    ensures { λ r. ⌜ r ≡ planOf party (now (code .entry)) own act ⌝ }
+{
+    let view = own.view;
+    match act {
+        Act::Edit(edit) => edit_plan(code, party, own.places, view, edit),
+        Act::Undo => undo_plan(code, view),
+    }
+}
+
 // A party's edit keeps its record at the first free one of so many places.
-pub fn edit_plan(code: &[u8], party: u64, places: u64, view: View, edit: Edit) -> Plan
+fn edit_plan(code: &[u8], party: u64, places: u64, view: View, edit: Edit) -> Plan
     ensures { λ r. ⌜ r ≡ editPlanOf party places (now (code .entry)) view edit ⌝ }
 {
     let bundle = edit.bundle;
@@ -95,7 +108,7 @@ fn room_refusal(places: u64, view: View) -> u8
 }
 
 // An undo frees the last record's place.
-pub fn undo_plan(code: &[u8], view: View) -> Plan
+fn undo_plan(code: &[u8], view: View) -> Plan
     ensures { λ r. ⌜ r ≡ undoPlanOf (now (code .entry)) view ⌝ }
 {
     let answer = undo_refusal(code, view);

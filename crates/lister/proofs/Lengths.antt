@@ -1,6 +1,6 @@
 -- How long a listing can be: a number below 10 ^ k has at most k digits, so a bundle's line has at most 56 bytes, and a code
 -- of at most 65,536 bytes has at most 4,096 of them. Assumes nothing.
-use mathlib.Core.List.{List, _++_}
+use mathlib.Core.List.{List}
 use Prim.Native.Nat.{ℕ, zero, suc, _*_, _/_, _%_, _^_, _≤_, _<_}
 use native.Mathlib.Omega.{arith}
 use native.Mathlib.Decide.{ℕ-discrete}
@@ -15,8 +15,8 @@ use Rattle.bundle.proofs.Templates.{marked-most}
 use Rattle.bundle.specs.declared.Bundle.{Bundle}
 use Rattle.text.specs.Decimal.{decimal}
 use Rattle.text.proofs.Numerals.{decimal-length}
-use Rattle.lister.specs.Listing.{header, endOf, lineOf, linesOf, restOf, listOf}
-use Rattle.lister.proofs.Lines.{end-reserved, end-shown, shown-length, line-length, rest-length}
+use Rattle.lister.specs.Listing.{endOf, bundleLine, bundleLines, restOf, listOf}
+use Rattle.lister.proofs.Lines.{end-reserved, end-shown}
 
 record Small (b : Bundle) : Type 0 where
   tag : b .template .tag < 2 ^ 5
@@ -52,30 +52,27 @@ end-most b s =
     elim (ℕ-discrete (b .answer) badBundle) [
       | yes e ↦ rw (end-reserved b e) (lit≤ tt)
       | no d ↦
-          rw (end-shown b d, shown-length b)
-          (omega (arith, s .units, digits13 (getD (b .slots) 0 0) (s .slot0), digits13 (getD (b .slots) 1 0) (s .slot1), digits13 (getD (b .slots) 2 0) (s .slot2)))
+          rw (end-shown b d)
+          (simp length-append (omega (arith, s .units, digits13 (getD (b .slots) 0 0) (s .slot0), digits13 (getD (b .slots) 1 0) (s .slot1), digits13 (getD (b .slots) 2 0) (s .slot2))))
     ]
 
-pub line-most : (code : List ℕ) (n : ℕ) → n < 4096 → length (lineOf n (cutOf code n)) ≤ 56
+pub line-most : (code : List ℕ) (n : ℕ) → n < 4096 → length (bundleLine n (cutOf code n)) ≤ 56
+unfolding bundleLine
 line-most code n h =
     let s = cut-small code n in
-    rw (line-length n (cutOf code n))
-    (omega (arith, decimal-length 3 n (omega arith), decimal-length 1 (cutOf code n .template .tag) (omega (arith, s .tag)), end-most (cutOf code n) s))
+    simp length-append (omega (arith, decimal-length 3 n (omega arith), decimal-length 1 (cutOf code n .template .tag) (omega (arith, s .tag)), end-most (cutOf code n) s))
 
-pub lines-most : (code : List ℕ) (n : ℕ) → n ≤ 4096 → length (linesOf code n) ≤ 56 * n
-unfolding linesOf
+pub lines-most : (code : List ℕ) (n : ℕ) → n ≤ 4096 → length (bundleLines code n) ≤ 56 * n
+unfolding bundleLines
 lines-most code zero h = lit≤ tt
-lines-most code (suc n) h =
-    rw (length-append (linesOf code n) (lineOf n (cutOf code n)))
-    (omega (arith, lines-most code n (omega arith), line-most code n (omega arith)))
+lines-most code (suc n) h = rw length-append (omega (arith, lines-most code n (omega arith), line-most code n (omega arith)))
 
 pub rest-most : (k : ℕ) → k < 16 → length (restOf k) ≤ 8
 unfolding restOf
 rest-most zero h = lit≤ tt
-rest-most (suc k) h = rw (rest-length (suc k) (omega arith)) (omega (arith, decimal-length 1 (suc k) (omega arith)))
+rest-most (suc k) h = simp length-append (omega (arith, decimal-length 1 (suc k) (omega arith)))
 
 pub list-most : (code : List ℕ) → length code ≤ longestCode → length (listOf code) ≤ 229419
 unfolding listOf
 list-most code h =
-    rw (length-append header (linesOf code (length code / 16) ++ restOf (length code % 16)), length-append (linesOf code (length code / 16)) (restOf (length code % 16)))
-    (omega (arith, lines-most code (length code / 16) (omega arith), rest-most (length code % 16) (omega arith)))
+    simp length-append (omega (arith, lines-most code (length code / 16) (omega arith), rest-most (length code % 16) (omega arith)))

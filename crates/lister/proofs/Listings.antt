@@ -9,7 +9,7 @@ use Rattle.bundle.specs.Bundle.{longestCode}
 use Rattle.hex.specs.Hex.{hexBytes}
 use Rattle.hex.specs.declared.Ending.{Ending}
 use Rattle.hex.proofs.Enough.{decisive, enough}
-use Rattle.lister.specs.Listing.{listRefusals, listed, listingOf, Decides}
+use Rattle.lister.specs.Listing.{listRefusals, listingFrom, listingOf, Decides}
 
 pub short-listed : (code : List ℕ) → length code ≤ longestCode → first (listRefusals code) ≡ accepted
 short-listed code h = rw (le-ltb longestCode (length code) h)
@@ -17,9 +17,9 @@ short-listed code h = rw (le-ltb longestCode (length code) h)
 pub long-refused : (code : List ℕ) → longestCode < length code → first (listRefusals code) ≡ tooLong
 long-refused code h = rw (lt-ltb longestCode (length code) h)
 
-pub listing-is : (text : List ℕ) (e : Ending) → hexBytes longestCode text .1 ≡ e → listingOf text ≡ listed (hexBytes longestCode text .0) e
+pub listing-is : (text : List ℕ) (e : Ending) → hexBytes longestCode text .1 ≡ e → listingOf text ≡ listingFrom (hexBytes longestCode text .0) e
 unfolding listingOf
-listing-is text e h = ap (listed (hexBytes longestCode text .0)) h
+listing-is text e h = ap (listingFrom (hexBytes longestCode text .0)) h
 
 pub listing-enough : (text : List ℕ) → Decides (decisive longestCode) text
 unfolding listingOf

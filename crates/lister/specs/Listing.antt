@@ -28,13 +28,13 @@ endOf b =
     (line (markedUnits (b .template) ∷ decimal (getD (b .slots) 0 0) ∷ decimal (getD (b .slots) 1 0) ∷ decimal (getD (b .slots) 2 0) ∷ []))
 
 -- the line of bundle n
-unfoldable pub lineOf : ℕ → Bundle → List ℕ
-lineOf n b = fields (n ∷ b .template .tag ∷ []) (tab ∷ tab ∷ []) ++ endOf b
+unfoldable pub bundleLine : ℕ → Bundle → List ℕ
+bundleLine n b = fields (n ∷ b .template .tag ∷ []) (tab ∷ tab ∷ []) ++ endOf b
 
 -- the lines of the first n bundles of a code
-unfoldable pub linesOf : List ℕ → ℕ → List ℕ
-linesOf code zero = []
-linesOf code (suc n) = linesOf code n ++ lineOf n (cutOf code n)
+unfoldable pub bundleLines : List ℕ → ℕ → List ℕ
+bundleLines code zero = []
+bundleLines code (suc n) = bundleLines code n ++ bundleLine n (cutOf code n)
 
 -- the line of the bytes left over, where there are any
 unfoldable pub restOf : ℕ → List ℕ
@@ -43,21 +43,21 @@ restOf (suc k) = line (ascii "rest" ∷ decimal (suc k) ∷ [])
 
 -- the listing of a code
 unfoldable pub listOf : List ℕ → List ℕ
-listOf code = header ++ (linesOf code (length code / 16) ++ restOf (length code % 16))
+listOf code = header ++ (bundleLines code (length code / 16) ++ restOf (length code % 16))
 
 -- which code isn't listed
 abbrev pub listRefusals : List ℕ → List Refusal
 listRefusals code = (tooLong, ltb longestCode (length code)) ∷ []
 
 -- the listing of the bytes that a text gives, or the one line of its fault
-abbrev pub listed : List ℕ → Ending → List ℕ
-listed code Whole = listOf code
-listed code BadHex = line (ascii "badhex" ∷ [])
-listed code TooLong = line (ascii "toolong" ∷ [])
+abbrev pub listingFrom : List ℕ → Ending → List ℕ
+listingFrom code Whole = listOf code
+listingFrom code BadHex = line (ascii "badhex" ∷ [])
+listingFrom code TooLong = line (ascii "toolong" ∷ [])
 
 -- the listing of a text
 unfoldable pub listingOf : List ℕ → List ℕ
-listingOf text = listed (hexBytes longestCode text .0) (hexBytes longestCode text .1)
+listingOf text = listingFrom (hexBytes longestCode text .0) (hexBytes longestCode text .1)
 
 -- its first n characters decide it
 pub record Decides (n : ℕ) (text : List ℕ) : Type 0 where

@@ -1,7 +1,7 @@
 // The lines of a listing. Each is written at a place and answers the place after it.
 ghost use Rattle.bundle.specs.Template.{marked, markedUnits};
 ghost use Rattle.text.specs.Put.{Put};
-ghost use Rattle.lister.specs.Listing.{endOf, lineOf, restOf};
+ghost use Rattle.lister.specs.Listing.{endOf, bundleLine, restOf};
 use answer::BAD_BUNDLE;
 use bundle::Bundle;
 use bundle::Template;
@@ -14,7 +14,7 @@ use text::put_text;
 
 // The line of bundle `n`.
 pub fn put_line(out: &mut [u8], at: usize, n: u64, bundle: Bundle) -> usize
-    ensures { λ r. ⌜ Put (now (out .entry)) at (lineOf n bundle) (now (out .exit)) r ⌝ }
+    ensures { λ r. ⌜ Put (now (out .entry)) at (bundleLine n bundle) (now (out .exit)) r ⌝ }
 {
     let next = put_fields(out, at, &[n, bundle.template.tag as u64], b"\t\t");
     put_end(out, next, bundle)

@@ -16,7 +16,7 @@ use Rattle.operand.specs.Kind.{ofI64, ofU64}
 use Rattle.operand.specs.declared.Operand.{Operand}
 use Rattle.operand.specs.declared.Operand.the-variants.{ImmI64, ImmU64}
 use Rattle.operand.proofs.Kind.{i64-or-not, u64-or-not}
-use Rattle.meaning.specs.Fits.{SignedFits, Fitting}
+use Rattle.meaning.specs.inner.Fits.{SignedFits, Fitting}
 use Rattle.meaning.specs.Meaning.{means, Is, Bad, signedOf, entry, entryValue, valueOf, rawUp, rawDown, rawSigned, rawAbove, entryOf, placeIn, rawOf}
 use Rattle.meaning.specs.declared.Meaning.{Meaning}
 use Rattle.meaning.specs.declared.Meaning.the-variants.{None as NoMeaning, Unsigned, Signed, Chosen, Complement}
@@ -24,7 +24,7 @@ use Rattle.meaning.specs.declared.Raw.{Raw}
 use Rattle.meaning.proofs.Units.{half, whole-units}
 
 -- what has a raw number passed the test
-not-bad : {raw : ℕ} → Bad ≡ Is raw → ⊥
+pub not-bad : {raw : ℕ} → Bad ≡ Is raw → ⊥
 not-bad e = eqb-false 6 0 refl (ap (λ (r : Raw). r .answer) e)
 
 only-if : (b : Bool) (r : Raw) {raw : ℕ} → cond b r Bad ≡ Is raw → (b ≡ true) × (r ≡ Is raw)
@@ -40,12 +40,10 @@ same-raw e = ap (λ (r : Raw). r .raw) e
 
 -- what has a raw number is of the kind
 of-u64 : (o : Operand) (f : ℕ → Raw) {raw : ℕ} → ofU64 o f Bad ≡ Is raw → (v : ℕ) × (o ≡ ImmU64 v) × (f v ≡ Is raw)
-of-u64 o f e =
-    ⊎-elim (λ k. (k .0, k .1, sym (ap (λ (x : Operand). ofU64 x f Bad) (k .1)) ∙ e)) (λ k. absurd (not-bad (sym k ∙ e))) (u64-or-not o f Bad)
+of-u64 o f e = ⊎-elim (λ k. (k .0, k .1, rw (k .1) at e)) (λ k. absurd (not-bad (sym k ∙ e))) (u64-or-not o f Bad)
 
 of-i64 : (o : Operand) (f : ℤ → Raw) {raw : ℕ} → ofI64 o f Bad ≡ Is raw → (v : ℤ) × (o ≡ ImmI64 v) × (f v ≡ Is raw)
-of-i64 o f e =
-    ⊎-elim (λ k. (k .0, k .1, sym (ap (λ (x : Operand). ofI64 x f Bad) (k .1)) ∙ e)) (λ k. absurd (not-bad (sym k ∙ e))) (i64-or-not o f Bad)
+of-i64 o f e = ⊎-elim (λ k. (k .0, k .1, rw (k .1) at e)) (λ k. absurd (not-bad (sym k ∙ e))) (i64-or-not o f Bad)
 
 -- a value has a raw number, or it is refused
 abbrev Told : Raw → Type 0
@@ -73,16 +71,10 @@ told-place list zero b = told-bad
 told-place list (suc n) b = told-either (eqb (entry list n) b) _ _ (told-is n) (told-place list n b)
 
 told-u64 : (v : Operand) (f : ℕ → Raw) → ((n : ℕ) → Told (f n)) → Told (ofU64 v f Bad)
-told-u64 v f t d =
-    ⊎-elim
-    (λ k. let is = ap (λ (o : Operand). ofU64 o f Bad) (k .1) in is ∙ t (k .0) (λ e. d (ap (λ (r : Raw). r .answer) is ∙ e)))
-    (λ k. k) (u64-or-not v f Bad)
+told-u64 v f t = ⊎-elim (λ k. rw (k .1) (t (k .0))) (λ k d. k) (u64-or-not v f Bad)
 
 told-i64 : (v : Operand) (f : ℤ → Raw) → ((z : ℤ) → Told (f z)) → Told (ofI64 v f Bad)
-told-i64 v f t d =
-    ⊎-elim
-    (λ k. let is = ap (λ (o : Operand). ofI64 o f Bad) (k .1) in is ∙ t (k .0) (λ e. d (ap (λ (r : Raw). r .answer) is ∙ e)))
-    (λ k. k) (i64-or-not v f Bad)
+told-i64 v f t = ⊎-elim (λ k. rw (k .1) (t (k .0))) (λ k d. k) (i64-or-not v f Bad)
 
 pub raw-told : (m : Meaning) (w : ℕ) (v : Operand) → (rawOf m w v .answer ≡ accepted → ⊥) → rawOf m w v ≡ Bad
 raw-told NoMeaning w v = told-bad
@@ -90,14 +82,6 @@ raw-told (Unsigned plus) w v = told-u64 v (rawAbove plus w) (told-above plus w)
 raw-told (Signed unit) w v = told-i64 v (rawSigned unit w) (told-signed unit w)
 raw-told (Chosen signed list) w v = let b = entryOf signed v in told-either (eqb (b .answer) accepted) _ _ (told-place list (2 ^ w) (b .raw)) told-bad
 raw-told (Complement top) w v = told-u64 v (λ n. rawAbove n w top) (λ n. told-above n w top)
-
--- what has a raw number has a meaning
-pub raw-means : (m : Meaning) (w : ℕ) (v : Operand) {raw : ℕ} → rawOf m w v ≡ Is raw → means m ≡ true
-raw-means NoMeaning w v e = absurd (not-bad e)
-raw-means (Unsigned plus) w v e = refl
-raw-means (Signed unit) w v e = refl
-raw-means (Chosen signed list) w v e = refl
-raw-means (Complement top) w v e = refl
 
 -- a number that is so much above another
 above-raw : (low w high raw : ℕ) → low + raw ≡ high → raw < 2 ^ w → rawAbove low w high ≡ Is raw
@@ -122,9 +106,7 @@ some-units unit (suc n) v e = omega arith
 
 module _ (unit w : ℕ) (f : SignedFits unit w) where
   up-raw : (raw : ℕ) → raw < 2 ^ (w - 1) → rawUp unit w (unit * raw) ≡ Is raw
-  up-raw raw h =
-      let e = mul-div-cancel-left raw (f .2) in
-      rw (eq-eqb (unit * raw % unit) 0 (mul-mod-right unit raw), e, lt-ltb raw (2 ^ (w - 1)) h)
+  up-raw raw h = rw (eq-eqb (unit * raw % unit) 0 (mul-mod-right unit raw), mul-div-cancel-left raw (f .2), lt-ltb raw (2 ^ (w - 1)) h)
 
   down-raw : (raw : ℕ) → 2 ^ (w - 1) ≤ raw → raw < 2 ^ w → rawDown unit w (unit * (2 ^ w - raw)) ≡ Is raw
   down-raw raw l h =
@@ -134,15 +116,16 @@ module _ (unit w : ℕ) (f : SignedFits unit w) where
       rw (eq-eqb (unit * n % unit) 0 (mul-mod-right unit n), mul-div-cancel-left n (f .2), le-leb n (2 ^ (w - 1)) m, s)
 
   signed-raw : (raw : ℕ) → raw < 2 ^ w → rawSigned unit w (signedOf unit w raw) ≡ Is raw
-  signed-raw raw h = by-sign (ltb raw (2 ^ (w - 1))) refl
-    where
-      by-sign : (b : Bool) → ltb raw (2 ^ (w - 1)) ≡ b → rawSigned unit w (cond b (pos (unit * raw)) (negsuc (unit * (2 ^ w - raw) - 1))) ≡ Is raw
-      by-sign true e = up-raw raw (ltb-true raw (2 ^ (w - 1)) e)
-      by-sign false e =
-          let some : 1 ≤ 2 ^ w - raw = omega arith in
-          let g : 1 ≤ unit = f .2 in
-          let s : suc (unit * (2 ^ w - raw) - 1) ≡ unit * (2 ^ w - raw) = omega (arith, mul-le-mul-left unit some) in
-          ap (rawDown unit w) s ∙ down-raw raw (ltb-false raw (2 ^ (w - 1)) e) h
+  signed-raw raw h =
+      elim (decLt raw (2 ^ (w - 1))) [
+        | yes l ↦ rw (lt-ltb raw (2 ^ (w - 1)) l) (up-raw raw l)
+        | no l ↦
+            let some : 1 ≤ 2 ^ w - raw = omega arith in
+            let g : 1 ≤ unit = f .2 in
+            let high : 2 ^ (w - 1) ≤ raw = omega arith in
+            let s : suc (unit * (2 ^ w - raw) - 1) ≡ unit * (2 ^ w - raw) = omega (arith, mul-le-mul-left unit some) in
+            rw (le-ltb raw (2 ^ (w - 1)) high) (ap (rawDown unit w) s ∙ down-raw raw high h)
+      ]
 
   signed-value : (z : ℤ) (raw : ℕ) → rawSigned unit w z ≡ Is raw → (raw < 2 ^ w) × (signedOf unit w raw ≡ z)
   signed-value (pos v) raw e =

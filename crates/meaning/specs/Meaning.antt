@@ -6,13 +6,14 @@ use lib.IntN.{ℤ, pos, negsuc}
 use Rattle.answer.specs.Answer.{accepted, badValue}
 use Rattle.bits.specs.Part.{part}
 use Rattle.operand.specs.Kind.{ofI64, ofU64}
-use Rattle.operand.specs.Pattern.{integerOf}
+use Rattle.operand.specs.Pattern.{patternOf, integerOf}
 use Rattle.operand.specs.declared.Operand.{Operand}
 use Rattle.operand.specs.declared.Operand.the-variants.{ImmI64, ImmU64}
 use Rattle.operand.specs.declared.Operand.the-variants.{None as NoOperand}
 use Rattle.meaning.specs.declared.Meaning.{Meaning}
 use Rattle.meaning.specs.declared.Meaning.the-variants.{None, Unsigned, Signed, Chosen, Complement}
 use Rattle.meaning.specs.declared.Raw.{Raw}
+use Rattle.meaning.specs.declared.Taken.{Taken}
 
 -- whether a raw number has a value
 abbrev pub means : Meaning → Bool
@@ -60,6 +61,22 @@ hasSign (Complement top) = false
 abbrev pub operandFor : Meaning → ℕ → Operand
 operandFor m p = patterned (hasSign m) p
 
+-- a pattern that is taken out of its operand, and the refusal of an operand of another kind
+abbrev pub Out : ℕ → Taken
+Out pattern = record { answer = accepted; pattern = pattern }
+
+abbrev pub Other : Taken
+Other = record { answer = badValue; pattern = 0 }
+
+-- the pattern of an immediate, with a sign or without; every other operand is refused
+abbrev pub takenBy : Bool → Operand → Taken
+takenBy true value = ofI64 value (λ v. Out (patternOf v)) Other
+takenBy false value = ofU64 value Out Other
+
+-- the pattern of a value of the kind that a meaning's values have
+abbrev pub takenOf : Meaning → Operand → Taken
+takenOf m value = takenBy (hasSign m) value
+
 -- a value's raw number, and the refusal of a value that has none
 abbrev pub Is : ℕ → Raw
 Is raw = record { answer = accepted; raw = raw }
@@ -78,13 +95,9 @@ abbrev pub rawSigned : ℕ → ℕ → ℤ → Raw
 rawSigned unit w (pos v) = rawUp unit w v
 rawSigned unit w (negsuc v) = rawDown unit w (suc v)
 
--- a raw number that is to have w bits
-abbrev pub within : ℕ → ℕ → Raw
-within w raw = cond (ltb raw (2 ^ w)) (Is raw) Bad
-
--- the raw number that a number is above another
+-- the raw number that a number is above another, which is to have w bits
 abbrev pub rawAbove : ℕ → ℕ → ℕ → Raw
-rawAbove low w high = cond (ltb high low) Bad (within w (high - low))
+rawAbove low w high = cond (ltb high low) Bad (cond (ltb (high - low) (2 ^ w)) (Is (high - low)) Bad)
 
 -- the number of 8 bits of a value, with a sign or without
 abbrev pub entryOf : Bool → Operand → Raw

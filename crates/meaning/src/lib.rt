@@ -3,8 +3,8 @@ ghost use mathlib.Core.Path.{_≡_};
 ghost use mathlib.Core.Bool.{true, false};
 ghost use Prim.Native.Nat.{_≤_, _<_, _^_};
 ghost use Rattle.operand.specs.Pattern.{patternOf, integerOf};
-ghost use Rattle.meaning.specs.Meaning.{signedOf, valueOf, entry, entryValue, patterned, hasSign, operandFor, within, entryOf, placeIn, rawUp, rawDown, rawSigned, rawAbove, rawOf};
-ghost use Rattle.meaning.specs.Fits.{SignedFits, ChosenFits, Fitting, TakenBy, TakenFor};
+ghost use Rattle.meaning.specs.Meaning.{signedOf, valueOf, entry, entryValue, patterned, hasSign, operandFor, takenBy, takenOf, entryOf, placeIn, rawUp, rawDown, rawSigned, rawAbove, rawOf};
+ghost use Rattle.meaning.specs.inner.Fits.{SignedFits, ChosenFits, Fitting};
 use answer::ACCEPTED;
 use answer::BAD_VALUE;
 use operand::Operand;
@@ -87,7 +87,7 @@ const OTHER: Taken = Taken {
 
 // A value of the kind that the meaning's values have.
 pub fn take_out(meaning: Meaning, value: Operand) -> Taken
-    ensures { λ r. ⌜ TakenFor meaning value r ⌝ }
+    ensures { λ r. ⌜ r ≡ takenOf meaning value ⌝ }
 {
     if has_sign(meaning) {
         take_signed(value)
@@ -110,7 +110,7 @@ fn has_sign(meaning: Meaning) -> bool
 }
 
 fn take_signed(value: Operand) -> Taken
-    ensures { λ r. ⌜ TakenBy true value r ⌝ }
+    ensures { λ r. ⌜ r ≡ takenBy true value ⌝ }
 {
     let Operand::ImmI64(v) = value else {
         return OTHER;
@@ -122,7 +122,7 @@ fn take_signed(value: Operand) -> Taken
 }
 
 fn take_unsigned(value: Operand) -> Taken
-    ensures { λ r. ⌜ TakenBy false value r ⌝ }
+    ensures { λ r. ⌜ r ≡ takenBy false value ⌝ }
 {
     let Operand::ImmU64(v) = value else {
         return OTHER;
@@ -158,7 +158,7 @@ pub fn raw_of(meaning: Meaning, width: u32, pattern: u64) -> Raw
     }
 }
 
-// The raw number that a number is above another.
+// The raw number that a number is above another, where it has so many bits.
 fn raw_above(low: u64, width: u32, high: u64) -> Raw
     requires { ⌜ (1 ≤ width) × (width ≤ 64) ⌝ }
     ensures { λ r. ⌜ r ≡ rawAbove low width high ⌝ }
@@ -166,14 +166,7 @@ fn raw_above(low: u64, width: u32, high: u64) -> Raw
     if high < low {
         return BAD;
     }
-    raw_within(width, high - low)
-}
-
-// A raw number that is to have so many bits.
-fn raw_within(width: u32, raw: u64) -> Raw
-    requires { ⌜ (1 ≤ width) × (width ≤ 64) ⌝ }
-    ensures { λ r. ⌜ r ≡ within width raw ⌝ }
-{
+    let raw = high - low;
     if (raw >> (width - 1)) < 2 {
         Raw {
             answer: ACCEPTED,

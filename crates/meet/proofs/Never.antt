@@ -1,7 +1,7 @@
 -- Edits that never meet: those of two bundles, and those that one bundle takes in two of its slots. And whether two meet is the same
 -- whichever of them is named first: each goes through the parts. Assumes nothing.
 use mathlib.Core.Path.{_≡_, refl, sym, ap, ap₂, _∙_}
-use mathlib.Core.Bool.{Bool, true, false, not, _&&_, _||_}
+use mathlib.Core.Bool.{Bool, true, false, not, _&&_, or-comm}
 use mathlib.Core.List.{[], _∷_}
 use Prim.Native.Nat.{ℕ, _+_}
 use native.Mathlib.Decide.{ℕ-discrete}
@@ -33,13 +33,7 @@ other-slot n d e takes-d takes-e differ =
     never (eqb (d .bundle) (e .bundle)) (meetNot (partsOf d) (partsOf e))
     (forms-apart n (e .slot) (e .form) (d .slot) (d .form) (has n e takes-e) (has n d takes-d) (λ s. differ (sym s)))
 
--- two tests in either order, and two pairs of them
-either : (s t : Bool) → (s || t) ≡ (t || s)
-either true true = refl
-either true false = refl
-either false true = refl
-either false false = refl
-
+-- two pairs of tests in either order
 crossed : (s t u v : Bool) → ((s && t) && (u && v)) ≡ ((s && u) && (t && v))
 crossed true true u v = refl
 crossed true false true v = refl
@@ -49,7 +43,7 @@ crossed false t u v = refl
 one-more : (ps : Parts) (q : ℕ × ℕ) (qs : Parts) → meetNot ps (q ∷ qs) ≡ apartFrom q ps && meetNot ps qs
 one-more [] q qs = refl
 one-more (p ∷ ps) q qs =
-    ap₂ (λ (t u : Bool). (t && apartFrom p qs) && u) (either (leb (p .0 + p .1) (q .0)) (leb (q .0 + q .1) (p .0))) (one-more ps q qs)
+    ap₂ (λ (t u : Bool). (t && apartFrom p qs) && u) (or-comm (leb (p .0 + p .1) (q .0)) (leb (q .0 + q .1) (p .0))) (one-more ps q qs)
     ∙ crossed (apart q p) (apartFrom p qs) (apartFrom q ps) (meetNot ps qs)
 
 none : (ps : Parts) → meetNot ps [] ≡ true

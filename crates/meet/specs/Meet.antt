@@ -1,5 +1,5 @@
 -- Whether two edits meet: whether they set a bit in common, by the table alone. A tool asks it before it mixes two files of edits;
--- what holds of edits that don't meet is said in `journal/specs/Order.antt`. Assumes nothing.
+-- what holds of edits that don't meet is said in `demands/specs/Order.antt`. Assumes nothing.
 use Prim.Native.Nat.{ℕ}
 use mathlib.Core.Bool.{Bool, false, not, _&&_}
 use mathlib.Core.List.{List, [], _∷_, _++_}

@@ -1,37 +1,29 @@
 -- A form's name is read where it stands, and what is read stands there: a letter and a decimal, or a dash, told apart by the first byte.
 -- Assumes nothing.
-use mathlib.Core.Path.{_≡_, refl, sym, ap, _∙_, subst}
-use mathlib.Core.Bool.{Bool, true, false, cond, and-eq-true-iff}
+use mathlib.Core.Path.{_≡_, refl, sym, ap, _∙_}
+use mathlib.Core.Bool.{Bool, true, false, and-eq-true-iff}
 use mathlib.Core.List.{List, [], _∷_}
-use Prim.Native.Nat.{ℕ, suc, _+_, _^_, _≤_, _<_}
+use Prim.Native.Nat.{ℕ, suc, _+_, _^_, _<_}
 use native.Mathlib.Nat.{add-zero}
 use native.Mathlib.Omega.{arith}
 use native.Mathlib.Decide.{decLt}
-use lib.Dec.{leb, eqb}
+use lib.Dec.{eqb}
 use lib.ListN.{length, getD, drop, List·getD-eq-default}
 use lib.Seq.{drop-cons, getD-drop}
-use borrow.Author.Tests.{leb-true, le-leb, lt-leb, eqb-true, eqb-false, eq-eqb, ne-eqb}
-use Rattle.form.specs.Form.{noForm, same}
+use borrow.Author.Tests.{le-leb, lt-leb, eqb-true, eqb-false, eq-eqb, ne-eqb}
+use Rattle.form.specs.Form.{noForm, sameForm}
 use Rattle.form.specs.declared.Form.{Form}
 use Rattle.text.specs.Ascii.{within, startsWith}
 use Rattle.text.specs.Decimal.{decimal}
 use Rattle.text.specs.Number.{digitsOf, numberOf}
 use Rattle.text.specs.declared.number.Number.{Number}
 use Rattle.text.specs.declared.number.Number.the-variants as number
-use Rattle.text.proofs.Numbers.{number-none, number-read, number-back}
+use Rattle.text.proofs.Numbers.{bounds, taken, number-none, number-read, number-back}
 use Rattle.text.proofs.RoundTrip.{ended, byte-stands}
 use Rattle.text.proofs.Stands.{Stands, stands, stands-then, stands-parts}
 use Rattle.name.specs.declared.Name.{Name}
 use Rattle.name.specs.declared.Name.the-variants.{Read, Refused}
 use Rattle.name.specs.Name.{isLetter, dash, nameOf, hasName, nameAt, namedAt}
-
--- a letter's bounds, so that it is neither a dash nor a digit
-pub record Letter (c : ℕ) : Type 0 where
-  pub low : 65 ≤ c
-  pub high : c ≤ 90
-
-pub letter : (c : ℕ) → isLetter c ≡ true → Letter c
-letter c e = let b = and-eq-true-iff (leb 65 c) (leb c 90) .0 e in record { low = leb-true 65 c (b .0); high = leb-true c 90 (b .1) }
 
 -- a form's name, by its family
 pub letter-name : (form : Form) → isLetter (form .family) ≡ true → nameOf form ≡ form .family ∷ decimal (form .number)
@@ -68,7 +60,7 @@ module _ (text : List ℕ) (at : ℕ) where
   first = getD text at 0
 
   no-dash : isLetter first ≡ true → first ≡ dash → ⊥
-  no-dash l d = omega (arith, letter first l)
+  no-dash l d = omega (arith, bounds 65 90 first l)
 
   pub name-dash : first ≡ dash → nameAt text at ≡ Read noForm (at + 1)
   unfolding nameAt
@@ -87,10 +79,6 @@ module _ (text : List ℕ) (at : ℕ) where
       pub name-no-number : numberOf text (at + 1) ≡ number.Refused → nameAt text at ≡ Refused
       unfolding nameAt
       name-no-number r = rw (ne-eqb first dash d, l, r)
-
-  pub name-past : length text ≤ at → nameAt text at ≡ Refused
-  unfolding nameAt
-  name-past h = rw (List·getD-eq-default text 0 h)
 
   -- what is read stands there
   module _ (form : Form) (next : ℕ) where
@@ -112,7 +100,7 @@ module _ (text : List ℕ) (at : ℕ) where
         (record {
           named = rw l;
           below = i .below;
-          piece = rw (letter-name (record { family = first; number = n }) l) (stands-then (there first refl (omega (arith, letter first l))) (i .piece));
+          piece = rw (letter-name (record { family = first; number = n }) l) (stands-then (there first refl (omega (arith, bounds 65 90 first l))) (i .piece));
         })
 
     pub name-read : nameAt text at ≡ Read form next → Named text at form next
@@ -126,7 +114,7 @@ module _ (text : List ℕ) (at : ℕ) where
     -- what stands there is read, where no digit comes after it
     letter-back : isLetter (form .family) ≡ true → digitsOf (drop next text) ≡ [] → Named text at form next → nameAt text at ≡ Read form next
     letter-back l z n =
-        let p = stands-parts (form .family ∷ []) (subst (λ (t : List ℕ). Stands text at t next) (letter-name form l) (n .piece)) in
+        let p = stands-parts (form .family ∷ []) (rw (letter-name form l) at (n .piece)) in
         let f : first ≡ form .family = byte-there (form .family) (p .0) in
         let l′ : isLetter first ≡ true = ap isLetter f ∙ l in
         name-number (no-dash l′) l′ (form .number) next (number-back text (at + 1) (form .number) next z (record { below = n .below; piece = p .1 }))
@@ -134,8 +122,8 @@ module _ (text : List ℕ) (at : ℕ) where
 
     dash-back : isLetter (form .family) ≡ false → Named text at form next → nameAt text at ≡ Read form next
     dash-back l n =
-        let p = subst (λ (t : List ℕ). Stands text at t next) (other-name form l) (n .piece) in
-        let f : same form noForm ≡ true = rw l at (n .named) in
+        let p = rw (other-name form l) at (n .piece) in
+        let f : sameForm form noForm ≡ true = rw l at (n .named) in
         let b = and-eq-true-iff (eqb (form .family) 0) (eqb (form .number) 0) .0 f in
         name-dash (byte-there dash p)
         ∙ (λ i. Read (record { family = sym (eqb-true (form .family) 0 (b .0)) i; number = sym (eqb-true (form .number) 0 (b .1)) i }) (sym (p .place) i))
@@ -157,10 +145,10 @@ module _ (text : List ℕ) (at : ℕ) where
     where
       go : (t : Bool) → isLetter (form .family) ≡ t → digitsOf (drop at text) ≡ []
       go true l =
-          let b = letter (form .family) l in
+          let b = bounds 65 90 (form .family) l in
           no-digits (form .family) (decimal (form .number)) (rw (le-leb 48 (form .family) (omega arith), lt-leb (form .family) 57 (omega arith)))
-          (subst (λ (t : List ℕ). Stands text at t next) (letter-name form l) (n .piece))
-      go false l = no-digits dash [] refl (subst (λ (t : List ℕ). Stands text at t next) (other-name form l) (n .piece))
+          (rw (letter-name form l) at (n .piece))
+      go false l = no-digits dash [] refl (rw (other-name form l) at (n .piece))
 
 -- a name and the byte that ends it, in the same two ways
 pub record Ended (text : List ℕ) (at end : ℕ) (form : Form) (next : ℕ) : Type 0 where
@@ -173,16 +161,13 @@ module _ (text : List ℕ) (at end : ℕ) (form : Form) (next : ℕ) where
   unfolding namedAt
   named-read = by-name (nameAt text at) refl
     where
-      by-byte : (f : Form) (middle : ℕ) → Named text at f middle → (t : Bool) → startsWith (end ∷ []) (drop middle text) ≡ t → cond t (Read f (middle + 1)) Refused ≡ Read form next → Ended text at end form next
-      by-byte f middle n false s e = absurd (no-name e)
-      by-byte f middle n true s e =
-          let v : f ≡ form = cc in
-          let p : middle + 1 ≡ next = cc in
-          rw (← v, ← p) (record { middle = middle; name = n; byte = byte-stands text middle end s })
-
       by-name : (m : Name) → nameAt text at ≡ m → namedAt text at end ≡ Read form next → Ended text at end form next
       by-name Refused e f = absurd (no-name (rw e at f))
-      by-name (Read g middle) e f = by-byte g middle (name-read text at g middle e) (startsWith (end ∷ []) (drop middle text)) refl (rw e at f)
+      by-name (Read g middle) e f =
+          let t = taken (startsWith (end ∷ []) (drop middle text)) (rw e at f) no-name in
+          let v : g ≡ form = cc (t .1) in
+          let p : middle + 1 ≡ next = cc (t .1) in
+          rw (← v, ← p) (record { middle = middle; name = name-read text at g middle e; byte = byte-stands text middle end (t .0) })
 
   pub named-back : within 48 57 end ≡ false → Ended text at end form next → namedAt text at end ≡ Read form next
   unfolding namedAt

@@ -4,7 +4,7 @@ use mathlib.Core.Bool.{Bool, cond, _||_}
 use mathlib.Core.List.{List, [], _∷_}
 use lib.Dec.{eqb}
 use lib.ListN.{getD, drop}
-use Rattle.form.specs.Form.{noForm, same}
+use Rattle.form.specs.Form.{noForm, sameForm}
 use Rattle.form.specs.declared.Form.{Form}
 use Rattle.text.specs.Ascii.{within, startsWith}
 use Rattle.text.specs.Decimal.{decimal}
@@ -26,7 +26,7 @@ nameOf form = cond (isLetter (form .family)) (form .family ∷ decimal (form .nu
 
 -- a form that its name tells from all others: one whose family is a letter, and no form
 abbrev pub hasName : Form → Bool
-hasName form = isLetter (form .family) || same form noForm
+hasName form = isLetter (form .family) || sameForm form noForm
 
 -- the form whose name stands at a place, and the place after it
 unfoldable pub nameAt : List ℕ → ℕ → Name

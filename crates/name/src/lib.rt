@@ -76,5 +76,5 @@ pub fn read_field(text: &[u8], at: usize, end: u8) -> Name
 fn is_letter(c: u64) -> bool
     ensures { λ r. ⌜ r ≡ isLetter c ⌝ }
 {
-    form::A <= c && c <= Z
+    (form::A <= c) & (c <= Z)
 }

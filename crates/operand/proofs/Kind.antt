@@ -10,7 +10,7 @@ use lib.IntN.{ℤ}
 use mir.Val.{hasKey}
 use types.Run.{OneOf, miss}
 use denote.Enum.Declared.{tagOf}
-use Rattle.operand.specs.Kind.{Kind, i64, u64, other, kindOf, ifI64, ifU64, ofI64, ofU64}
+use Rattle.operand.specs.Kind.{Kind, other, kindOf, ifI64, ifU64, ofI64, ofU64}
 use Rattle.operand.specs.declared.Operand.{Operand}
 use Rattle.operand.specs.declared.Operand.the-variants.{None, GPRegister, FloatRegister, PredicateRegister, ImmI64, ImmU64, Memory, PSR, «PSR_l», «PSR_um», PR, IP, ApplicationRegister, BranchRegister, ControlRegister, Indirection}
 use Rattle.operand.proofs.Operand.{the-type}

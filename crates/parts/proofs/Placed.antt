@@ -11,7 +11,7 @@ use native.Mathlib.Omega.{arith}
 use borrow.Author.Tests.{ltb-false}
 use lib.Dec.{T, ltb, leb, leb→le, le→leb}
 use mir.Facts.{and-yes, yes-and}
-use Rattle.bits.specs.Parts.{apart, apartFrom, meetNot, within}
+use Rattle.bits.specs.Parts.{apart, apartFrom, meetNot, allBelow}
 use Rattle.bits.proofs.Parts.{sides-apart, apart-within}
 use Rattle.parts.specs.Placed.{standsAt, placed, inWord, inWords}
 use Rattle.parts.specs.declared.Part.{Part}
@@ -22,11 +22,8 @@ at slot p = (standsAt slot (p .place), p .width)
 
 -- no part meets the tag
 pub stands-past : (slot place : ℕ) → 5 ≤ standsAt slot place
-stands-past slot place = by-word (ltb place 64)
-  where
-    by-word : (b : Bool) → 5 ≤ cond b (5 + 41 * slot + place) (46 + (place - 64))
-    by-word true = omega arith
-    by-word false = omega arith
+stands-past slot place =
+    elim (ltb place 64) as (λ b. 5 ≤ cond b (5 + 41 * slot + place) (46 + (place - 64))) [ true ↦ omega arith | false ↦ omega arith ]
 
 pub past-tag : (slot : ℕ) (ps : List Part) (q : ℕ × ℕ) → q .0 + q .1 ≤ 5 → T (apartFrom q (placed slot ps))
 past-tag slot [] q h = tt
@@ -61,24 +58,16 @@ lies long slot p t = by-word (ltb (p .place) 64) refl t
 
 -- a part is narrow, and ends in the bundle
 pub narrow : (p : Part) → T (inWord true p) → p .width < 64
-narrow p t = by-word (lies true 0 p t)
-  where
-    by-word : Lies true 0 (at 0 p) → p .width < 64
-    by-word (own l h) = omega arith
-    by-word (far g l h) = omega arith
+narrow p t = elim (lies true 0 p t) [ own l h ↦ omega arith | far g l h ↦ omega arith ]
 
 pub ends : (slot : ℕ) (p : Part) → slot < 3 → T (inWord true p) → standsAt slot (p .place) + p .width ≤ 128
-ends slot p b t = by-word (lies true slot p t)
-  where
-    by-word : Lies true slot (at slot p) → standsAt slot (p .place) + p .width ≤ 128
-    by-word (own l h) = omega arith
-    by-word (far g l h) = omega arith
+ends slot p b t = elim (lies true slot p t) [ own l h ↦ omega arith | far g l h ↦ omega arith ]
 
-pub within-bundle : (slot : ℕ) (ps : List Part) → slot < 3 → T (inWords true ps) → T (within 128 (placed slot ps))
+pub within-bundle : (slot : ℕ) (ps : List Part) → slot < 3 → T (inWords true ps) → T (allBelow 128 (placed slot ps))
 within-bundle slot [] b t = tt
 within-bundle slot (p ∷ ps) b t =
     let s = and-yes (inWord true p) (inWords true ps) t in
-    yes-and (leb (standsAt slot (p .place) + p .width) 128) (within 128 (placed slot ps)) (le→leb _ _ (ends slot p b (s .0))) (within-bundle slot ps b (s .1))
+    yes-and (leb (standsAt slot (p .place) + p .width) 128) (allBelow 128 (placed slot ps)) (le→leb _ _ (ends slot p b (s .0))) (within-bundle slot ps b (s .1))
 
 -- what lies in other words meets none of the parts
 pub elsewhere : (long : Bool) (slot : ℕ) (ps : List Part) (q : ℕ × ℕ) → T (inWords long ps) → T (apart q (word slot)) → (T long → T (apart q (word 1)))

@@ -9,7 +9,8 @@ use lib.Dec.{T, leb, leb→le, le→leb}
 use lib.ListN.{length, getD, drop}
 use lib.Pow.{pow-mono}
 use lib.Seq.{drop-cons}
-use mir.Facts.{and-yes, yes-and}
+use lib.Ieee.Fits.{and-l, and-r}
+use mir.Facts.{yes-and}
 use Rattle.bits.specs.Part.{part, above, put}
 use Rattle.bits.specs.Parts.{widths, gather, scatter}
 use Rattle.bits.proofs.Parts.{gather-lt, gather-none, scatter-none}
@@ -31,15 +32,13 @@ pub record Reads (p : Part) (after : List Part) : Type 0 where
 
 first-reads : (p : Part) (ps : List Part) → T (readable (p ∷ ps)) → Reads p ps
 first-reads p ps t =
-    let a = and-yes (inWords true (p ∷ ps)) (leb (p .width + widthOf ps) 64) t in
-    let b = and-yes (inWord true p) (inWords true ps) (a .0) in
-    record { in-word = b .0; width-fits = narrow p (b .0); total = leb→le _ _ (a .1) }
+    let own : T (inWord true p) = search (and-l, and-r) in
+    record { in-word = own; width-fits = narrow p own; total = leb→le _ _ (search (and-l, and-r)) }
 
 others-readable : (p : Part) (ps : List Part) → T (readable (p ∷ ps)) → T (readable ps)
 others-readable p ps t =
-    let a = and-yes (inWords true (p ∷ ps)) (leb (p .width + widthOf ps) 64) t in
-    let total = leb→le (p .width + widthOf ps) 64 (a .1) in
-    yes-and (inWords true ps) (leb (widthOf ps) 64) (and-yes (inWord true p) (inWords true ps) (a .0) .1) (le→leb (widthOf ps) 64 (omega arith))
+    let total = leb→le (p .width + widthOf ps) 64 (search (and-l, and-r)) in
+    yes-and (inWords true ps) (leb (widthOf ps) 64) (search (and-l, and-r)) (le→leb (widthOf ps) 64 (omega arith))
 
 pub reads : (ps : List Part) (i : ℕ) → i < length ps → T (readable ps) → Reads (getD ps i noPart) (drop (suc i) ps)
 reads [] i h t = absurd (not-suc-le-zero h)

@@ -1,10 +1,13 @@
 // The calls on the journal's records. These functions alone reach them.
 use crate::command;
 use crate::kept;
-use form::Edit;
+use answer::ACCEPTED;
+use journal::Act;
+use journal::Edited;
 use record::NONE;
 use record::Record;
 use records::Counts;
+use text::Written;
 
 // What a line calls for; where a party does, its number comes first.
 pub enum Call {
@@ -12,14 +15,21 @@ pub enum Call {
     Journal(Counts, u64),
     Place(u64, Record),
     Records,
-    Edit(u64, Edit),
-    Undo(u64),
+    Act(u64, Act),
     Sheet(u64),
     Line(u64, u64),
     Load(u64),
 }
 
-// Makes a call on the parts that the code, the journal and what is lent have.
+// What a call gave.
+pub enum Given {
+    Nothing,
+    Journal(Counts, u64),
+    Edited(Edited),
+    Written(Written),
+}
+
+// Makes a call on the parts that the code, the journal and what is lent have, and keeps what it gave.
 pub fn made(
     call: Call,
     code: &mut [u8],
@@ -30,58 +40,40 @@ pub fn made(
     let length = kept::within(kept, kept::LENGTH, code.len());
     let room = kept::within(kept, kept::LENT, lent.len());
     let places = kept::within(kept, kept::PLACES, records.len());
-    make(
+    let given = make(
         call,
+        kept::counts(kept),
         &mut code[0..length],
         &mut lent[0..room],
-        kept,
         &mut records[0..places],
     );
+    kept::keep(kept, given);
 }
 
 pub fn make(
     call: Call,
+    counts: Counts,
     code: &mut [u8],
     lent: &mut [u8],
-    kept: &mut [u64],
     records: &mut [Record],
-) {
-    let counts = kept::counts(kept);
+) -> Given {
     match call {
-        Call::None => {
-            return;
-        }
+        Call::None => Given::Nothing,
         Call::Journal(counts, places) => {
             clear(records);
-            kept::set_journal(kept, counts, places);
+            Given::Journal(counts, places)
         }
         Call::Place(i, one) => {
             records::put(records, i, one);
+            Given::Nothing
         }
-        Call::Records => {
-            let length = show(records, lent);
-            kept::set(kept, kept::WRITTEN, length as u64);
-        }
-        Call::Edit(party, edit) => {
-            let edited = journal::edit(code, counts, records, party, edit);
-            kept::keep(kept, edited);
-        }
-        Call::Undo(party) => {
-            let undone = journal::undo(code, counts, records, party);
-            kept::keep(kept, undone);
-        }
-        Call::Sheet(party) => {
-            let written = sheet::write(counts, records, party, lent);
-            kept::keep_written(kept, written);
-        }
+        Call::Records => Given::Written(show(records, lent)),
+        Call::Act(party, act) => Given::Edited(journal::perform(code, counts, records, party, act)),
+        Call::Sheet(party) => Given::Written(sheet::write(counts, records, party, lent)),
         Call::Line(party, i) => {
-            let written = sheet::write_line(i, counts, records, party, lent);
-            kept::keep_written(kept, written);
+            Given::Written(sheet::write_line(i, counts, records, party, lent))
         }
-        Call::Load(party) => {
-            let loaded = sheet::load(counts, records, party, lent);
-            kept::keep(kept, loaded);
-        }
+        Call::Load(party) => Given::Edited(sheet::load(counts, records, party, lent)),
     }
 }
 
@@ -94,8 +86,8 @@ pub fn clear(records: &mut [Record]) {
     }
 }
 
-// Writes the places that aren't free, and answers how many bytes that took.
-pub fn show(records: &[Record], out: &mut [u8]) -> usize {
+// Writes the places that aren't free.
+pub fn show(records: &[Record], out: &mut [u8]) -> Written {
     let mut at = 0;
     let mut place = 0;
     while place < records.len() {
@@ -103,5 +95,8 @@ pub fn show(records: &[Record], out: &mut [u8]) -> usize {
         at = command::show_place(i, records::get(records, i), out, at);
         place += 1;
     }
-    at
+    Written {
+        answer: ACCEPTED,
+        length: at,
+    }
 }

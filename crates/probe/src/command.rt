@@ -24,6 +24,7 @@ mod target;
 
 use crate::calls::Call;
 use crate::kept;
+use journal::Act;
 use lines::fields;
 use lines::fields::Six;
 use lines::out;
@@ -162,7 +163,7 @@ fn word(out: &mut [u8], at: usize, command: u64) -> usize {
 fn asked(command: u64, of: Six, rest: &[u8], lent: &mut [u8], kept: &mut [u64]) -> Call {
     match command {
         RECORDS => recorded::asked(kept),
-        UNDO => Call::Undo(of.0),
+        UNDO => Call::Act(of.0, Act::Undo),
         EDIT => edit::asked(of, rest),
         LOAD => load::asked(of.0, rest, lent, kept),
         OPEN => journals::open_asked(of.0),

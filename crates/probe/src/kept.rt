@@ -1,9 +1,8 @@
 // What is kept between the lines, a number at each of these places.
 ghost use Prim.Native.Nat.{_≤_};
-use journal::Edited;
+use crate::calls::Given;
 use records::Counts;
 use tally::NUMBERS;
-use text::Written;
 
 // The most places that a journal has here.
 pub const MOST_PLACES: usize = 2048;
@@ -86,21 +85,25 @@ fn set_counts(kept: &mut [u64], counts: Counts) {
     set(kept, UPPER, counts.upper);
 }
 
-pub fn set_journal(kept: &mut [u64], counts: Counts, places: u64) {
-    set_counts(kept, counts);
-    set(kept, PLACES, places);
-}
-
-// Keeps what an edit, an undo or a load gave.
-pub fn keep(kept: &mut [u64], edited: Edited) {
-    set(kept, ANSWER, edited.answer as u64);
-    set_counts(kept, edited.counts);
-}
-
-// Keeps what writing a sheet or its line gave.
-pub fn keep_written(kept: &mut [u64], written: Written) {
-    set(kept, ANSWER, written.answer as u64);
-    set(kept, WRITTEN, written.length as u64);
+// Keeps what a call on the records gave.
+pub fn keep(kept: &mut [u64], given: Given) {
+    match given {
+        Given::Nothing => {
+            return;
+        }
+        Given::Journal(counts, places) => {
+            set_counts(kept, counts);
+            set(kept, PLACES, places);
+        }
+        Given::Edited(edited) => {
+            set(kept, ANSWER, edited.answer as u64);
+            set_counts(kept, edited.counts);
+        }
+        Given::Written(written) => {
+            set(kept, ANSWER, written.answer as u64);
+            set(kept, WRITTEN, written.length as u64);
+        }
+    }
 }
 
 pub fn report(kept: &[u64]) -> [u64; NUMBERS] {

@@ -46,8 +46,8 @@ abbrev pub acceptedOf : Reading → Operands
 acceptedOf reading = record { answer = accepted; reading = reading }
 
 -- what is said no to, in this order
-abbrev pub answerOf : Form → ℕ → ℕ → ℕ
-answerOf form word l = first ((badForm, not (isForm form)) ∷ (badWord, isBad form word l) ∷ [])
+abbrev pub operandsAnswer : Form → ℕ → ℕ → ℕ
+operandsAnswer form word l = first ((badForm, not (isForm form)) ∷ (badWord, isBad form word l) ∷ [])
 
 unfoldable pub operandsOf : Form → ℕ → ℕ → Operands
-operandsOf form word l = outcome (answerOf form word l) (acceptedOf (readOf form word l)) (refusedOf (answerOf form word l))
+operandsOf form word l = outcome (operandsAnswer form word l) (acceptedOf (readOf form word l)) (refusedOf (operandsAnswer form word l))

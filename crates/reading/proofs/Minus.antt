@@ -11,22 +11,22 @@ use lib.Signed.{mag}
 use mir.Syntax.{w64}
 use mir.Val.{SFits, toZ, ofZ}
 use mir.Facts.{toZ-pos, toZ-ofZ}
-use Rattle.reading.specs.Line.{minus}
+use Rattle.reading.specs.Line.{less}
 
 mag-cond : (b : Bool) (x y : ℕ) {H : ℕ} → x < H → y < H → mag (cond b (negsuc x) (pos y)) < H
 mag-cond true x y p q = p
 mag-cond false x y p q = q
 
-minus-fits : (a b : ℕ) → a < 2 ^ 62 → b < 2 ^ 62 → SFits w64 (minus a b)
+minus-fits : (a b : ℕ) → a < 2 ^ 62 → b < 2 ^ 62 → SFits w64 (less a b)
 minus-fits a zero p q = record { sfits = omega arith }
 minus-fits a (suc b) p q = record { sfits = mag-cond (ltb a (suc b)) (suc b - suc a) (a - suc b) (omega arith) (omega arith) }
 
-minus-is : (a b : ℕ) → pos a -ℤ pos b ≡ minus a b
+minus-is : (a b : ℕ) → pos a -ℤ pos b ≡ less a b
 minus-is a zero = ap pos (add-zero a)
 minus-is a (suc b) = refl
 
 module _ (a b : ℕ) (p : a < 2 ^ 62) (q : b < 2 ^ 62) where
-  taken : toZ w64 a -ℤ toZ w64 b ≡ minus a b
+  taken : toZ w64 a -ℤ toZ w64 b ≡ less a b
   taken =
       let p′ : a < 2 ^ 63 = omega arith in
       let q′ : b < 2 ^ 63 = omega arith in
@@ -35,5 +35,5 @@ module _ (a b : ℕ) (p : a < 2 ^ 62) (q : b < 2 ^ 62) where
   pub difference-fits : SFits w64 (toZ w64 a -ℤ toZ w64 b)
   difference-fits = rw taken (minus-fits a b p q)
 
-  pub difference : toZ w64 (ofZ w64 (toZ w64 a -ℤ toZ w64 b)) ≡ minus a b
+  pub difference : toZ w64 (ofZ w64 (toZ w64 a -ℤ toZ w64 b)) ≡ less a b
   difference = rw taken (toZ-ofZ (minus-fits a b p q))

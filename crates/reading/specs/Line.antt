@@ -42,13 +42,13 @@ width [] = 0
 width (b ∷ bs) = b .0 + width bs
 
 -- x less y, as an integer
-abbrev pub minus : ℕ → ℕ → ℤ
-minus x zero = pos x
-minus x (suc y) = pos x +ℤ negsuc y
+abbrev pub less : ℕ → ℕ → ℤ
+less x zero = pos x
+less x (suc y) = pos x +ℤ negsuc y
 
 -- an immediate with a sign: the number of the bits below the sign, less what the sign counts
 abbrev pub difference : Difference → Operand
-difference d = op.ImmI64 (minus (d .0) (d .1))
+difference d = op.ImmI64 (less (d .0) (d .1))
 
 abbrev pub gp : Bits → Of Operand
 gp b word l = op.GPRegister (record { 0 = b .1 word l })
@@ -126,16 +126,16 @@ each f (e ∷ es) = (e .0, f (e .1)) ∷ each f es
 abbrev pub by : {A B : Type 0} → Bits → List (ℕ × A) → (A → Of B) → Of B → Of B
 by b cases f other word l = select (b .1 word l) (each f cases) other word l
 
-abbrev pub all : List (Of Operand) → Of (List Operand)
-all [] word l = []
-all (f ∷ fs) word l = f word l ∷ all fs word l
+abbrev pub operandsRead : List (Of Operand) → Of (List Operand)
+operandsRead [] word l = []
+operandsRead (f ∷ fs) word l = f word l ∷ operandsRead fs word l
 
 -- those operands, of which the last that is written stands at a position; or none is written
 abbrev pub dest : ℕ → List (Of Operand) → Of Reading
-dest n fs word l = listed (positionOf (some n)) (all fs word l)
+dest n fs word l = listed (positionOf (some n)) (operandsRead fs word l)
 
 abbrev pub no-dest : List (Of Operand) → Of Reading
-no-dest fs word l = listed (positionOf none) (all fs word l)
+no-dest fs word l = listed (positionOf none) (operandsRead fs word l)
 
 -- a family's table: its lines
 abbrev pub Forms : Type 0

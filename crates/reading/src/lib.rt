@@ -3,7 +3,7 @@ ghost use mathlib.Core.Path.{_≡_};
 ghost use mathlib.Core.List.{[], _∷_};
 ghost use Rattle.operand.specs.Reading.{listed};
 ghost use Rattle.reading.specs.Line.{difference};
-ghost use Rattle.reading.specs.Small.{Small};
+ghost use Rattle.reading.specs.inner.Small.{Small};
 use operand::Operand;
 use operand::Position;
 use operand::Reading;

@@ -2,11 +2,11 @@
 -- its halves are the bundle's. Assumes nothing.
 use mathlib.Core.Path.{_≡_, refl, sym, ap, ap₂, _∙_, subst}
 use mathlib.Core.Bool.{Bool, true, false, _&&_, _||_, or-true}
-use mathlib.Core.Logic.{_⊎_, inl, inr}
+use mathlib.Core.Logic.{_⊎_, inl, inr, ⊎-elim}
 use Prim.Native.Nat.{ℕ, _≤_, _<_, _^_}
 use borrow.Author.Tests.{eq-eqb}
-use lib.Dec.{T, eqb, leb, eqb→eq}
-use mir.Facts.{and-yes}
+use lib.Dec.{T, leb, eqb→eq}
+use lib.Ieee.Fits.{and-l, and-r}
 use Rattle.answer.specs.Answer.{accepted, first}
 use Rattle.bundle.specs.Bundle.{halvesOf, whole}
 use Rattle.bundle.specs.declared.half.Halves.{Halves}
@@ -21,7 +21,7 @@ use Rattle.row.proofs.Lettered.{row-lettered}
 use Rattle.immediate.specs.Immediate.{changeRefusals, changedNumber, changedOf}
 use Rattle.immediate.specs.declared.outcome.Changed.{Changed}
 use Rattle.immediate.proofs.Laws.{Stands, stands, changed-answer, changed-taken, change-read, change-sound, change-raw}
-use Rattle.record.specs.Record.{highest, editRecord, wholeRecord, isWhole, sameHalves, noRecord, noHalves, isFree, told, gives, passes, mayStand}
+use Rattle.record.specs.Record.{highest, editRecord, wholeRecord, isWhole, sameHalves, noRecord, noHalves, isFree, recordedEdit, gives, passes, mayStand}
 use Rattle.record.specs.declared.Record.{Record}
 
 -- the same halves, both ways
@@ -30,26 +30,18 @@ same-halves h = ap₂ (λ (a b : Bool). a && b) (eq-eqb (h .low) (h .low) refl) 
 
 pub halves-same : (a b : Halves) → T (sameHalves a b) → a ≡ b
 halves-same a b t =
-    let s = and-yes (eqb (a .low) (b .low)) (eqb (a .high) (b .high)) t in
-    let low = eqb→eq (a .low) (b .low) (s .0) in
-    let high = eqb→eq (a .high) (b .high) (s .1) in
+    let low = eqb→eq (a .low) (b .low) (search (and-l, and-r)) in
+    let high = eqb→eq (a .high) (b .high) (search (and-l, and-r)) in
     λ i. record { low = low i; high = high i }
 
 -- a record of a whole bundle is the one of its bundles
 pub whole-is : (r : Record) → T (isWhole r) → r ≡ wholeRecord (r .party) (r .bundle) (r .old) (r .new)
 whole-is r t =
-    let a = and-yes (eqb (r .slot) 0 && (eqb (r .form .family) 0 && eqb (r .form .number) 0)) (eqb (r .value) 0) t in
-    let b = and-yes (eqb (r .slot) 0) (eqb (r .form .family) 0 && eqb (r .form .number) 0) (a .0) in
-    let c = and-yes (eqb (r .form .family) 0) (eqb (r .form .number) 0) (b .1) in
-    λ i. record {
-      party = r .party;
-      bundle = r .bundle;
-      slot = eqb→eq (r .slot) 0 (b .0) i;
-      form = record { family = eqb→eq (r .form .family) 0 (c .0) i; number = eqb→eq (r .form .number) 0 (c .1) i };
-      value = eqb→eq (r .value) 0 (a .1) i;
-      old = r .old;
-      new = r .new;
-    }
+    let slot = eqb→eq (r .slot) 0 (search (and-l, and-r)) in
+    let family = eqb→eq (r .form .family) 0 (search (and-l, and-r)) in
+    let number = eqb→eq (r .form .number) 0 (search (and-l, and-r)) in
+    let value = eqb→eq (r .value) 0 (search (and-l, and-r)) in
+    λ i. record { party = r .party; bundle = r .bundle; slot = slot i; form = record { family = family i; number = number i }; value = value i; old = r .old; new = r .new }
 
 -- and it passes
 pub whole-passes : (party bundle : ℕ) (old new : Halves) → passes (wholeRecord party bundle old new) ≡ true
@@ -59,32 +51,26 @@ whole-passes party bundle old new = refl
 -- a free place holds no record
 pub free-is-none : (r : Record) → T (isFree r) → r ≡ noRecord
 free-is-none r t =
-    let a = and-yes (isWhole r && eqb (r .party) 0 && eqb (r .bundle) 0 && sameHalves (r .old) noHalves) (sameHalves (r .new) noHalves) t in
-    let b = and-yes (isWhole r && eqb (r .party) 0 && eqb (r .bundle) 0) (sameHalves (r .old) noHalves) (a .0) in
-    let c = and-yes (isWhole r && eqb (r .party) 0) (eqb (r .bundle) 0) (b .0) in
-    let d = and-yes (isWhole r) (eqb (r .party) 0) (c .0) in
-    let party = eqb→eq (r .party) 0 (d .1) in
-    let bundle = eqb→eq (r .bundle) 0 (c .1) in
-    let old = halves-same (r .old) noHalves (b .1) in
-    let new = halves-same (r .new) noHalves (a .1) in
-    whole-is r (d .0) ∙ (λ i. wholeRecord (party i) (bundle i) (old i) (new i))
+    let party = eqb→eq (r .party) 0 (search (and-l, and-r)) in
+    let bundle = eqb→eq (r .bundle) 0 (search (and-l, and-r)) in
+    let old = halves-same (r .old) noHalves (search (and-l, and-r)) in
+    let new = halves-same (r .new) noHalves (search (and-l, and-r)) in
+    whole-is r (search (and-l, and-r)) ∙ (λ i. wholeRecord (party i) (bundle i) (old i) (new i))
 
 -- a record that passes is one of a whole bundle, or its edit is taken
 either : (a b : Bool) → (a || b) ≡ true → (a ≡ true) ⊎ (b ≡ true)
 either true b e = inl refl
 either false b e = inr e
 
-pub passes-by : (r : Record) → passes r ≡ true → (isWhole r ≡ true) ⊎ (first (changeRefusals (whole (r .old)) (told r)) ≡ accepted)
+pub passes-by : (r : Record) → passes r ≡ true → (isWhole r ≡ true) ⊎ (first (changeRefusals (whole (r .old)) (recordedEdit r)) ≡ accepted)
 unfolding passes
-passes-by r e = by (either (isWhole r) (gives changed (r .new)) e)
-  where
-    changed : Changed
-    changed = changedOf (whole (r .old)) (told r)
-
-    by : (isWhole r ≡ true) ⊎ (gives changed (r .new) ≡ true) → (isWhole r ≡ true) ⊎ (first (changeRefusals (whole (r .old)) (told r)) ≡ accepted)
-    by (inl w) = inl w
-    by (inr g) =
-        inr (sym (changed-answer (whole (r .old)) (told r)) ∙ eqb→eq (changed .answer) accepted (and-yes (eqb (changed .answer) accepted) (sameHalves (changed .bundle) (r .new)) (subst T (sym g) tt) .0))
+passes-by r e =
+    let changed = changedOf (whole (r .old)) (recordedEdit r) in
+    ⊎-elim inl
+    (λ g.
+    let t : T (gives changed (r .new)) = subst T (sym g) tt in
+    inr (sym (changed-answer (whole (r .old)) (recordedEdit r)) ∙ eqb→eq (changed .answer) accepted (search (and-l, and-r))))
+    (either (isWhole r) (gives changed (r .new)) e)
 
 -- an edit that a bundle takes
 module _ (n : ℕ) (e : Edit) (taken : first (changeRefusals n e) ≡ accepted) where
@@ -106,7 +92,7 @@ module _ (n : ℕ) (e : Edit) (taken : first (changeRefusals n e) ≡ accepted) 
   edit-pattern = edit-value .1
 
   -- its record tells of it
-  pub edit-told : (party : ℕ) → told (editRecord party n e) ≡ e
+  pub edit-told : (party : ℕ) → recordedEdit (editRecord party n e) ≡ e
   edit-told party = λ i. record { bundle = e .bundle; slot = e .slot; form = e .form; value = edit-value .0 i }
 
   pub edit-passes : (party : ℕ) → n < 2 ^ 128 → passes (editRecord party n e) ≡ true
@@ -120,20 +106,16 @@ module _ (n : ℕ) (e : Edit) (taken : first (changeRefusals n e) ≡ accepted) 
 
 -- a record that passes has no form, or one with a capital letter and a number of at most 48
 pub passes-form : (r : Record) → passes r ≡ true → (r .form ≡ noForm) ⊎ ((65 ≤ r .form .family) × (r .form .family ≤ 90) × (r .form .number ≤ 48))
-passes-form r e = by (passes-by r e)
-  where
-    by : (isWhole r ≡ true) ⊎ (first (changeRefusals (whole (r .old)) (told r)) ≡ accepted)
-        → (r .form ≡ noForm) ⊎ ((65 ≤ r .form .family) × (r .form .family ≤ 90) × (r .form .number ≤ 48))
-    by (inl w) = inl (ap (λ (q : Record). q .form) (whole-is r (subst T (sym w) tt)))
-    by (inr t) = inr (edit-form (whole (r .old)) (told r) t)
+passes-form r e =
+    ⊎-elim (λ w. inl (ap (λ (q : Record). q .form) (whole-is r (subst T (sym w) tt)))) (λ t. inr (edit-form (whole (r .old)) (recordedEdit r) t)) (passes-by r e)
 
 -- a record that may stand in a party's journal
 module _ (party : ℕ) (r : Record) (m : T (mayStand party r)) where
   pub may-near : T (leb (r .bundle) highest)
-  may-near = and-yes (leb (r .bundle) highest) (passes r && eqb (r .party) party) m .0
+  may-near = search (and-l, and-r)
 
   pub may-passes : T (passes r)
-  may-passes = and-yes (passes r) (eqb (r .party) party) (and-yes (leb (r .bundle) highest) (passes r && eqb (r .party) party) m .1) .0
+  may-passes = search (and-l, and-r)
 
   pub may-party : r .party ≡ party
-  may-party = eqb→eq (r .party) party (and-yes (passes r) (eqb (r .party) party) (and-yes (leb (r .bundle) highest) (passes r && eqb (r .party) party) m .1) .1)
+  may-party = eqb→eq (r .party) party (search (and-l, and-r))

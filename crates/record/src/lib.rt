@@ -83,7 +83,7 @@ fn passes(one: Record) -> bool
     }
     let old = one.old;
     let form = one.form;
-    let changed = immediate::change_told(old, one.slot, form, one.value);
+    let changed = immediate::change_by_pattern(old, one.slot, form, one.value);
     let made = changed.bundle;
     let new = one.new;
     (changed.answer == ACCEPTED) & same_halves(made, new)

@@ -1,54 +1,42 @@
 -- The laws of a journal that parties share. A party that it serves is 0 or 1, so each law is one of the lower part and one of the upper: a
 -- part is lent and put back, and the other is what it was. Assumes nothing.
 use mathlib.Core.Path.{_≡_, refl, sym, ap, ap₂, _∙_, subst}
-use mathlib.Core.Bool.{Bool, true, false, cond, not, _&&_, _||_}
-use mathlib.Core.List.{List, [], _∷_, _++_, append-nil}
-use mathlib.Core.Logic.{_⊎_, inl, inr}
+use mathlib.Core.Bool.{Bool, true, false, cond, _&&_}
+use mathlib.Core.List.{List, [], _++_, append-nil}
+use mathlib.Core.Logic.{_⊎_, inl, inr, ⊎-elim}
 use Prim.Native.Nat.{ℕ, zero, suc, _+_, _-_, _≤_, _<_}
+use native.Mathlib.Decide.{decLt}
 use native.Mathlib.Omega.{arith}
-use borrow.Author.Tests.{ltb-true, lt-ltb, eq-eqb}
+use borrow.Author.Tests.{ltb-true, lt-ltb}
 use borrow.Rule.Slice.PartMut.{midOf, postOf, putMid}
-use lib.Dec.{T, eqb, leb, ltb, leb·zero, eqb·zero-suc, eqb→eq}
-use lib.ListN.{length, getD, take, drop, replicate, length-take, length-drop, length-replicate, take-append-drop, drop-of-length-le}
+use lib.Dec.{T, eqb, ltb, leb·zero, eqb·zero-suc, eqb→eq}
+use lib.ListN.{length, getD, take, drop, length-take, length-drop, take-append-drop, drop-of-length-le}
 use lib.Seq.{getD-take, getD-drop, take-all, take-at, drop-at, length-take-le}
-use mir.Facts.{and-yes, yes-and, or-yes}
-use Rattle.record.specs.Record.{noRecord, mayStand, isHeld}
+use mir.Facts.{and-yes, or-yes}
+use denote.Floats.{is-true}
+use Rattle.record.specs.Record.{noRecord, fits64}
 use Rattle.record.specs.declared.Record.{Record}
-use Rattle.records.specs.Journal.{Journal, limit, lent, all, standing, journalOf, validOf, shown, viewOf, recordAt}
-use Rattle.records.specs.Shared.{Shared, seam, sharing, firstOf, placesOf, countOf, withCount, ownOf, withOwn, isOpened, openedFor, fresh, sharedValid, serves, servedOf, ownView, HeldBy, Lent, Shows, OpenedIsFresh, FreshServes, SharingDecides}
+use Rattle.records.specs.Journal.{Journal, limit, lent, all, standing, journalOf, validOf, viewIf, viewOf, recordAt}
+use Rattle.records.specs.Shared.{Shared, seam, sharing, firstOf, placesOf, countOf, ownOf, withOwn, isOpened, fresh, sharedValid, serves, servedOf, SharedFits64, OpenedIsFresh, FreshServes, SharingInjective}
+use Rattle.records.specs.inner.Shows.{withCount, ownView, Shows}
 use Rattle.records.specs.declared.Counts.{Counts}
 use Rattle.records.specs.declared.Own.{Own}
 use Rattle.records.specs.declared.View.{View}
 use Rattle.records.proofs.Standing.{journal-valid, valid-places, view-shown, view-shows, view-counts}
-
-is-true : (t : Bool) → T t → t ≡ true
-is-true true u = refl
-is-true false u = absurd u
 
 pub both : (a b : Bool) → (a && b) ≡ true → (a ≡ true) × (b ≡ true)
 both a b e = let t = and-yes a b (subst T (sym e) tt) in (is-true a (t .0), is-true b (t .1))
 
 -- the upper part begins at the last place or before it
 pub seam-within : (parties : ℕ) → seam parties ≤ limit
-seam-within parties = go (eqb parties 2)
-  where
-    go : (t : Bool) → cond t 512 limit ≤ limit
-    go true = omega arith
-    go false = omega arith
+seam-within parties = elim (eqb parties 2) as (λ t. cond t 512 limit ≤ limit) [ true ↦ omega arith | false ↦ omega arith ]
 
 pub places-within : (parties party : ℕ) → placesOf parties party ≤ limit
-places-within parties party = go (eqb party 0)
-  where
-    go : (t : Bool) → cond t (seam parties) (limit - seam parties) ≤ limit
-    go true = seam-within parties
-    go false = omega (arith, seam-within parties)
+places-within parties party =
+    elim (eqb party 0) as (λ t. cond t (seam parties) (limit - seam parties) ≤ limit) [ true ↦ seam-within parties | false ↦ omega arith ]
 
 opened-is : (parties : ℕ) → isOpened parties ≡ true → (parties ≡ 1) ⊎ (parties ≡ 2)
-opened-is parties e = go (or-yes (eqb parties 1) (eqb parties 2) (subst T (sym e) tt))
-  where
-    go : T (eqb parties 1) ⊎ T (eqb parties 2) → (parties ≡ 1) ⊎ (parties ≡ 2)
-    go (inl t) = inl (eqb→eq parties 1 t)
-    go (inr t) = inr (eqb→eq parties 2 t)
+opened-is parties e = ⊎-elim (λ t. inl (eqb→eq parties 1 t)) (λ t. inr (eqb→eq parties 2 t)) (or-yes (eqb parties 1) (eqb parties 2) (subst T (sym e) tt))
 
 -- what a journal is that serves a party
 pub record Serving (s : Shared) (party : ℕ) : Type 0 where
@@ -75,19 +63,11 @@ module _ (s : Shared) (party : ℕ) where
 -- a party that is served is 0 or, of two, 1
 module _ (s : Shared) (party : ℕ) (v : Serving s party) where
   party-is : (party ≡ 0) ⊎ ((party ≡ 1) × (s .parties ≡ 2))
-  party-is = go party (v .known) (opened-is (s .parties) (v .opened))
-    where
-      go : (party : ℕ) → party < s .parties → (s .parties ≡ 1) ⊎ (s .parties ≡ 2) → (party ≡ 0) ⊎ ((party ≡ 1) × (s .parties ≡ 2))
-      go zero k o = inl refl
-      go (suc n) k (inl e) = absurd (let h : suc n < s .parties = k in omega arith)
-      go (suc n) k (inr e) = inr (let h : suc n < s .parties = k in omega arith, e)
+  party-is =
+      ⊎-elim (λ e. inl (omega arith)) (λ e. elim (decLt party 1) [ yes h ↦ inl (omega arith) | no h ↦ inr (omega arith, e) ]) (opened-is (s .parties) (v .opened))
 
   pub by-party : (P : ℕ → Type 0) → P 0 → (s .parties ≡ 2 → P 1) → P party
-  by-party P lower upper = go party-is
-    where
-      go : (party ≡ 0) ⊎ ((party ≡ 1) × (s .parties ≡ 2)) → P party
-      go (inl e) = subst P (sym e) lower
-      go (inr e) = subst P (sym (e .0)) (upper (e .1))
+  by-party P lower upper = ⊎-elim (λ e. subst P (sym e) lower) (λ e. subst P (sym (e .0)) (upper (e .1))) party-is
 
   pub own-valid : validOf party (placesOf (s .parties) party) (ownOf s party) ≡ true
   own-valid = by-party (λ q. validOf q (placesOf (s .parties) q) (ownOf s q) ≡ true) (v .lower-valid) (λ _. v .upper-valid)
@@ -112,17 +92,14 @@ module _ (s : Shared) (party : ℕ) where
   not-valid (suc n) = rw (eqb·zero-suc n)
 
   -- it shows nothing where it doesn't serve the party
-  pub not-shown : (places : ℕ) → serves s party ≡ false → viewOf party places (servedOf s party) ≡ shown false 0 noRecord
+  pub not-shown : (places : ℕ) → serves s party ≡ false → viewOf party places (servedOf s party) ≡ viewIf false 0 noRecord
   unfolding servedOf
   not-shown places e = rw (e, view-shown party places (lent 1 []), not-valid places)
 
   -- and where it shows a valid one it serves it
   pub shown-serves : (places : ℕ) → viewOf party places (servedOf s party) .valid ≡ true → serves s party ≡ true
-  shown-serves places v = go (serves s party) refl
-    where
-      go : (t : Bool) → serves s party ≡ t → t ≡ true
-      go true e = refl
-      go false e = sym (ap (λ (w : View). w .valid) (not-shown places e)) ∙ v
+  shown-serves places v =
+      (elim (serves s party) as (λ t. serves s party ≡ t → t ≡ true) [ true ↦ λ e. refl | false ↦ λ e. sym (ap (λ (w : View). w .valid) (not-shown places e)) ∙ v ]) refl
 
 -- the slice that a valid journal is in
 module _ (c : Counts) (rs : List Record) where
@@ -131,14 +108,7 @@ module _ (c : Counts) (rs : List Record) where
       let n = seam (c .parties) in
       let l = valid-places 0 n (lent (c .lower) (take n rs)) (v .lower-valid) in
       let u = valid-places 1 (limit - n) (lent (c .upper) (drop n rs)) (v .upper-valid) in
-      let few = seam-within (c .parties) in
-      let taken : length (take n rs) ≤ length rs = take-most n rs in
-      omega (arith, l, u, length-drop n rs, few, taken)
-    where
-      take-most : (n : ℕ) (rs : List Record) → length (take n rs) ≤ length rs
-      take-most zero rs = omega arith
-      take-most (suc n) [] = omega arith
-      take-most (suc n) (r ∷ rs) = omega (arith, take-most n rs)
+      omega (arith, l, u, length-take n rs, length-drop n rs, seam-within (c .parties))
 
   -- a party's part of it
   module _ (party : ℕ) (v : Serving (sharing c rs) party) where
@@ -162,11 +132,9 @@ module _ (c : Counts) (rs : List Record) where
 
     pub own-some : 0 < places
     own-some =
-        by-party (sharing c rs) party v (λ q. 0 < placesOf (c .parties) q) (go (eqb (c .parties) 2)) (λ e. rw e (omega arith))
-      where
-        go : (t : Bool) → 0 < cond t 512 limit
-        go true = omega arith
-        go false = omega arith
+        by-party (sharing c rs) party v (λ q. 0 < placesOf (c .parties) q)
+        (elim (eqb (c .parties) 2) as (λ t. 0 < cond t 512 limit) [ true ↦ omega arith | false ↦ omega arith ])
+        (λ e. rw e (omega arith))
 
     pub own-reads : (i : ℕ) → i < places → getD rs (first + i) noRecord ≡ recordAt (ownOf (sharing c rs) party) i
     own-reads i =
@@ -198,8 +166,8 @@ module _ (c : Counts) (rs : List Record) where
         λ i. record { parties = c .parties; lower = lent (c .lower) (lower i); upper = lent n (upper i) })
 
     -- its records are of the code
-    pub own-held : HeldBy (sharing c rs) → T (all isHeld (standing (ownOf (sharing c rs) party)))
-    own-held h = by-party (sharing c rs) party v (λ q. T (all isHeld (standing (ownOf (sharing c rs) q)))) (h .lower) (λ _. h .upper)
+    pub own-held : SharedFits64 (sharing c rs) → T (all fits64 (standing (ownOf (sharing c rs) party)))
+    own-held h = by-party (sharing c rs) party v (λ q. T (all fits64 (standing (ownOf (sharing c rs) q)))) (h .lower) (λ _. h .upper)
 
 -- a party's part as it is shown to a call, where the journal serves the party
 module _ (c : Counts) (rs : List Record) (party : ℕ) (o : Own) (is : o ≡ ownView (sharing c rs) party) (served : serves (sharing c rs) party ≡ true) where
@@ -224,8 +192,8 @@ module _ (c : Counts) (rs : List Record) (party : ℕ) (o : Own) (is : o ≡ own
   pub served-valid : validOf party (placesOf (c .parties) party) (servedOf s party) ≡ true
   served-valid = ap (validOf party (placesOf (c .parties) party)) (served-own s party served) ∙ own-valid s party it-serves
 
-  pub served-held : HeldBy s → T (all isHeld (standing (servedOf s party)))
-  served-held h = subst (λ (j : Journal). T (all isHeld (standing j))) (sym (served-own s party served)) (own-held c rs party it-serves h)
+  pub served-held : SharedFits64 s → T (all fits64 (standing (servedOf s party)))
+  served-held h = subst (λ (j : Journal). T (all fits64 (standing j))) (sym (served-own s party served)) (own-held c rs party it-serves h)
 
   -- lent, it is the party's journal
   pub part-lent : midOf (o .first) (o .first + o .places - o .first) rs ≡ servedOf s party .records
@@ -245,7 +213,7 @@ module _ (c : Counts) (rs : List Record) (party : ℕ) (o : Own) (is : o ≡ own
   part-put n ys long = (λ i. sharing (withCount c party n) (putMid (part-first i) (part-places i) rs ys)) ∙ own-put c rs party it-serves n ys long
 
 -- what a call is shown of its part, said once for all calls
-pub shows : (c : Counts) (rs : List Record) (party : ℕ) (o : Own) → o ≡ ownView (sharing c rs) party → (serves (sharing c rs) party ≡ true → HeldBy (sharing c rs)) → Shows c rs party o
+pub shows : (c : Counts) (rs : List Record) (party : ℕ) (o : Own) → o ≡ ownView (sharing c rs) party → (serves (sharing c rs) party ≡ true → SharedFits64 (sharing c rs)) → Shows c rs party o
 shows c rs party o is held =
     let s = sharing c rs in
     let n = placesOf (c .parties) party in
@@ -268,11 +236,7 @@ shows c rs party o is held =
 -- free places
 pub opened-is-fresh : OpenedIsFresh
 unfolding fresh journalOf
-opened-is-fresh parties e = go (opened-is parties e)
-  where
-    go : (parties ≡ 1) ⊎ (parties ≡ 2) → sharing (openedFor parties) (replicate limit noRecord) ≡ fresh parties
-    go (inl e) = rw e
-    go (inr e) = rw e
+opened-is-fresh parties e = ⊎-elim (λ e. rw e) (λ e. rw e) (opened-is parties e)
 
 pub fresh-serves : FreshServes
 unfolding fresh
@@ -283,8 +247,8 @@ fresh-serves parties party opened known =
     none-stand : (party places : ℕ) → validOf party places (journalOf places []) ≡ true
     none-stand party places = journal-valid party places [] ∙ ap (λ (t : Bool). t && true) (leb·zero places)
 
-pub sharing-decides : SharingDecides
-sharing-decides c d rs qs e =
+pub sharing-injective : SharingInjective
+sharing-injective c d rs qs e =
     let parties = ap (λ (s : Shared). s .parties) e in
     let lower = ap (λ (s : Shared). s .lower) e in
     let upper = ap (λ (s : Shared). s .upper) e in (

@@ -10,11 +10,12 @@ use borrow.Author.Tests.{leb-true, eq-eqb}
 use lib.Dec.{T, eqb, leb, leb→le, eqb→eq}
 use lib.ListN.{length, getD, set, take, drop, replicate, length-append, length-replicate, length-drop, take-append-drop}
 use lib.Seq.{set-at, take-suc, take-append-seam, drop-append-seam, length-take-le}
+use lib.Ieee.Fits.{and-l, and-r}
 use mir.Facts.{and-yes}
 use Rattle.record.specs.Record.{noRecord, isFree, mayStand}
 use Rattle.record.specs.declared.Record.{Record}
 use Rattle.record.proofs.Laws.{free-is-none}
-use Rattle.records.specs.Journal.{Journal, all, standing, journalOf, validOf, shown, viewOf, recordAt, withRecord, JournalStands, JournalValid, ValidIsJournal, JournalReads, JournalPushes, JournalPops}
+use Rattle.records.specs.Journal.{Journal, all, standing, journalOf, validOf, viewIf, viewOf, recordAt, withRecord, JournalStands, JournalValid, ValidIsJournal, JournalReads, JournalPushes, JournalPops}
 use Rattle.records.specs.declared.View.{View}
 
 -- the free ones of so many places after n records
@@ -73,16 +74,14 @@ pub valid-is-journal : ValidIsJournal
 unfolding validOf standing journalOf
 valid-is-journal party places j v =
     let rs = j .records in
-    let t = and-yes (eqb (length rs) places && leb (j .count) places && all (mayStand party) (take (j .count) rs)) (all isFree (drop (j .count) rs)) (subst T (sym v) tt) in
-    let u = and-yes (eqb (length rs) places && leb (j .count) places) (all (mayStand party) (take (j .count) rs)) (t .0) in
-    let w = and-yes (eqb (length rs) places) (leb (j .count) places) (u .0) in
-    let long : length rs ≡ places = eqb→eq (length rs) places (w .0) in
-    let few : j .count ≤ places = leb→le (j .count) places (w .1) in
+    let t : T (validOf party places j) = subst T (sym v) tt in
+    let long : length rs ≡ places = eqb→eq (length rs) places (search (and-l, and-r)) in
+    let few : j .count ≤ places = leb→le (j .count) places (search (and-l, and-r)) in
     let count : length (take (j .count) rs) ≡ j .count = length-take-le (j .count) rs (omega arith) in
     let left : places - length (take (j .count) rs) ≡ length (drop (j .count) rs) = omega (arith, length-drop (j .count) rs) in
     let records =
     ap (λ (n : ℕ). take (j .count) rs ++ replicate n noRecord) left
-    ∙ ap (λ (qs : List Record). take (j .count) rs ++ qs) (sym (free-are-none (drop (j .count) rs) (t .1)))
+    ∙ ap (λ (qs : List Record). take (j .count) rs ++ qs) (sym (free-are-none (drop (j .count) rs) (search (and-l, and-r))))
     ∙ take-append-drop (j .count) rs in
     λ i. record { count = count i; records = records i }
 
@@ -140,11 +139,9 @@ last-at (r ∷ rs) = let n : length rs ≡ length (r ∷ rs) - 1 = omega arith i
 
 pub journal-pops : JournalPops
 unfolding journalOf
-journal-pops places [] h = ap (λ (rs : List Record). record { count = 0; records = rs }) (still-free (places - 0))
-  where
-    still-free : (n : ℕ) → set (replicate n noRecord) 0 noRecord ≡ replicate n noRecord
-    still-free zero = refl
-    still-free (suc n) = refl
+journal-pops places [] h =
+    ap (λ (rs : List Record). record { count = 0; records = rs })
+    (elim (places - 0) as (λ n. set (replicate n noRecord) 0 noRecord ≡ replicate n noRecord) [ zero ↦ refl | suc n ↦ refl ])
 journal-pops places (r ∷ rs) h =
     let qs = dropLast (r ∷ rs) in
     let long : length (r ∷ rs) - 1 ≡ length qs = omega (arith, drop-last-length r rs) in
@@ -167,10 +164,8 @@ module _ (party places : ℕ) (j : Journal) (v : validOf party places j ≡ true
   pub valid-places : length (j .records) ≡ places
   unfolding validOf
   valid-places =
-      let rs = j .records in
-      let t = and-yes (eqb (length rs) places && leb (j .count) places && all (mayStand party) (standing j)) (all isFree (drop (j .count) rs)) (subst T (sym v) tt) in
-      let u = and-yes (eqb (length rs) places && leb (j .count) places) (all (mayStand party) (standing j)) (t .0) in
-      eqb→eq (length rs) places (and-yes (eqb (length rs) places) (leb (j .count) places) (u .0) .0)
+      let t : T (validOf party places j) = subst T (sym v) tt in
+      eqb→eq (length (j .records)) places (search (and-l, and-r))
 
   valid-tests : T (leb (length (standing j)) places) × T (all (mayStand party) (standing j))
   valid-tests =
@@ -195,13 +190,11 @@ module _ (party places : ℕ) (j : Journal) (v : validOf party places j ≡ true
   valid-view = rw v (λ i. record { valid = true; count = sym valid-counts i; last = sym valid-last i })
 
 -- what is shown of any journal, by its places
-pub view-shown : (party places : ℕ) (j : Journal) → viewOf party places j ≡ shown (validOf party places j) (j .count) (recordAt j (j .count - 1))
+pub view-shown : (party places : ℕ) (j : Journal) → viewOf party places j ≡ viewIf (validOf party places j) (j .count) (recordAt j (j .count - 1))
 unfolding viewOf
-view-shown party places j = go (validOf party places j) refl
-  where
-    go : (t : Bool) → validOf party places j ≡ t → viewOf party places j ≡ shown t (j .count) (recordAt j (j .count - 1))
-    go true v = valid-view party places j v
-    go false v = rw v
+view-shown party places j =
+    (elim (validOf party places j) as (λ t. validOf party places j ≡ t → viewOf party places j ≡ viewIf t (j .count) (recordAt j (j .count - 1)))
+    [ true ↦ valid-view party places j | false ↦ λ v. rw v ]) refl
 
 -- a valid one shows its count
 pub view-counts : (party places : ℕ) (j : Journal) → validOf party places j ≡ true → viewOf party places j .count ≡ j .count
@@ -215,11 +208,8 @@ journal-shows party places rs v = rw (v, journal-stands)
 -- a journal shows whether it is valid
 pub view-shows : (party places : ℕ) (j : Journal) → viewOf party places j .valid ≡ validOf party places j
 unfolding viewOf
-view-shows party places j = go (validOf party places j)
-  where
-    go : (t : Bool) → shown t (length (standing j)) (getLastD (standing j) noRecord) .valid ≡ t
-    go true = refl
-    go false = refl
+view-shows party places j =
+    elim (validOf party places j) as (λ t. viewIf t (length (standing j)) (getLastD (standing j) noRecord) .valid ≡ t) [ true ↦ refl | false ↦ refl ]
 
 -- a journal that is shown as valid
 module _ (party places : ℕ) (j : Journal) (v : viewOf party places j .valid ≡ true) where

@@ -42,11 +42,11 @@ unfoldable pub validOf : ℕ → ℕ → Journal → Bool
 validOf party places j = eqb (length (j .records)) places && leb (j .count) places && all (mayStand party) (standing j) && all isFree (drop (j .count) (j .records))
 
 -- what is shown of a journal: that it is valid, how many records stand and the last of them; nothing of one that isn't valid
-abbrev pub shown : Bool → ℕ → Record → View
-shown valid count last = cond valid (record { valid = true; count = count; last = last }) (record { valid = false; count = 0; last = noRecord })
+abbrev pub viewIf : Bool → ℕ → Record → View
+viewIf valid count last = cond valid (record { valid = true; count = count; last = last }) (record { valid = false; count = 0; last = noRecord })
 
 unfoldable pub viewOf : ℕ → ℕ → Journal → View
-viewOf party places j = shown (validOf party places j) (length (standing j)) (getLastD (standing j) noRecord)
+viewOf party places j = viewIf (validOf party places j) (length (standing j)) (getLastD (standing j) noRecord)
 
 -- the record at a place
 abbrev pub recordAt : Journal → ℕ → Record

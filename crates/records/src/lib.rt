@@ -5,9 +5,10 @@ ghost use mathlib.Core.Bool.{true, false};
 ghost use Prim.Native.Nat.{_-_, _<_};
 ghost use lib.Dec.{T, eqb};
 ghost use lib.ListN.{length, getD, set, replicate};
-ghost use Rattle.record.specs.Record.{noRecord, isFree, mayStand, isHeld};
-ghost use Rattle.records.specs.Journal.{limit, lent, all, standing, validOf, shown};
-ghost use Rattle.records.specs.Shared.{sharing, seam, isOpened, serves, shareOf, withCount, openedFor, HeldBy, Shows};
+ghost use Rattle.record.specs.Record.{noRecord, isFree, mayStand, fits64};
+ghost use Rattle.records.specs.Journal.{limit, lent, all, standing, validOf, viewIf};
+ghost use Rattle.records.specs.Shared.{sharing, seam, isOpened, serves, openedFor, SharedFits64};
+ghost use Rattle.records.specs.inner.Shows.{shareOf, withCount, Shows};
 use record::NONE;
 use record::Record;
 
@@ -106,14 +107,14 @@ pub fn put(records: &mut [Record], place: u64, one: Record)
 }
 
 fn stands(party: u64, one: Record) -> bool
-    ensures { λ r. ⌜ (r ≡ mayStand party one) × T (isHeld one) ⌝ }
+    ensures { λ r. ⌜ (r ≡ mayStand party one) × T (fits64 one) ⌝ }
 {
     record::may_stand(party, one)
 }
 
 // Whether each of some records may stand in a party's journal.
 fn all_stand(party: u64, records: &[Record]) -> bool
-    ensures { λ r. ⌜ (r ≡ all (mayStand party) (now (records .entry))) × T (all isHeld (now (records .entry))) ⌝ }
+    ensures { λ r. ⌜ (r ≡ all (mayStand party) (now (records .entry))) × T (all fits64 (now (records .entry))) ⌝ }
 {
     let mut stand = true;
     let mut place = 0;
@@ -141,7 +142,7 @@ fn all_free(records: &[Record]) -> bool
 
 // Whether a party's journal has places for its count, the records that stand may, and the places past the count are free.
 fn is_valid(party: u64, count: u64, records: &[Record]) -> bool
-    ensures { λ r. ⌜ (r ≡ validOf party (length (now (records .entry))) (lent count (now (records .entry)))) × (r ≡ true → T (all isHeld (standing (lent count (now (records .entry)))))) ⌝ }
+    ensures { λ r. ⌜ (r ≡ validOf party (length (now (records .entry))) (lent count (now (records .entry)))) × (r ≡ true → T (all fits64 (standing (lent count (now (records .entry)))))) ⌝ }
 {
     if records.len() < count as usize {
         return false;
@@ -161,7 +162,7 @@ fn seam_of(parties: u64) -> u64
 
 // Whether the slice is of `LIMIT` records, it was opened for one party or two, each one's journal is valid, and the party is one of them.
 fn is_served(counts: Counts, records: &[Record], party: u64) -> bool
-    ensures { λ r. ⌜ (r ≡ serves (sharing counts (now (records .entry))) party) × (r ≡ true → HeldBy (sharing counts (now (records .entry)))) ⌝ }
+    ensures { λ r. ⌜ (r ≡ serves (sharing counts (now (records .entry))) party) × (r ≡ true → SharedFits64 (sharing counts (now (records .entry)))) ⌝ }
 {
     if !is_sized(records.len()) {
         return false;
@@ -232,7 +233,7 @@ pub fn place_before(count: u64) -> u64
 
 // What a journal that isn't valid shows.
 fn nothing_shown() -> View
-    ensures { λ r. ⌜ r ≡ shown false 0 noRecord ⌝ }
+    ensures { λ r. ⌜ r ≡ viewIf false 0 noRecord ⌝ }
 {
     View {
         valid: false,

@@ -4,8 +4,9 @@ use mathlib.Core.Bool.{Bool, true, false, cond, _&&_, _||_}
 use mathlib.Core.List.{List, [], _∷_}
 use Prim.Native.Nat.{_≤_}
 use lib.Dec.{T, eqb, leb, leb→le, eqb→eq}
+use lib.Ieee.Fits.{and-l, and-r}
 use mir.Facts.{and-yes}
-use Rattle.form.specs.Form.{same}
+use Rattle.form.specs.Form.{sameForm}
 use Rattle.form.specs.declared.Form.{Form}
 use Rattle.row.specs.Row.{Line, lines, among, rowIn, rowOf, isNone}
 
@@ -22,9 +23,9 @@ linesLettered (l ∷ ls) = allLettered (l .0) && linesLettered ls
 
 among-lettered : (form : Form) (gs : List Form) → T (allLettered gs) → among form gs ≡ true → T (lettered form)
 among-lettered form [] t e = absurd (subst T (sym e) tt)
-among-lettered form (g ∷ gs) t e = let both = and-yes (lettered g) (allLettered gs) t in by-same (same form g) refl (both .0) (among-lettered form gs (both .1)) e
+among-lettered form (g ∷ gs) t e = let both = and-yes (lettered g) (allLettered gs) t in by-same (sameForm form g) refl (both .0) (among-lettered form gs (both .1)) e
   where
-    by-same : (b : Bool) → same form g ≡ b → T (lettered g) → (among form gs ≡ true → T (lettered form)) → (b || among form gs) ≡ true → T (lettered form)
+    by-same : (b : Bool) → sameForm form g ≡ b → T (lettered g) → (among form gs ≡ true → T (lettered form)) → (b || among form gs) ≡ true → T (lettered form)
     by-same true q h r e =
         let s = and-yes (eqb (form .family) (g .family)) (eqb (form .number) (g .number)) (subst T (sym q) tt) in
         let family = sym (eqb→eq (form .family) (g .family) (s .0)) in
@@ -43,6 +44,5 @@ rows-lettered form (l ∷ ls) t e = let both = and-yes (allLettered (l .0)) (lin
 pub row-lettered : (form : Form) → isNone (rowOf form) ≡ false → (65 ≤ form .family) × (form .family ≤ 90) × (form .number ≤ 48)
 unfolding rowOf
 row-lettered form some =
-    let a = and-yes (leb 65 (form .family)) (leb (form .family) 90 && leb (form .number) 48) (rows-lettered form lines tt some) in
-    let b = and-yes (leb (form .family) 90) (leb (form .number) 48) (a .1) in
-    (leb→le _ _ (a .0), leb→le _ _ (b .0), leb→le _ _ (b .1))
+    let t : T (lettered form) = rows-lettered form lines tt some in
+    search (and-l, and-r, leb→le)

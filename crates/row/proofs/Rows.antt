@@ -8,14 +8,15 @@ use Prim.Native.Nat.{ℕ, _+_, _-_, _*_, _<_, _^_}
 use borrow.Author.Tests.{eqb-true, eq-eqb}
 use lib.Dec.{T, eqb, leb, ltb, leb→le, ltb→lt, eqb→eq}
 use lib.ListN.{length}
+use lib.Ieee.Fits.{and-l, and-r}
 use mir.Facts.{and-yes}
 use Rattle.bits.specs.Parts.{separate}
-use Rattle.form.specs.Form.{X, same}
+use Rattle.form.specs.Form.{X, sameForm}
 use Rattle.form.specs.declared.Form.{Form}
 use Rattle.parts.specs.Placed.{placed, widthOf, inWords, readable}
 use Rattle.row.specs.Row.{Line, lines, among, rowIn, rowOf, noRow, isNone, onlyTimes16, targetRowOf}
 use Rattle.table.proofs.Check.{below, checked}
-use Rattle.meaning.specs.Fits.{Fitting}
+use Rattle.meaning.specs.inner.Fits.{Fitting}
 use Rattle.meaning.specs.Meaning.{entry}
 use Rattle.meaning.specs.declared.Meaning.{Meaning}
 use Rattle.meaning.specs.declared.Meaning.the-variants.{None, Unsigned, Signed, Chosen, Complement}
@@ -36,30 +37,12 @@ meant (Signed unit) w = leb 1 w && (ltb w 64 && (leb 1 unit && leb (unit * 2 ^ (
 meant (Chosen signed list) w = leb w 3 && differ list (2 ^ w)
 meant (Complement top) w = leb 1 w && (leb w 64 && (leb (2 ^ w) (top + 1) && ltb top (2 ^ 64)))
 
-all-three : (x y z : Bool) → T (x && (y && z)) → T x × T y × T z
-all-three x y z t =
-    let a = and-yes x (y && z) t in
-    let b = and-yes y z (a .1) in
-    (a .0, b .0, b .1)
-
-all-four : (x y z u : Bool) → T (x && (y && (z && u))) → T x × T y × T z × T u
-all-four x y z u t =
-    let a = and-yes x (y && (z && u)) t in
-    let b = all-three y z u (a .1) in
-    (a .0, b .0, b .1, b .2)
-
 fits : (m : Meaning) (w : ℕ) → T (meant m w) → Fitting m w
 fits None w t = tt
-fits (Unsigned plus) w t =
-    let a = all-three (leb 1 w) (leb w 64) (leb (plus + 2 ^ w) (2 ^ 64)) t in
-    (leb→le _ _ (a .0), leb→le _ _ (a .1), leb→le _ _ (a .2))
-fits (Signed unit) w t =
-    let a = all-four (leb 1 w) (ltb w 64) (leb 1 unit) (leb (unit * 2 ^ (w - 1)) (2 ^ 63)) t in
-    (leb→le _ _ (a .0), ltb→lt _ _ (a .1), leb→le _ _ (a .2), leb→le _ _ (a .3))
+fits (Unsigned plus) w t = search (and-l, and-r, leb→le)
+fits (Signed unit) w t = search (and-l, and-r, leb→le, ltb→lt)
 fits (Chosen signed list) w t = let a = and-yes (leb w 3) (differ list (2 ^ w)) t in (leb→le _ _ (a .0), differing list (2 ^ w) (a .1))
-fits (Complement top) w t =
-    let a = all-four (leb 1 w) (leb w 64) (leb (2 ^ w) (top + 1)) (ltb top (2 ^ 64)) t in
-    (leb→le _ _ (a .0), leb→le _ _ (a .1), leb→le _ _ (a .2), ltb→lt _ _ (a .3))
+fits (Complement top) w t = search (and-l, and-r, leb→le, ltb→lt)
 
 -- no two of its parts meet, in any slot that it can stand in: an X form's in slot 2 alone
 abbrev pub separateIn : ℕ → Row → Bool
@@ -85,10 +68,13 @@ pub record Good (family : ℕ) (row : Row) : Type 0 where
 
 pub good-has : (family : ℕ) (row : Row) → T (good family row) → isNone row ≡ false → Good family row
 good-has family row g some =
-    let a = and-yes (readable (row .parts)) _ (subst (λ (b : Bool). T (cond b true (whole family row))) some g) in
-    let b = and-yes (meant (row .meaning) (widthOf (row .parts))) (apart family row && inWords (eqb family X) (row .parts)) (a .1) in
-    let c = and-yes (apart family row) (inWords (eqb family X) (row .parts)) (b .1) in
-    record { reads = a .0; fitting = fits (row .meaning) (widthOf (row .parts)) (b .0); separated = c .0; in-words = c .1 }
+    let t : T (whole family row) = subst (λ (b : Bool). T (cond b true (whole family row))) some g in
+    record {
+      reads = search (and-l, and-r);
+      fitting = fits (row .meaning) (widthOf (row .parts)) (search (and-l, and-r));
+      separated = search (and-l, and-r);
+      in-words = search (and-l, and-r);
+    }
 
 -- every form of every line has a good row
 abbrev goodFor : List Form → Row → Bool
@@ -102,9 +88,9 @@ allGood (l ∷ ls) = goodFor (l .0) (l .1) && allGood ls
 -- so a form that a line has does
 among-good : (form : Form) (gs : List Form) (row other : Row) → T (goodFor gs row) → T (good (form .family) other) → T (good (form .family) (cond (among form gs) row other))
 among-good form [] row other t o = o
-among-good form (g ∷ gs) row other t o = let both = and-yes (good (g .family) row) (goodFor gs row) t in by-same (same form g) refl (both .0) (among-good form gs row other (both .1) o)
+among-good form (g ∷ gs) row other t o = let both = and-yes (good (g .family) row) (goodFor gs row) t in by-same (sameForm form g) refl (both .0) (among-good form gs row other (both .1) o)
   where
-    by-same : (b : Bool) → same form g ≡ b → T (good (g .family) row) → T (good (form .family) (cond (among form gs) row other)) → T (good (form .family) (cond (b || among form gs) row other))
+    by-same : (b : Bool) → sameForm form g ≡ b → T (good (g .family) row) → T (good (form .family) (cond (among form gs) row other)) → T (good (form .family) (cond (b || among form gs) row other))
     by-same true q h r = subst (λ (family : ℕ). T (good family row)) (sym (eqb→eq (form .family) (g .family) (and-yes (eqb (form .family) (g .family)) (eqb (form .number) (g .number)) (subst T (sym q) tt) .0))) h
     by-same false q h r = r
 
@@ -129,17 +115,13 @@ unfolding lines
 rows-in-all = refl
 
 -- a row whose values are times 16 is the form's own row
-keeps : (P : Row → Type 0) (row : Row) (b : Bool) → P row → P noRow → P (cond b row noRow)
-keeps P row true p q = p
-keeps P row false p q = q
-
 pub target-good : (form : Form) → T (good (form .family) (targetRowOf form))
 target-good form = by-meaning (rowOf form .meaning)
   where
     by-meaning : (m : Meaning) → T (good (form .family) (onlyTimes16 m (rowOf form)))
     by-meaning None = tt
     by-meaning (Unsigned plus) = tt
-    by-meaning (Signed unit) = keeps (λ r. T (good (form .family) r)) (rowOf form) (eqb unit 16) (row-good form) tt
+    by-meaning (Signed unit) = elim (eqb unit 16) as (λ b. T (good (form .family) (cond b (rowOf form) noRow))) [ true ↦ row-good form | false ↦ tt ]
     by-meaning (Chosen signed list) = tt
     by-meaning (Complement top) = tt
 

@@ -4,7 +4,7 @@ use mathlib.Core.Bool.{Bool, true, false, cond, not, _||_}
 use mathlib.Core.List.{List, [], _∷_}
 use lib.Dec.{eqb}
 use Rattle.bundle.specs.Bytes.{number}
-use Rattle.form.specs.Form.{a, b, f, i, m, x, same}
+use Rattle.form.specs.Form.{a, b, f, i, m, x, sameForm}
 use Rattle.form.specs.declared.Form.{Form}
 use Rattle.parts.specs.Placed.{L}
 use Rattle.parts.specs.declared.Part.{Part}
@@ -18,13 +18,13 @@ abbrev pub _wide_ : ℕ → ℕ → Part
 place wide width = record { place = place; width = width }
 
 -- six parts, of which the last have no width
-abbrev pub padded : ℕ → List Part → List Part
-padded zero ps = []
-padded (suc n) [] = 0 wide 0 ∷ padded n []
-padded (suc n) (p ∷ ps) = p ∷ padded n ps
+abbrev pub paddedParts : ℕ → List Part → List Part
+paddedParts zero ps = []
+paddedParts (suc n) [] = 0 wide 0 ∷ paddedParts n []
+paddedParts (suc n) (p ∷ ps) = p ∷ paddedParts n ps
 
 abbrev pub row : Meaning → List Part → Row
-row meaning parts = record { meaning = meaning; parts = padded 6 parts }
+row meaning parts = record { meaning = meaning; parts = paddedParts 6 parts }
 
 abbrev pub noRow : Row
 noRow = row None []
@@ -92,7 +92,7 @@ lines =
 -- whether a form is one of some
 abbrev pub among : Form → List Form → Bool
 among form [] = false
-among form (g ∷ gs) = same form g || among form gs
+among form (g ∷ gs) = sameForm form g || among form gs
 
 -- the row of the line that has a form, and none where no line has it
 abbrev pub rowIn : Form → List Line → Row

@@ -15,7 +15,7 @@ use Rattle.record.specs.Record.{noRecord}
 use Rattle.record.specs.declared.Record.{Record}
 use Rattle.records.specs.Journal.{Journal, standing, validOf, recordAt}
 use Rattle.records.proofs.Standing.{valid-counts, valid-reads}
-use Rattle.sheet.specs.Sheet.{linesAs, headerOf, sheetAs, numbered, sheetLine, linesTo, LinesAreSheet}
+use Rattle.sheet.specs.Sheet.{linesAs, headerOf, sheetAs, numbered, sheetLine, firstLines, LinesAreSheet}
 use Rattle.sheet.specs.declared.line.Kind.the-variants.{Full}
 use Rattle.sheet.proofs.Sheets.{lines-more}
 
@@ -31,18 +31,18 @@ module _ (j : Journal) where
   rs = standing j
 
   -- the first line and those of the first n records
-  lines-within : (n : ℕ) → n ≤ length rs → linesTo j (suc n) ≡ headerOf (length rs) ++ linesAs Full (take n rs)
+  lines-within : (n : ℕ) → n ≤ length rs → firstLines j (suc n) ≡ headerOf (length rs) ++ linesAs Full (take n rs)
   lines-within zero h = sym (append-nil (headerOf (length rs)))
   lines-within (suc n) h =
       let one : getD rs (suc n - 1) noRecord ≡ getD rs n noRecord = ap (λ (k : ℕ). getD rs k noRecord) (omega arith) in
       let more : linesAs Full (take (suc n) rs) ≡ _ = ap (λ (k : ℕ). linesAs Full (take k rs)) (sym (add-one n)) ∙ lines-more Full rs n (omega arith) in
       rw (not-first n, le-leb (suc n) (length rs) h, lines-within n (omega arith), more, one) (append-assoc (headerOf (length rs)) (linesAs Full (take n rs)) _)
 
-  lines-all : (n : ℕ) → n ≡ length rs → linesTo j (suc n) ≡ sheetAs Full j
+  lines-all : (n : ℕ) → n ≡ length rs → firstLines j (suc n) ≡ sheetAs Full j
   unfolding sheetAs
   lines-all n e = lines-within n (omega arith) ∙ ap (λ (qs : List Record). headerOf (length rs) ++ linesAs Full qs) (ap (λ (k : ℕ). take k rs) e ∙ take-length rs)
 
-  lines-past : (n : ℕ) → length rs ≤ n → linesTo j (suc n) ≡ sheetAs Full j
+  lines-past : (n : ℕ) → length rs ≤ n → firstLines j (suc n) ≡ sheetAs Full j
   lines-past zero h = lines-all zero (omega arith)
   lines-past (suc n) h =
       elim (decLt n (length rs)) [

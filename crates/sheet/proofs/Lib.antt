@@ -1,5 +1,4 @@
 pub mod ByNumber
-pub mod Found
 pub mod Held
 pub mod Inverse
 pub mod Lengths
@@ -8,6 +7,5 @@ pub mod Made
 pub mod OneKind
 pub mod Reading
 pub mod Sheets
-pub mod Twice
 pub mod Unique
 mod Writing

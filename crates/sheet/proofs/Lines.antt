@@ -3,23 +3,21 @@
 use mathlib.Core.Path.{_≡_, refl, sym, ap, ap₂, _∙_, subst}
 use mathlib.Core.Bool.{Bool, true, false, cond}
 use mathlib.Core.List.{List, [], _∷_, _++_, append-assoc}
-use mathlib.Core.Logic.{_⊎_, inl, inr}
+use mathlib.Core.Logic.{inl, inr}
 use mathlib.Core.Option.{Option, none, some}
 use Prim.Native.Nat.{ℕ, zero, suc, _+_, _≤_}
 use native.Mathlib.Omega.{arith}
-use lib.Dec.{T, leb}
+use lib.Dec.{T}
 use lib.Ieee.Bits.{is-true}
 use lib.ListN.{length, getD, take, drop}
 use lib.Seq.{append-snoc, drop-cons, take-all}
 use borrow.Author.Tests.{le-leb}
-use mir.Facts.{and-yes}
-use Rattle.form.specs.Form.{noForm}
 use Rattle.form.specs.declared.Form.{Form}
-use Rattle.name.specs.Name.{nameOf, hasName, afterName, namedAt}
+use Rattle.name.specs.Name.{nameOf, hasName, namedAt}
 use Rattle.name.specs.declared.Name.{Name}
 use Rattle.name.specs.declared.Name.the-variants as name
 use Rattle.name.proofs.Names.{named-read, named-back}
-use Rattle.record.specs.Record.{highest, wholeRecord, isWhole, passes, mayStand, isHeld, numbersOf}
+use Rattle.record.specs.Record.{wholeRecord, isWhole, passes, mayStand, fits64, lineNumbers}
 use Rattle.record.specs.declared.Record.{Record}
 use Rattle.record.proofs.Laws.{may-passes, may-party, whole-is, passes-form}
 use Rattle.text.specs.Ascii.{tab}
@@ -31,7 +29,7 @@ use Rattle.sheet.specs.declared.line.Kind.{Kind}
 use Rattle.sheet.specs.declared.line.Kind.the-variants.{Full, Old}
 use Rattle.sheet.specs.declared.line.Line.{Line}
 use Rattle.sheet.specs.declared.line.Line.the-variants.{Read, Refused}
-use Rattle.sheet.specs.Load.{frontEnds, ends, afterFields, fullRecord, oldRecord, readAs, tested, lineAt}
+use Rattle.sheet.specs.Load.{frontEnds, ends, fullRecord, oldRecord, readAs, tested, lineAt}
 use Rattle.sheet.specs.Sheet.{lineAs, tells}
 use Rattle.sheet.proofs.Held.{words, are-words}
 
@@ -69,16 +67,16 @@ old-line r = refl
 
 -- a record that may stand has a form that its name tells
 pub may-named : (party : ℕ) (r : Record) → T (mayStand party r) → hasName (r .form) ≡ true
-may-named party r m = by (passes-form r (is-true (passes r) (may-passes party r m)))
-  where
-    by : (r .form ≡ noForm) ⊎ ((65 ≤ r .form .family) × (r .form .family ≤ 90) × (r .form .number ≤ 48)) → hasName (r .form) ≡ true
-    by (inl e) = ap hasName e
-    by (inr b) = rw (le-leb 65 (r .form .family) (b .0), le-leb (r .form .family) 90 (b .1))
+may-named party r m =
+    elim (passes-form r (is-true (passes r) (may-passes party r m))) [
+      | inl e ↦ ap hasName e
+      | inr b ↦ rw (le-leb 65 (r .form .family) (b .0), le-leb (r .form .family) 90 (b .1))
+    ]
 
 -- what is read stands there, and such a line tells all of it
 pub record LineRead (kind : Kind) (text : List ℕ) (at : ℕ) (r : Record) (next : ℕ) : Type 0 where
   pub stands : Stands text at (lineAs kind r) next
-  pub held : T (isHeld r)
+  pub held : T (fits64 r)
   pub told : T (tells kind r)
 
 -- a full line is read in three parts
@@ -111,7 +109,7 @@ module _ (party : ℕ) (text : List ℕ) (at : ℕ) (r : Record) (next : ℕ) wh
       rw (← v, ← p)
       (record {
         stands = subst (λ (l : List ℕ). Stands text at l (q .1)) (ap (λ (ms : List ℕ). fields ms ends) same ∙ old-line (oldRecord party (q .0))) (s .piece);
-        held = are-words (numbersOf (oldRecord party (q .0))) (w .0, (omega arith, (omega arith, (omega arith, w .1))));
+        held = are-words (lineNumbers (oldRecord party (q .0))) (w .0, (omega arith, (omega arith, (omega arith, w .1))));
         told = tt;
       })
 
@@ -132,38 +130,36 @@ module _ (party : ℕ) (text : List ℕ) (at : ℕ) (r : Record) (next : ℕ) wh
             subst (λ (l : List ℕ). Stands text at l (f .last))
             (ap₂ (λ (ms ks : List ℕ). fields ms frontEnds ++ ((nameOf (f .form) ++ (tab ∷ [])) ++ fields ks ends)) fronts tails ∙ full-line one)
             (stands-then (s .piece) (stands-then (stands-then (t .name .piece) (t .byte)) (u .piece)));
-        held = are-words (numbersOf one) (w .0, (w .1 .0, (t .name .below, subst Words tails (u .words))));
+        held = are-words (lineNumbers one) (w .0, (w .1 .0, (t .name .below, subst Words tails (u .words))));
         told = tt;
       })
 
   pub full-read : readAs party Full text at ≡ Read r next → FullRead party text at r next
   unfolding readAs
-  full-read = by-front (fieldsAt text at frontEnds) refl
+  full-read f = by-front (fieldsAt text at frontEnds) refl
     where
-      by-tail : (front : List ℕ) (a : ℕ) → fieldsAt text at frontEnds ≡ some (front, a) → (form : Form) (b : ℕ) → namedAt text a tab ≡ name.Read form b
-          → (o : Option (List ℕ × ℕ)) → fieldsAt text b ends ≡ o → afterFields o (λ ns next. Read (fullRecord party front form ns) next) Refused ≡ Read r next → FullRead party text at r next
-      by-tail front a e form b n none t f = absurd (no-line f)
-      by-tail front a e form b n (some u) t f =
-          record { front = front; second = a; form = form; third = b; numbers = u .0; last = u .1; first = e; named = n; rest = t; is = f }
+      by-tail : (q : List ℕ × ℕ) → fieldsAt text at frontEnds ≡ some q → (form : Form) (b : ℕ) → namedAt text (q .1) tab ≡ name.Read form b → (o : Option (List ℕ × ℕ)) → fieldsAt text b ends ≡ o → FullRead party text at r next
+      by-tail q e form b n none t = absurd (no-line (rw (e, n, t) at f))
+      by-tail q e form b n (some u) t =
+          record { front = q .0; second = q .1; form = form; third = b; numbers = u .0; last = u .1; first = e; named = n; rest = t; is = rw (e, n, t) at f }
 
-      by-name : (front : List ℕ) (a : ℕ) → fieldsAt text at frontEnds ≡ some (front, a) → (m : Name) → namedAt text a tab ≡ m
-          → afterName m (λ form next. afterFields (fieldsAt text next ends) (λ ns next. Read (fullRecord party front form ns) next) Refused) Refused ≡ Read r next → FullRead party text at r next
-      by-name front a e name.Refused n f = absurd (no-line f)
-      by-name front a e (name.Read form b) n f = by-tail front a e form b n (fieldsAt text b ends) refl f
+      by-name : (q : List ℕ × ℕ) → fieldsAt text at frontEnds ≡ some q → (m : Name) → namedAt text (q .1) tab ≡ m → FullRead party text at r next
+      by-name q e name.Refused n = absurd (no-line (rw (e, n) at f))
+      by-name q e (name.Read form b) n = by-tail q e form b n (fieldsAt text b ends) refl
 
-      by-front : (o : Option (List ℕ × ℕ)) → fieldsAt text at frontEnds ≡ o → readAs party Full text at ≡ Read r next → FullRead party text at r next
-      by-front none e f = absurd (no-line (rw e at f))
-      by-front (some q) e f = by-name (q .0) (q .1) e (namedAt text (q .1) tab) refl (rw e at f)
+      by-front : (o : Option (List ℕ × ℕ)) → fieldsAt text at frontEnds ≡ o → FullRead party text at r next
+      by-front none e = absurd (no-line (rw e at f))
+      by-front (some q) e = by-name q e (namedAt text (q .1) tab) refl
 
   read-stands : (kind : Kind) → readAs party kind text at ≡ Read r next → LineRead kind text at r next
   read-stands Full f = full-stands (full-read f)
   read-stands Old f = old-read (fieldsAt text at ends) refl f
 
   -- what stands there is read
-  full-back : T (mayStand party r) → T (isHeld r) → Stands text at (lineAs Full r) next → readAs party Full text at ≡ Read r next
+  full-back : T (mayStand party r) → T (fits64 r) → Stands text at (lineAs Full r) next → readAs party Full text at ≡ Read r next
   unfolding readAs
   full-back m h s =
-      let w = words (numbersOf r) h in
+      let w = words (lineNumbers r) h in
       let p = stands-parts (fields (frontOf r) frontEnds) (subst (λ (l : List ℕ). Stands text at l next) (sym (full-line r)) s) in
       let q = stands-parts (nameOf (r .form) ++ (tab ∷ [])) (p .1) in
       let t = stands-parts (nameOf (r .form)) (q .0) in
@@ -173,14 +169,14 @@ module _ (party : ℕ) (text : List ℕ) (at : ℕ) (r : Record) (next : ℕ) wh
         fields-back text ends (tailOf (r .value) r) _ next (refl, (refl, (refl, (refl, (refl, tt))))) (record { count = refl; words = w .1 .1 .1; piece = q .1 }),
       ) (ap (λ (p : ℕ). Read (fullRecord p (frontOf r) (r .form) (tailOf (r .value) r)) next) (sym (may-party party r m)))
 
-  old-back : T (mayStand party r) → T (isWhole r) → T (isHeld r) → Stands text at (lineAs Old r) next → readAs party Old text at ≡ Read r next
+  old-back : T (mayStand party r) → T (isWhole r) → T (fits64 r) → Stands text at (lineAs Old r) next → readAs party Old text at ≡ Read r next
   unfolding readAs
   old-back m t h s =
-      let w = words (numbersOf r) h in
+      let w = words (lineNumbers r) h in
       rw (fields-back text ends (tailOf (r .bundle) r) at next (refl, (refl, (refl, (refl, (refl, tt))))) (record { count = refl; words = (w .0, w .1 .1 .1 .1); piece = subst (λ (l : List ℕ). Stands text at l next) (sym (old-line r)) s }))
       (ap (λ (p : ℕ). Read (wholeRecord p (r .bundle) (r .old) (r .new)) next) (sym (may-party party r m)) ∙ ap (λ (q : Record). Read q next) (sym (whole-is r t)))
 
-  read-back : (kind : Kind) → T (mayStand party r) → T (isHeld r) → T (tells kind r) → Stands text at (lineAs kind r) next → readAs party kind text at ≡ Read r next
+  read-back : (kind : Kind) → T (mayStand party r) → T (fits64 r) → T (tells kind r) → Stands text at (lineAs kind r) next → readAs party kind text at ≡ Read r next
   read-back Full m h t s = full-back m h s
   read-back Old m h t s = old-back m t h s
 
@@ -200,6 +196,6 @@ module _ (party : ℕ) (text : List ℕ) (at : ℕ) (r : Record) (next : ℕ) wh
   pub line-read : (kind : Kind) → lineAt party kind text at ≡ Read r next → T (mayStand party r) × LineRead kind text at r next
   line-read kind e = let t = line-taken kind e in (t .0, read-stands kind (t .1))
 
-  pub line-back : (kind : Kind) → T (mayStand party r) → T (isHeld r) → T (tells kind r) → Stands text at (lineAs kind r) next → lineAt party kind text at ≡ Read r next
+  pub line-back : (kind : Kind) → T (mayStand party r) → T (fits64 r) → T (tells kind r) → Stands text at (lineAs kind r) next → lineAt party kind text at ≡ Read r next
   unfolding lineAt
   line-back kind m h t s = rw (read-back kind m h t s, is-true (mayStand party r) m)

@@ -12,10 +12,10 @@ use Rattle.text.specs.Fields.{fieldAt, fieldsAt}
 use Rattle.text.specs.declared.number.Number.the-variants as number
 use Rattle.text.proofs.RoundTrip.{field-none, fields-split}
 use Rattle.sheet.specs.declared.line.Kind.the-variants.{Full, Old}
-use Rattle.sheet.specs.declared.line.Line.{Line}
 use Rattle.sheet.specs.declared.line.Line.the-variants.{Read, Refused}
-use Rattle.sheet.specs.Load.{frontEnds, ends, readAs, lineAt, recordsAt}
+use Rattle.sheet.specs.Load.{frontEnds, ends, readAs, recordsAt}
 use Rattle.sheet.proofs.Lines.{FullRead, full-read, no-line, line-taken}
+use Rattle.sheet.proofs.Reading.{more}
 
 -- the ends of an old line after the first two
 abbrev moreEnds : List ℕ
@@ -40,10 +40,7 @@ module _ (text : List ℕ) (at : ℕ) where
 pub one-kind : (party : ℕ) (text : List ℕ) (at left : ℕ) (rs qs : List Record) → recordsAt party Full text at left ≡ some rs → recordsAt party Old text at left ≡ some qs → rs ≡ qs
 unfolding recordsAt
 one-kind party text at zero rs qs f g = Option·some-injective rs qs (sym f ∙ g)
-one-kind party text at (suc left) rs qs f g = by-lines (lineAt party Full text at) refl (lineAt party Old text at) refl
-  where
-    by-lines : (m : Line) → lineAt party Full text at ≡ m → (n : Line) → lineAt party Old text at ≡ n → rs ≡ qs
-    by-lines Refused e n d = absurd (Option·none-ne-some rs (rw e at f))
-    by-lines (Read r next) e Refused d = absurd (Option·none-ne-some qs (rw d at g))
-    by-lines (Read r next) e (Read q last) d =
-        absurd (not-both text at party (full-read party text at r next (line-taken party text at r next Full e .1)) (fieldsAt text at ends) refl (line-taken party text at q last Old d .1))
+one-kind party text at (suc left) rs qs f g =
+    let m = more party Full text at left rs f in
+    let n = more party Old text at left qs g in
+    absurd (not-both text at party (full-read party text at _ _ (line-taken party text at _ _ Full (m .line-is) .1)) (fieldsAt text at ends) refl (line-taken party text at _ _ Old (n .line-is) .1))

@@ -19,9 +19,6 @@ pub line-length : (r : Record) → length (lineAs Full r) ≡ length (decimal (r
 unfolding lineAs
 line-length r = simp length-append
 
-pub header-length : (count : ℕ) → length (headerOf count) ≡ length (decimal count) + 9
-header-length count = omega (arith, length-append (decimal count) (10 ∷ []))
-
 module _ (kind : Kind) where
   lines-append : (rs qs : List Record) → linesAs kind (rs ++ qs) ≡ linesAs kind rs ++ linesAs kind qs
   lines-append [] qs = refl
@@ -29,12 +26,8 @@ module _ (kind : Kind) where
 
   -- one record more
   pub lines-more : (rs : List Record) (i : ℕ) → i < length rs → linesAs kind (take (i + 1) rs) ≡ linesAs kind (take i rs) ++ lineAs kind (getD rs i noRecord)
-  lines-more rs i h =
-      ap (λ (n : ℕ). linesAs kind (take n rs)) (add-one i)
-      ∙ ap (linesAs kind) (take-suc rs i noRecord h)
-      ∙ lines-append (take i rs) (getD rs i noRecord ∷ [])
-      ∙ ap (λ (l : List ℕ). linesAs kind (take i rs) ++ l) (append-nil (lineAs kind (getD rs i noRecord)))
+  lines-more rs i h = rw (add-one, take-suc rs i noRecord h, lines-append (take i rs) (getD rs i noRecord ∷ []), append-nil (lineAs kind (getD rs i noRecord)))
 
   pub sheet-length : (j : Journal) → length (sheetAs kind j) ≡ length (decimal (length (standing j))) + 9 + length (linesAs kind (standing j))
   unfolding sheetAs
-  sheet-length j = length-append (headerOf (length (standing j))) (linesAs kind (standing j)) ∙ omega (arith, header-length (length (standing j)))
+  sheet-length j = length-append (headerOf (length (standing j))) (linesAs kind (standing j)) ∙ omega (arith, length-append (decimal (length (standing j))) (10 ∷ []))

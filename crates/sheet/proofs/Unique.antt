@@ -4,12 +4,12 @@ use mathlib.Core.Path.{_≡_, sym, ap, _∙_}
 use mathlib.Core.List.{List}
 use Rattle.journal.specs.declared.Edited.{Edited}
 use Rattle.record.specs.declared.Record.{Record}
-use Rattle.records.proofs.Sharing.{sharing-decides}
-use Rattle.sheet.specs.Load.{SharedLoaded, loadedOf}
+use Rattle.records.proofs.Sharing.{sharing-injective}
+use Rattle.sheet.specs.Load.{SharedLoaded, loadOutcome}
 
-pub load-unique : {l : SharedLoaded} (r s : Edited) (rs qs : List Record) → loadedOf r rs ≡ l → loadedOf s qs ≡ l → (r ≡ s) × (rs ≡ qs)
+pub load-unique : {l : SharedLoaded} (r s : Edited) (rs qs : List Record) → loadOutcome r rs ≡ l → loadOutcome s qs ≡ l → (r ≡ s) × (rs ≡ qs)
 load-unique r s rs qs e f =
     let same = e ∙ sym f in
     let answer = ap (λ (l : SharedLoaded). l .answer) same in
-    let kept = sharing-decides (r .counts) (s .counts) rs qs (ap (λ (l : SharedLoaded). l .journal) same) in
+    let kept = sharing-injective (r .counts) (s .counts) rs qs (ap (λ (l : SharedLoaded). l .journal) same) in
     ((λ i. record { answer = answer i; counts = kept .0 i }), kept .1)

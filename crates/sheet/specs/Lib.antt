@@ -1,4 +1,4 @@
 pub mod Load
 pub mod RoundTrip
 pub mod Sheet
-pub mod Twice
+pub mod inner

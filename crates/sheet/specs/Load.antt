@@ -99,15 +99,15 @@ pub record Loaded : Type 0 where
   pub journal : Journal
 
 -- the journal of the records; or that there aren't as many places, or that the text is no sheet, and the journal as it was given
-abbrev pub answerOf : ℕ → Journal → Option (List Record) → Loaded
-answerOf places given (some rs) =
+abbrev pub loadedWith : ℕ → Journal → Option (List Record) → Loaded
+loadedWith places given (some rs) =
     cond (leb (length rs) places) (record { answer = accepted; journal = journalOf places rs }) (record { answer = full; journal = given })
-answerOf places given none = record { answer = badSheet; journal = given }
+loadedWith places given none = record { answer = badSheet; journal = given }
 
 -- what a party's loading comes to with its journal of so many places, where a sheet has at most so many records
 unfoldable pub loadOf : ℕ → ℕ → ℕ → Journal → List ℕ → Loaded
 loadOf most party places given text =
-    cond (validOf party places given) (answerOf places given (recordsIn most party text)) (record { answer = badJournal; journal = given })
+    cond (validOf party places given) (loadedWith places given (recordsIn most party text)) (record { answer = badJournal; journal = given })
 
 -- the same with a journal that parties share
 pub record SharedLoaded : Type 0 where
@@ -115,8 +115,8 @@ pub record SharedLoaded : Type 0 where
   pub journal : Shared
 
 -- what loading hands back, with the records that it leaves
-abbrev pub loadedOf : Edited → List Record → SharedLoaded
-loadedOf r records = record { answer = r .answer; journal = sharing (r .counts) records }
+abbrev pub loadOutcome : Edited → List Record → SharedLoaded
+loadOutcome r records = record { answer = r .answer; journal = sharing (r .counts) records }
 
 -- what `load` comes to
 abbrev pub loadBy : Shared → ℕ → List ℕ → SharedLoaded

@@ -10,7 +10,7 @@ use Rattle.answer.specs.Answer.{accepted, full, badJournal, badSheet}
 use Rattle.bundle.specs.declared.half.Halves.{Halves}
 use Rattle.form.specs.Form.{m}
 use Rattle.records.specs.Journal.{Journal, limit, all, standing, journalOf, validOf}
-use Rattle.record.specs.Record.{highest, isHeld}
+use Rattle.record.specs.Record.{highest, fits64}
 use Rattle.record.specs.declared.Record.{Record}
 use Rattle.sheet.specs.Sheet.{tells, sheetAs, sheetOf, capacity}
 use Rattle.sheet.specs.Load.{loadOf}
@@ -20,7 +20,7 @@ use Rattle.sheet.specs.declared.line.Kind.the-variants.{Full}
 -- a party's journal of so many places that has a sheet of a kind: a valid one of the code, of whose records such lines tell all
 pub record HasSheet (party places : ℕ) (kind : Kind) (j : Journal) : Type 0 where
   pub valid : validOf party places j ≡ true
-  pub held : T (all isHeld (standing j))
+  pub held : T (all fits64 (standing j))
   pub told : T (all (tells kind) (standing j))
 
 -- its sheet loads as that journal, whatever the valid one to be replaced

@@ -60,13 +60,13 @@ abbrev pub sheetLine : Journal → ℕ → List ℕ
 sheetLine j i = numbered i (length (standing j)) (getD (standing j) (i - 1) noRecord)
 
 -- its first so many lines, one after the other
-abbrev pub linesTo : Journal → ℕ → List ℕ
-linesTo j zero = []
-linesTo j (suc n) = linesTo j n ++ sheetLine j n
+abbrev pub firstLines : Journal → ℕ → List ℕ
+firstLines j zero = []
+firstLines j (suc n) = firstLines j n ++ sheetLine j n
 
 -- the lines, put out one at a time to the last or past it, are the sheet
 abbrev pub LinesAreSheet : Type 0
-LinesAreSheet = (j : Journal) (n : ℕ) → length (standing j) < n → linesTo j n ≡ sheetOf j
+LinesAreSheet = (j : Journal) (n : ℕ) → length (standing j) < n → firstLines j n ≡ sheetOf j
 
 -- no sheet that is written is longer
 abbrev pub capacity : ℕ

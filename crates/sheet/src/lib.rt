@@ -13,8 +13,8 @@ ghost use Rattle.records.specs.Shared.{sharing};
 ghost use Rattle.text.specs.Put.{Put};
 ghost use Rattle.text.specs.Whole.{wroteOf};
 ghost use Rattle.sheet.specs.Sheet.{sheetOf, capacity, writeBy, writeLineBy};
-ghost use Rattle.sheet.specs.Load.{loadedOf, loadBy};
-ghost use Rattle.sheet.specs.Twice.{filled};
+ghost use Rattle.sheet.specs.Load.{loadOutcome, loadBy};
+ghost use Rattle.sheet.specs.inner.Finds.{Fills};
 use answer::ACCEPTED;
 use answer::BAD_JOURNAL;
 use answer::NO_ROOM;
@@ -109,7 +109,7 @@ pub fn write_line(i: u64, counts: Counts, records: &[Record], party: u64, out: &
 
 // The party's journal whose sheet the text is, in place of the one given. The text is gone through twice, so that a refused one changes nothing.
 pub fn load(counts: Counts, records: &mut [Record], party: u64, text: &[u8]) -> Edited
-    ensures { λ r. ⌜ loadedOf r (now (records .exit)) ≡ loadBy (sharing counts (now (records .entry))) party (now (text .entry)) ⌝ }
+    ensures { λ r. ⌜ loadOutcome r (now (records .exit)) ≡ loadBy (sharing counts (now (records .entry))) party (now (text .entry)) ⌝ }
 {
     let own = records::own_of(counts, records, party);
     let view = own.view;
@@ -127,7 +127,7 @@ pub fn load(counts: Counts, records: &mut [Record], party: u64, text: &[u8]) -> 
 
 // Writes the party's records of the sheet that was found, and frees the other places.
 fn fill(records: &mut [Record], party: u64, text: &[u8], found: Found)
-    ensures { λ _. ⌜ now (records .exit) ≡ filled party (now (text .entry)) found (found .first) 0 (length (now (records .entry))) ⌝ }
+    ensures { λ _. ⌜ Fills party (now (text .entry)) found (now (records .entry)) (now (records .exit)) ⌝ }
 {
     let mut at = found.first;
     let mut place = 0;

@@ -1,8 +1,8 @@
 // A text that may be a sheet: what is found in it, and its records one after the other.
 ghost use mathlib.Core.Path.{_≡_};
 ghost use Rattle.records.specs.Journal.{limit};
-ghost use Rattle.sheet.specs.Load.{headOf};
-ghost use Rattle.sheet.specs.Twice.{nothing, foundAs, foundIn, foundFor, nextOf};
+ghost use Rattle.sheet.specs.Load.{headOf, recordsAs, recordsIn};
+ghost use Rattle.sheet.specs.inner.Finds.{nothing, Finds, FindsFor, Nexts};
 use crate::line;
 use crate::line::Kind;
 use crate::line::Line;
@@ -43,7 +43,7 @@ fn none(answer: u8) -> Found
 
 // The sheet that a text is, where a party's journal is valid and has places for its records.
 pub fn look(party: u64, valid: bool, places: u64, text: &[u8]) -> Found
-    ensures { λ r. ⌜ r ≡ foundFor limit party valid places (now (text .entry)) ⌝ }
+    ensures { λ r. ⌜ FindsFor party valid places (now (text .entry)) r ⌝ }
 {
     if !valid {
         return none(BAD_JOURNAL);
@@ -57,7 +57,7 @@ pub fn look(party: u64, valid: bool, places: u64, text: &[u8]) -> Found
 
 // The sheet that a text is, in full lines or else in old ones.
 fn look_in(party: u64, text: &[u8]) -> Found
-    ensures { λ r. ⌜ r ≡ foundIn limit party (now (text .entry)) ⌝ }
+    ensures { λ r. ⌜ Finds party (now (text .entry)) (recordsIn limit party (now (text .entry))) r ⌝ }
 {
     let full = look_as(party, text, Kind::Full);
     if full.answer == ACCEPTED {
@@ -68,7 +68,7 @@ fn look_in(party: u64, text: &[u8]) -> Found
 
 // The same where the lines are of one kind.
 fn look_as(party: u64, text: &[u8], kind: Kind) -> Found
-    ensures { λ r. ⌜ r ≡ foundAs limit party kind (now (text .entry)) ⌝ }
+    ensures { λ r. ⌜ Finds party (now (text .entry)) (recordsAs limit party kind (now (text .entry))) r ⌝ }
 {
     let head = read_head(text);
     let Number::Read(count, first) = head else {
@@ -110,7 +110,7 @@ fn read_head(text: &[u8]) -> Number
 
 // What comes at a place of the party's journal: the record of the line that stands there, or nothing past the last.
 pub fn next_line(party: u64, text: &[u8], at: usize, place: usize, found: Found) -> Next
-    ensures { λ r. ⌜ r ≡ nextOf party (now (text .entry)) at place found ⌝ }
+    ensures { λ r. ⌜ Nexts party (now (text .entry)) found at place r ⌝ }
 {
     let kind = found.kind;
     if (place as u64) < found.count {

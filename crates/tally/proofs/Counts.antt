@@ -17,8 +17,8 @@ use Rattle.bits.proofs.Laws.{part-lt}
 use Rattle.bundle.specs.Bytes.{number}
 use Rattle.bundle.specs.Bundle.{tagOf, numberAt}
 use Rattle.bundle.specs.Template.{reserved, stopsOf}
-use Rattle.tally.specs.Report.{count, sum, below, tagsTo, withTag, stopsAt, countsOf}
-use Rattle.tally.specs.Share.{Few, sharesOf}
+use Rattle.tally.specs.Report.{howMany, sum, below, tagsTo, withTag, stopsAt, countsOf}
+use Rattle.tally.specs.inner.Share.{Few, sharesOf}
 use Rattle.tally.proofs.Lists.{count-append, count-most, sum-append, map-more, length-to, at-to, map-to, sum-plus, count-sum}
 
 with-same : (t : ℕ) → withTag (t ∷ []) t ≡ 1
@@ -34,9 +34,8 @@ with-more tags u t = count-append (λ v. eqb v t) tags (u ∷ [])
 abbrev pub counted : List ℕ → List ℕ
 counted tags = countsOf tags ++ replicate 4 0
 
-pub counted-at : (tags : List ℕ) (t : ℕ) → t < 32 → getD (counted tags) t 0 ≡ withTag tags t
-counted-at tags t h =
-    List·getD-append (countsOf tags) (replicate 4 0) 0 t (omega (arith, length-to (withTag tags) 32)) ∙ at-to (withTag tags) 32 t 0 h
+pub counted-at : (tags after : List ℕ) (t : ℕ) → t < 32 → getD (countsOf tags ++ after) t 0 ≡ withTag tags t
+counted-at tags after t h = List·getD-append (countsOf tags) after 0 t (omega (arith, length-to (withTag tags) 32)) ∙ at-to (withTag tags) 32 t 0 h
 
 counts-more : (tags : List ℕ) (u : ℕ) → u < 32 → set (countsOf tags) u (withTag tags u + 1) ≡ countsOf (tags ++ (u ∷ []))
 counts-more tags u h =
@@ -59,13 +58,13 @@ counts-more tags u h =
 -- a bundle more
 pub counted-more : (tags : List ℕ) (u : ℕ) → u < 32 → set (counted tags) u (getD (counted tags) u 0 + 1) ≡ counted (tags ++ (u ∷ []))
 counted-more tags u h =
-    rw (counted-at tags u h)
+    rw (counted-at tags _ u h)
     (set-append-left (countsOf tags) (replicate 4 0) u (withTag tags u + 1) (omega (arith, length-to (withTag tags) 32))
     ∙ ap (λ (l : List ℕ). l ++ replicate 4 0) (counts-more tags u h))
 
 -- no tag has more bundles than there are
 pub counted-few : (tags : List ℕ) → length tags ≤ 4096 → Few (counted tags)
-counted-few tags h t l = rw (counted-at tags t l) (omega (arith, count-most (λ v. eqb v t) tags))
+counted-few tags h t l = rw (counted-at tags _ t l) (omega (arith, count-most (λ v. eqb v t) tags))
 
 -- what a single bundle adds, a tag at a time
 module _ (w : ℕ → ℕ) (u : ℕ) where
@@ -109,11 +108,10 @@ tags-small image n i =
     ]
 
 -- the shares of the counts are those of the bundles
-pub shares-counted : (image : List ℕ) (n : ℕ) → let tags = tagsTo image n in sharesOf (counted tags) ≡ record { reserved = count reserved tags; stops = sum (map stopsAt tags) }
-shares-counted image n =
-    let tags = tagsTo image n in
+pub shares-counted : (tags : List ℕ) → Tags tags → sharesOf (counted tags) ≡ record { reserved = howMany reserved tags; stops = sum (map stopsAt tags) }
+shares-counted tags small =
     let share : (w : ℕ → ℕ) → sum (map (λ t. getD (counted tags) t 0 * w t) (below 32)) ≡ sum (map w tags) =
-    λ w. ap sum (map-to 32 (λ t h. ap (λ (k : ℕ). k * w t) (counted-at tags t h))) ∙ by-tag w tags (tags-small image n) in
+    λ w. ap sum (map-to 32 (λ t h. ap (λ (k : ℕ). k * w t) (counted-at tags _ t h))) ∙ by-tag w tags small in
     let reserved-is = share (λ t. cond (reserved t) 1 0) ∙ sym (count-sum reserved tags) in
     let stops-is = share stopsAt in
     λ i. record { reserved = reserved-is i; stops = stops-is i }

@@ -11,8 +11,8 @@ use lib.Seq.{take-append-le, drop-append-le, drop-append-add}
 use Rattle.bundle.specs.Bytes.{number}
 use Rattle.bundle.specs.Bundle.{tagOf, numberAt, bundleAt}
 use Rattle.bundle.specs.Template.{reserved}
-use Rattle.tally.specs.Report.{count, sum, below, tagsTo, tagsOf, withTag, stopsAt, countsOf, reportOf, plus}
-use Rattle.tally.specs.Holds.{Joined}
+use Rattle.tally.specs.Report.{howMany, sum, below, tagsTo, tagsOf, withTag, stopsAt, countsOf, reportOf, plus}
+use Rattle.tally.specs.Holds.{JoinedSums}
 use Rattle.tally.proofs.Lists.{count-append, sum-append, below-none, map-more, map-to}
 
 module _ (a b : List ℕ) (k : ℕ) (whole : length a ≡ 16 * k) where
@@ -45,7 +45,7 @@ unfolding zipWith
 plus-counts s t [] x y = refl
 plus-counts s t (u ∷ l) x y = ap₂ _∷_ (count-append (λ v. eqb v u) s t) (plus-counts s t l x y)
 
-pub joined : Joined
+pub joined : JoinedSums
 unfolding reportOf zipWith
 joined a b whole =
     let s = tagsOf a in
@@ -56,4 +56,4 @@ joined a b whole =
     let rest : length (a ++ b) % 16 ≡ length a % 16 + length b % 16 = rw (length-append a b) (omega arith) in
     rw (tags-joined a b whole)
     (ap (λ (l : List ℕ). countsOf (s ++ t) ++ l) (λ i. bundles i ∷ reserved-ones i ∷ stops i ∷ rest i ∷ [])
-    ∙ plus-counts s t (below 32) (length s ∷ count reserved s ∷ sum (map stopsAt s) ∷ length a % 16 ∷ []) (length t ∷ count reserved t ∷ sum (map stopsAt t) ∷ length b % 16 ∷ []))
+    ∙ plus-counts s t (below 32) (length s ∷ howMany reserved s ∷ sum (map stopsAt s) ∷ length a % 16 ∷ []) (length t ∷ howMany reserved t ∷ sum (map stopsAt t) ∷ length b % 16 ∷ []))

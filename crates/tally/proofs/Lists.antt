@@ -9,25 +9,25 @@ use native.Mathlib.Decide.{ℕ-discrete}
 use native.Mathlib.Omega.{arith}
 use lib.ListN.{length, getD, length-append, length-map, List·getD-append}
 use lib.Seq.{getD-at}
-use Rattle.tally.specs.Report.{count, sum, below}
+use Rattle.tally.specs.Report.{howMany, sum, below}
 
 module _ {ℓ} {A : Type ℓ} (test : A → Bool) where
-  pub count-append : (a b : List A) → count test (a ++ b) ≡ count test a + count test b
+  pub count-append : (a b : List A) → howMany test (a ++ b) ≡ howMany test a + howMany test b
   count-append a b = ap length (filter-append _ a b) ∙ length-append (filter (λ x. Bool-discrete (test x) true) a) _
 
-  pub count-cons : (x : A) (l : List A) → count test (x ∷ l) ≡ cond (test x) 1 0 + count test l
+  pub count-cons : (x : A) (l : List A) → howMany test (x ∷ l) ≡ cond (test x) 1 0 + howMany test l
   count-cons x l = step (test x)
     where
-      step : (b : Bool) → length (ite {C = List A} (Bool-discrete b true) (x ∷ filter (λ a. Bool-discrete (test a) true) l) (filter (λ a. Bool-discrete (test a) true) l)) ≡ cond b 1 0 + count test l
+      step : (b : Bool) → length (ite {C = List A} (Bool-discrete b true) (x ∷ filter (λ a. Bool-discrete (test a) true) l) (filter (λ a. Bool-discrete (test a) true) l)) ≡ cond b 1 0 + howMany test l
       step true = omega arith
       step false = omega arith
 
   -- no more pass than there are
-  pub count-most : (l : List A) → count test l ≤ length l
+  pub count-most : (l : List A) → howMany test l ≤ length l
   count-most [] = omega arith
   count-most (x ∷ l) = rw (count-cons x l) (step (test x) (count-most l))
     where
-      step : (b : Bool) → count test l ≤ length l → cond b 1 0 + count test l ≤ suc (length l)
+      step : (b : Bool) → howMany test l ≤ length l → cond b 1 0 + howMany test l ≤ suc (length l)
       step true h = omega arith
       step false h = omega arith
 
@@ -74,6 +74,6 @@ sum-plus f g [] = refl
 sum-plus f g (x ∷ l) = omega (arith, sum-plus f g l)
 
 -- a count is a sum of ones
-pub count-sum : (test : ℕ → Bool) (l : List ℕ) → count test l ≡ sum (map (λ x. cond (test x) 1 0) l)
+pub count-sum : (test : ℕ → Bool) (l : List ℕ) → howMany test l ≡ sum (map (λ x. cond (test x) 1 0) l)
 count-sum test [] = refl
 count-sum test (x ∷ l) = count-cons test x l ∙ omega (arith, count-sum test l)

@@ -3,6 +3,7 @@
 use mathlib.Core.Path.{_≡_, refl, sym, ap, ap₂, _∙_}
 use mathlib.Core.List.{List, [], _∷_, _++_, zipWith, List·Permᴰ, List·Permᴰ·nil, List·Permᴰ·cons, List·Permᴰ·swap, List·Permᴰ·trans}
 use Prim.Native.Nat.{ℕ, _+_, _^_, _≤_, _<_}
+use native.Mathlib.Nat.{add-assoc, add-right-comm}
 use native.Mathlib.Decide.{ℕ-discrete, decLt}
 use native.Mathlib.Omega.{arith}
 use lib.Dec.{leb}
@@ -11,7 +12,7 @@ use borrow.Author.Tests.{lt-leb, le-leb, eqb-false}
 use Rattle.answer.specs.Answer.{accepted, badValue, tooLong}
 use Rattle.bundle.specs.Bundle.{longestCode}
 use Rattle.tally.specs.Report.{reportOf, plus, addedBy, addedOf}
-use Rattle.tally.specs.Holds.{run, Fits, JoinedAdds, AnyOrder}
+use Rattle.tally.specs.Holds.{addedAll, Fits, JoinedAdds, AnyOrder}
 use Rattle.tally.specs.declared.Added.{Added}
 use Rattle.tally.proofs.Lists.{count-cons}
 use Rattle.tally.proofs.Sums.{large, large-cons, added-fits, added-large, long-kept, short-added}
@@ -24,20 +25,14 @@ plus-swap [] a b = refl
 plus-swap (x ∷ r) [] [] = refl
 plus-swap (x ∷ r) [] (z ∷ b) = refl
 plus-swap (x ∷ r) (y ∷ a) [] = refl
-plus-swap (x ∷ r) (y ∷ a) (z ∷ b) = λ i. sums i ∷ plus-swap r a b i
-  where
-    sums : x + y + z ≡ x + z + y
-    sums = omega arith
+plus-swap (x ∷ r) (y ∷ a) (z ∷ b) = λ i. add-right-comm x y z i ∷ plus-swap r a b i
 
 plus-assoc : (r a b : List ℕ) → plus r (plus a b) ≡ plus (plus r a) b
 unfolding zipWith
 plus-assoc [] a b = refl
 plus-assoc (x ∷ r) [] b = refl
 plus-assoc (x ∷ r) (y ∷ a) [] = refl
-plus-assoc (x ∷ r) (y ∷ a) (z ∷ b) = λ i. sums i ∷ plus-assoc r a b i
-  where
-    sums : x + (y + z) ≡ x + y + z
-    sums = omega arith
+plus-assoc (x ∷ r) (y ∷ a) (z ∷ b) = ap₂ _∷_ (sym (add-assoc x y z)) (plus-assoc r a b)
 
 plus-short : (a b : List ℕ) → length (plus a b) ≤ length b
 unfolding zipWith
@@ -79,12 +74,12 @@ swapped r a b db da =
     elim (decLt longestCode (length a)) [
       | yes long ↦
           let kept : (x : List ℕ) → addedOf x a ≡ record { answer = tooLong; report = x } = λ x. long-kept x a long in
-          (not-bad tooLong (kept r) (eqb-false tooLong badValue refl), rw (kept r) db, rw (kept r, kept (addedOf r b .report)))
+          (rw (kept r) (eqb-false tooLong badValue refl), rw (kept r) db, rw (kept r, kept (addedOf r b .report)))
       | no na ↦
           elim (decLt longestCode (length b)) [
             | yes long ↦
                 let kept : (x : List ℕ) → addedOf x b ≡ record { answer = tooLong; report = x } = λ x. long-kept x b long in
-                (rw (kept r) at da, not-bad tooLong (kept (addedOf r a .report)) (eqb-false tooLong badValue refl), rw (kept (addedOf r a .report), kept r))
+                (rw (kept r) at da, rw (kept (addedOf r a .report)) (eqb-false tooLong badValue refl), rw (kept (addedOf r a .report), kept r))
             | no nb ↦
                 let A = reportOf a in
                 let B = reportOf b in
@@ -95,31 +90,25 @@ swapped r a b db da =
                 let first = short-added r a (omega arith) ∙ added-fits r A one in
                 let second : addedOf (addedOf r a .report) b ≡ record { answer = accepted; report = plus (plus r A) B } =
                 rw first (short-added (plus r A) b (omega arith) ∙ added-fits (plus r A) B both) in (
-                  not-bad accepted first (eqb-false accepted badValue refl),
-                  not-bad accepted second (eqb-false accepted badValue refl),
+                  rw first (eqb-false accepted badValue refl),
+                  rw second (eqb-false accepted badValue refl),
                   rw (second, fb .1, fa .1) (plus-swap r A B),
                 )
           ]
     ]
-  where
-    not-bad : {x : Added} {l : List ℕ} (n : ℕ) → x ≡ record { answer = n; report = l } → (n ≡ badValue → ⊥) → x .answer ≡ badValue → ⊥
-    not-bad n e d q = d (sym (ap (λ (y : Added). y .answer) e) ∙ q)
-
-in-order : {images others : List (List ℕ)} (report : List ℕ) → List·Permᴰ images others → Fits report images → Fits report others × (run report others ≡ run report images)
-in-order report List·Permᴰ·nil f = (f, refl)
-in-order report (List·Permᴰ·cons e p) f =
-    let h = in-order report p (f .0) in
-    ((h .0, rw (h .1, ← e) (f .1)), ap₂ (λ (r i : List ℕ). addedOf r i .report) (h .1) (sym e))
-in-order report (List·Permᴰ·swap {a = a} {b = b} {l = l} e₁ e₂) f =
-    let s = swapped (run report l) a b (f .0 .1) (f .1) in
-    rw (← e₁, ← e₂) (((f .0 .0, s .0), s .1), s .2)
-in-order report (List·Permᴰ·trans p q) f =
-    let h = in-order report p f in
-    let k = in-order report q (h .0) in
-    (k .0, k .1 ∙ h .1)
 
 pub any-order : AnyOrder
-any-order report images others p f = in-order report p f
+any-order report images others List·Permᴰ·nil f = (f, refl)
+any-order report images others (List·Permᴰ·cons e p) f =
+    let h = any-order report _ _ p (f .0) in
+    ((h .0, rw (h .1, ← e) (f .1)), ap₂ (λ (r i : List ℕ). addedOf r i .report) (h .1) (sym e))
+any-order report images others (List·Permᴰ·swap {a = a} {b = b} {l = l} e₁ e₂) f =
+    let s = swapped (addedAll report l) a b (f .0 .1) (f .1) in
+    rw (← e₁, ← e₂) (((f .0 .0, s .0), s .1), s .2)
+any-order report images others (List·Permᴰ·trans p q) f =
+    let h = any-order report _ _ p f in
+    let k = any-order report _ _ q (h .0) in
+    (k .0, k .1 ∙ h .1)
 
 pub joined-adds : JoinedAdds
 joined-adds report a b whole short f =

@@ -1,24 +1,23 @@
 -- The numbers of an image's report, each at its place, and that all of them fit. Assumes nothing.
 use mathlib.Core.Path.{_≡_, refl, sym, ap, ap₂, _∙_}
 use mathlib.Core.Bool.{cond}
-use mathlib.Core.List.{List, [], _∷_, _++_, map, flatMap, zipWith, map-append}
+use mathlib.Core.List.{List, [], _∷_, _++_, map, flatMap, zipWith}
 use Prim.Native.Nat.{ℕ, zero, suc, _+_, _*_, _/_, _%_, _^_, _≤_, _<_}
-use native.Mathlib.Nat.{mul-one, mul-comm, zero-add, suc-add}
+use native.Mathlib.Nat.{mul-one, mul-comm, zero-add}
 use native.Mathlib.Decide.{decLt}
 use native.Mathlib.Omega.{arith}
 use lib.Dec.{eqb, eqb→eq, leb, ltb, ltb→lt, lit<}
-use lib.ListN.{length, getD, set, replicate, length-append, List·getD-append, List·getD-eq-default}
+use lib.ListN.{length, getD, set, replicate, length-append, List·getD-eq-default}
 use lib.Seq.{getD-append-add}
 use Rattle.answer.specs.Answer.{accepted}
-use Rattle.bits.proofs.Laws.{part-lt}
 use Rattle.table.proofs.Check.{checked}
 use Rattle.bundle.specs.Bundle.{longestCode, tagOf, numberAt}
 use Rattle.bundle.specs.Template.{reserved, unitsOf, stopsOf}
-use Rattle.tally.specs.Report.{count, sum, below, tagsTo, tagsOf, withTag, stopsAt, countsOf, reportOf, plus}
-use Rattle.tally.specs.Share.{sharesOf}
-use Rattle.tally.specs.Holds.{reservedTags, numberOf, Counted, Alone}
-use Rattle.tally.proofs.Lists.{count-append, count-most, count-sum, sum-append, below-none, map-more, length-to, at-to, map-to}
-use Rattle.tally.proofs.Counts.{Tags, by-tag, tags-small, stops-few, shares-counted}
+use Rattle.tally.specs.Report.{howMany, sum, below, tagsOf, withTag, stopsAt, countsOf, reportOf, plus}
+use Rattle.tally.specs.inner.Share.{sharesOf}
+use Rattle.tally.specs.Holds.{reservedTags, reportNumber, Counted, Alone}
+use Rattle.tally.proofs.Lists.{count-append, count-most, count-sum, length-to, map-to}
+use Rattle.tally.proofs.Counts.{Tags, by-tag, counted-at, tags-small, stops-few, shares-counted}
 use Rattle.tally.proofs.Counts.{counted as Counts·counted}
 use Rattle.tally.specs.declared.Shares.{Shares}
 use Rattle.tally.proofs.Sums.{large, large-cons, added-fits, short-added}
@@ -36,28 +35,27 @@ module _ (image : List ℕ) where
   unfolding reportOf
   report-size = length-append (countsOf (tagsOf image)) _ ∙ omega (arith, counts-length)
 
-  tag-at : (t : ℕ) → t < 32 → numberOf image t ≡ withTag (tagsOf image) t
+  tag-at : (t : ℕ) → t < 32 → reportNumber image t ≡ withTag (tagsOf image) t
   unfolding reportOf
-  tag-at t h = List·getD-append (countsOf (tagsOf image)) _ 0 t (omega (arith, counts-length)) ∙ at-to (withTag (tagsOf image)) 32 t 0 h
+  tag-at t h = counted-at (tagsOf image) _ t h
+
+  small : Tags (tagsOf image)
+  unfolding tagsOf
+  small = tags-small image (length image / 16)
 
   -- the four numbers after those of the tags
   abbrev after : List ℕ
-  after = length (tagsOf image) ∷ count reserved (tagsOf image) ∷ sum (map stopsAt (tagsOf image)) ∷ length image % 16 ∷ []
+  after = length (tagsOf image) ∷ howMany reserved (tagsOf image) ∷ sum (map stopsAt (tagsOf image)) ∷ length image % 16 ∷ []
 
-  after-at : (i : ℕ) → numberOf image (32 + i) ≡ getD after i 0
+  after-at : (i : ℕ) → reportNumber image (32 + i) ≡ getD after i 0
   unfolding reportOf
   after-at i = ap (λ (k : ℕ). getD (reportOf image) (k + i) 0) (sym counts-length) ∙ getD-append-add (countsOf (tagsOf image)) after i 0
 
 -- the stops of bundles one after the other
-count-all : (tags : List ℕ) → sum (map stopsAt tags) ≡ count (λ s. s) (flatMap stopsOf tags)
+count-all : (tags : List ℕ) → sum (map stopsAt tags) ≡ howMany (λ s. s) (flatMap stopsOf tags)
 unfolding flatMap
 count-all [] = refl
 count-all (t ∷ tags) = sym (count-append (λ s. s) (stopsOf t) (flatMap stopsOf tags) ∙ omega (arith, count-all tags))
-
--- a sum over the tags is one over the bundles
-tag-sums : (w : ℕ → ℕ) (image : List ℕ) → sum (map (λ t. withTag (tagsOf image) t * w t) (below 32)) ≡ sum (map w (tagsOf image))
-unfolding tagsOf
-tag-sums w image = by-tag w (tagsOf image) (tags-small image (length image / 16))
 
 sum-ones : (l : List ℕ) → sum (map (λ t. 1) l) ≡ length l
 sum-ones [] = refl
@@ -86,37 +84,34 @@ counted image =
       stops = after-at image 2 ∙ count-all (tagsOf image);
       rest = after-at image 3;
       tags-sum =
-          ap sum (map-to 32 (λ t h. tag-at image t h ∙ sym (mul-one (withTag (tagsOf image) t)))) ∙ tag-sums (λ t. 1) image
+          ap sum (map-to 32 (λ t h. tag-at image t h ∙ sym (mul-one (withTag (tagsOf image) t)))) ∙ by-tag (λ t. 1) (tagsOf image) (small image)
           ∙ sum-ones (tagsOf image) ∙ sym (after-at image 0);
       reserved-sum =
           sym
-          (after-at image 1 ∙ count-sum reserved (tagsOf image) ∙ sym (tag-sums (λ t. cond (reserved t) 1 0) image)
-          ∙ ap sum (map-to 32 (λ t h. ap₂ _*_ (sym (tag-at image t h)) (reserved-listed t h) ∙ mul-comm (numberOf image t) (withTag reservedTags t)))
-          ∙ by-tag (numberOf image) reservedTags reserved-tags);
+          (after-at image 1 ∙ count-sum reserved (tagsOf image) ∙ sym (by-tag (λ t. cond (reserved t) 1 0) (tagsOf image) (small image))
+          ∙ ap sum (map-to 32 (λ t h. ap₂ _*_ (sym (tag-at image t h)) (reserved-listed t h) ∙ mul-comm (reportNumber image t) (withTag reservedTags t)))
+          ∙ by-tag (reportNumber image) reservedTags reserved-tags);
     }
 
 large-map : (f : ℕ → ℕ) (l : List ℕ) → ((t : ℕ) → f t < 2 ^ 64) → large (map f l) ≡ 0
 large-map f [] h = refl
 large-map f (t ∷ l) h = large-cons (f t) (map f l) (h t) (large-map f l h)
 
-stops-most : (image : List ℕ) (n : ℕ) → sum (map stopsAt (tagsTo image n)) ≤ 3 * n
-stops-most image zero = rw below-none (omega arith)
-stops-most image (suc n) =
-    let t = tagOf (numberAt image n) in
-    rw (map-more (λ k. tagOf (numberAt image k)) n, map-append stopsAt (tagsTo image n) (t ∷ []), sum-append (map stopsAt (tagsTo image n)) (stopsAt t ∷ []))
-    (omega (arith, stops-most image n, stops-few t (part-lt (numberAt image n) 0 5)))
+stops-most : (tags : List ℕ) → Tags tags → sum (map stopsAt tags) ≤ 3 * length tags
+stops-most [] small = omega arith
+stops-most (t ∷ tags) small = omega (arith, stops-few t (small 0), stops-most tags (λ i. small (suc i)))
 
 large-report : (image : List ℕ) → length image ≤ longestCode → large (reportOf image) ≡ 0
-unfolding reportOf tagsOf
+unfolding reportOf
 large-report image h =
     let tags = tagsOf image in
     let few : length tags ≤ 4096 = omega (arith, tags-length image) in
     let rest = length image % 16 ∷ [] in
     let stops = sum (map stopsAt tags) ∷ rest in
     let others : large (after image) ≡ 0 =
-    large-cons (length tags) (count reserved tags ∷ stops) (omega arith)
-    (large-cons (count reserved tags) stops (omega (arith, count-most reserved tags))
-    (large-cons (sum (map stopsAt tags)) rest (omega (arith, stops-most image (length image / 16)))
+    large-cons (length tags) (howMany reserved tags ∷ stops) (omega arith)
+    (large-cons (howMany reserved tags) stops (omega (arith, count-most reserved tags))
+    (large-cons (sum (map stopsAt tags)) rest (omega (arith, stops-most tags (small image)))
     (large-cons (length image % 16) [] (omega arith) refl))) in
     rw (count-append (leb (2 ^ 64)) (countsOf tags) (after image))
     (omega (arith, large-map (withTag tags) (below 32) (λ t. omega (arith, count-most (λ u. eqb u t) tags)), others))
@@ -131,27 +126,15 @@ alone image h =
     let none : plus (replicate 36 0) (reportOf image) ≡ reportOf image = ap (λ (n : ℕ). plus (replicate n 0) (reportOf image)) (sym (report-size image)) ∙ plus-none (reportOf image) in
     short-added (replicate 36 0) image h ∙ added-fits (replicate 36 0) (reportOf image) (rw none (large-report image h)) ∙ ap (λ (l : List ℕ). record { answer = accepted; report = l }) none
 
--- places after a list
-set-past : (l ys : List ℕ) (k a : ℕ) → set (l ++ ys) (length l + k) a ≡ l ++ set ys k a
-set-past [] ys k a = rw zero-add
-set-past (x ∷ l) ys k a = rw suc-add (ap (λ (m : List ℕ). x ∷ m) (set-past l ys k a))
-
-filled : (l : List ℕ) (a b c d : ℕ) → length l ≡ 32 → set (set (set (set (l ++ replicate 4 0) 32 a) 33 b) 34 c) 35 d ≡ l ++ (a ∷ b ∷ c ∷ d ∷ [])
-filled l a b c d e =
-    let put : (ys : List ℕ) (k x : ℕ) → set (l ++ ys) (32 + k) x ≡ l ++ set ys k x = λ ys k x. rw e at (set-past l ys k x) in
-    ap (λ (m : List ℕ). set (set (set m 33 b) 34 c) 35 d) (put (replicate 4 0) 0 a)
-    ∙ ap (λ (m : List ℕ). set (set m 34 c) 35 d) (put (a ∷ replicate 3 0) 1 b)
-    ∙ ap (λ (m : List ℕ). set m 35 d) (put (a ∷ b ∷ replicate 2 0) 2 c)
-    ∙ put (a ∷ b ∷ c ∷ 0 ∷ []) 3 d
-
-shares-all : (image : List ℕ) → let tags = tagsOf image in sharesOf (Counts·counted tags) ≡ record { reserved = count reserved tags; stops = sum (map stopsAt tags) }
-unfolding tagsOf
-shares-all image = shares-counted image (length image / 16)
+-- the four places after the counts
+filled : (tags : List ℕ) (a b c d : ℕ) → set (set (set (set (Counts·counted tags) 32 a) 33 b) 34 c) 35 d ≡ countsOf tags ++ (a ∷ b ∷ c ∷ d ∷ [])
+unfolding below
+filled tags a b c d = refl
 
 -- how the report is made: the counts, and what they come to after them
 pub report-made : (image counts : List ℕ) (shares : Shares) → counts ≡ Counts·counted (tagsOf image) → shares ≡ sharesOf counts
     → set (set (set (set counts 32 (length image / 16)) 33 (shares .reserved)) 34 (shares .stops)) 35 (length image % 16) ≡ reportOf image
 unfolding reportOf
 report-made image counts shares made shared =
-    let is = shared ∙ ap sharesOf made ∙ shares-all image in
-    rw (made, is, ← tags-length image) (filled (countsOf (tagsOf image)) _ _ _ _ (counts-length image))
+    let is = shared ∙ ap sharesOf made ∙ shares-counted (tagsOf image) (small image) in
+    rw (made, is, ← tags-length image) (filled (tagsOf image) _ _ _ _)

@@ -10,7 +10,7 @@ use lib.Seq.{take-suc, split-at, paste-suc}
 use borrow.Author.Tests.{lt-ltb, le-ltb, le-leb, lt-leb}
 use Rattle.answer.specs.Answer.{accepted, badValue, tooLong}
 use Rattle.bundle.specs.Bundle.{longestCode}
-use Rattle.tally.specs.Report.{count, reportOf, plus, addedBy, addedOf}
+use Rattle.tally.specs.Report.{howMany, reportOf, plus, addedBy, addedOf}
 use Rattle.tally.proofs.Lists.{count-append, count-cons}
 
 pub plus-length : (a b : List ℕ) → length a ≡ length b → length (plus a b) ≡ length a
@@ -33,7 +33,7 @@ sums-more report sums i h k = simp zero-add at (paste-suc report 0 sums i 0 (ome
 
 -- how many numbers take more than 64 bits
 abbrev pub large : List ℕ → ℕ
-large l = count (leb (2 ^ 64)) l
+large l = howMany (leb (2 ^ 64)) l
 
 pub large-cons : (x : ℕ) (l : List ℕ) → x < 2 ^ 64 → large l ≡ 0 → large (x ∷ l) ≡ 0
 large-cons x l s e = rw (count-cons (leb (2 ^ 64)) x l, lt-leb (2 ^ 64) x s) (omega arith)

@@ -1,4 +1,4 @@
 pub mod Holds
 pub mod Report
-pub mod Share
 pub mod Text
+pub mod inner

@@ -10,8 +10,8 @@ use Rattle.bundle.specs.Template.{reserved, stopsOf}
 use Rattle.tally.specs.declared.Added.{Added}
 
 -- how many of a list pass a test
-abbrev pub count {ℓ} : {A : Type ℓ} → (A → Bool) → List A → ℕ
-count test l = length (filter (λ a. Bool-discrete (test a) true) l)
+abbrev pub howMany {ℓ} : {A : Type ℓ} → (A → Bool) → List A → ℕ
+howMany test l = length (filter (λ a. Bool-discrete (test a) true) l)
 
 -- the sum of a list
 abbrev pub sum : List ℕ → ℕ
@@ -31,11 +31,11 @@ tagsOf image = tagsTo image (length image / 16)
 
 -- how many of some bundles have tag t
 abbrev pub withTag : List ℕ → ℕ → ℕ
-withTag tags t = count (λ u. eqb u t) tags
+withTag tags t = howMany (λ u. eqb u t) tags
 
 -- how many stops a bundle of tag t has
 abbrev pub stopsAt : ℕ → ℕ
-stopsAt t = count (λ s. s) (stopsOf t)
+stopsAt t = howMany (λ s. s) (stopsOf t)
 
 -- the counts of the 32 tags
 abbrev pub countsOf : List ℕ → List ℕ
@@ -45,7 +45,7 @@ countsOf tags = map (withTag tags) (below 32)
 unfoldable pub reportOf : List ℕ → List ℕ
 reportOf image =
     let tags = tagsOf image in
-    countsOf tags ++ (length tags ∷ count reserved tags ∷ sum (map stopsAt tags) ∷ length image % 16 ∷ [])
+    countsOf tags ++ (length tags ∷ howMany reserved tags ∷ sum (map stopsAt tags) ∷ length image % 16 ∷ [])
 
 -- two reports added up
 abbrev pub plus : List ℕ → List ℕ → List ℕ
@@ -53,7 +53,7 @@ plus a b = zipWith _+_ a b
 
 -- some number of a report takes more than 64 bits
 abbrev pub overflows : List ℕ → Bool
-overflows report = ltb 0 (count (leb (2 ^ 64)) report)
+overflows report = ltb 0 (howMany (leb (2 ^ 64)) report)
 
 -- a report with another added, after the refusals given: the sum, and where refused the report as it was
 unfoldable pub addedBy : List Refusal → List ℕ → List ℕ → Added

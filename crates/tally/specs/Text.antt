@@ -16,14 +16,14 @@ unfoldable pub labelOf : ℕ → List ℕ
 labelOf i = select i names (decimal i)
 
 -- the line of number i
-unfoldable pub lineOf : ℕ → ℕ → List ℕ
-lineOf i n = line (labelOf i ∷ decimal n ∷ [])
+unfoldable pub numberLine : ℕ → ℕ → List ℕ
+numberLine i n = line (labelOf i ∷ decimal n ∷ [])
 
 -- the lines of the first n numbers
-unfoldable pub linesTo : List ℕ → ℕ → List ℕ
-linesTo report zero = []
-linesTo report (suc n) = linesTo report n ++ lineOf n (getD report n 0)
+unfoldable pub numberLines : List ℕ → ℕ → List ℕ
+numberLines report zero = []
+numberLines report (suc n) = numberLines report n ++ numberLine n (getD report n 0)
 
 -- the text of a report
 abbrev pub textOf : List ℕ → List ℕ
-textOf report = linesTo report 36
+textOf report = numberLines report 36

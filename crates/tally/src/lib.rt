@@ -8,7 +8,7 @@ ghost use Prim.Native.Nat.{_≤_, _<_};
 ghost use lib.ListN.{length, replicate};
 ghost use Rattle.bundle.specs.Bundle.{longestCode};
 ghost use Rattle.tally.specs.Report.{tagsOf, countsOf, reportOf, addedBy, addedOf};
-ghost use Rattle.tally.specs.Share.{Few, shareOf, sharesOf};
+ghost use Rattle.tally.specs.inner.Share.{Few, tagShares, sharesOf};
 use answer::ACCEPTED;
 use answer::BAD_VALUE;
 use answer::TOO_LONG;
@@ -29,7 +29,7 @@ const REST: usize = 35;
 pub const NUMBERS: usize = 36;
 
 // No report's text is longer.
-pub const CAPACITY: usize = 1080;
+pub const CAPACITY: usize = 870;
 
 pub struct Added {
     pub answer: u8,
@@ -130,7 +130,7 @@ fn shares_of(counts: [u64; NUMBERS]) -> Shares
 // What one bundle of a tag adds.
 fn share(tag: u64) -> Shares
     requires { ⌜ tag < 32 ⌝ }
-    ensures { λ r. ⌜ (r ≡ shareOf tag) × (r .reserved ≤ 1) × (r .stops ≤ 3) ⌝ }
+    ensures { λ r. ⌜ (r ≡ tagShares tag) × (r .reserved ≤ 1) × (r .stops ≤ 3) ⌝ }
 {
     let template = bundle::template_of(Halves { low: tag, high: 0 });
     let units = template.units;

@@ -1,6 +1,9 @@
 // The report as a text. Each function writes at a place and answers the place after it.
+ghost use Prim.Native.Nat.{_≤_};
+ghost use lib.ListN.{length};
 ghost use Rattle.text.specs.Put.{Put};
-ghost use Rattle.tally.specs.Text.{labelOf, lineOf, textOf};
+ghost use Rattle.tally.specs.Text.{labelOf, numberLine, textOf};
+use crate::CAPACITY;
 use crate::NUMBERS;
 use text::NEWLINE;
 use text::TAB;
@@ -11,7 +14,8 @@ use text::put_text;
 
 // A line for each number.
 pub fn put_report(out: &mut [u8], at: usize, report: [u64; NUMBERS]) -> usize
-    ensures { λ r. ⌜ Put (now (out .entry)) at (textOf report) (now (out .exit)) r ⌝ }
+    ensures text { λ r. ⌜ Put (now (out .entry)) at (textOf report) (now (out .exit)) r ⌝ }
+    ensures room { λ _. do ⌜ length (textOf report) ≤ (← ⟦CAPACITY⟧ .entry) ⌝ }
 {
     let mut next = at;
     let mut i = 0;
@@ -24,7 +28,7 @@ pub fn put_report(out: &mut [u8], at: usize, report: [u64; NUMBERS]) -> usize
 
 // The line of number `i`.
 fn put_line(out: &mut [u8], at: usize, i: u64, n: u64) -> usize
-    ensures { λ r. ⌜ Put (now (out .entry)) at (lineOf i n) (now (out .exit)) r ⌝ }
+    ensures { λ r. ⌜ Put (now (out .entry)) at (numberLine i n) (now (out .exit)) r ⌝ }
 {
     let mut next = put_label(out, at, i);
     next = put_byte(out, next, TAB);

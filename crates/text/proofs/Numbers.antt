@@ -11,12 +11,15 @@ use lib.Dec.{leb, ltb}
 use lib.ListN.{length, getD, drop, drop-of-length-le}
 use lib.Seq.{drop-cons}
 use borrow.Author.Tests.{lt-ltb, le-ltb, le-leb, leb-true, ltb-true}
-use Rattle.text.specs.Ascii.{within, same}
+use Rattle.text.specs.Ascii.{within, sameText}
 use Rattle.text.specs.Decimal.{decimal}
 use Rattle.text.specs.declared.number.Number.the-variants.{Read, Refused}
 use Rattle.text.specs.Number.{digitsOf, worth, numberOf}
 use Rattle.text.proofs.Numerals.{decimal-one, decimal-more}
 use Rattle.text.proofs.Stands.{Stands, stands}
+
+pub bounds : (low high c : ℕ) → within low high c ≡ true → (low ≤ c) × (c ≤ high)
+bounds low high c e = let b = and-eq-true-iff (leb low c) (leb c high) .0 e in (leb-true low c (b .0), leb-true c high (b .1))
 
 pub record Digit (c : ℕ) : Type 0 where
   pub test : within 48 57 c ≡ true
@@ -24,7 +27,7 @@ pub record Digit (c : ℕ) : Type 0 where
   pub high : c ≤ 57
 
 pub digit : (c : ℕ) → within 48 57 c ≡ true → Digit c
-digit c e = let b = and-eq-true-iff (leb 48 c) (leb c 57) .0 e in record { test = e; low = leb-true 48 c (b .0); high = leb-true c 57 (b .1) }
+digit c e = let b = bounds 48 57 c e in record { test = e; low = b .0; high = b .1 }
 
 digit-of : (n : ℕ) → n < 10 → Digit (48 + n)
 digit-of n h = digit (48 + n) (rw (le-leb 48 (48 + n) (omega arith), le-leb (48 + n) 57 (omega arith)))
@@ -171,29 +174,27 @@ pub record IsRead (text : List ℕ) (at n next : ℕ) : Type 0 where
   pub below : n < 2 ^ 64
   pub piece : Stands text at (decimal n) next
 
+-- what a test comes to where it doesn't come to its second case
+pub taken : {A : Type 0} (t : Bool) {x y z : A} → cond t x y ≡ z → (y ≡ z → ⊥) → (t ≡ true) × (x ≡ z)
+taken true e n = (refl, e)
+taken false e n = absurd (n e)
+
 pub no-number : {n next : ℕ} → Refused ≡ Read n next → ⊥
 no-number e = let z : _≡_ {A = ℕ} 0 1 = cc in omega arith
 
 module _ (text : List ℕ) (at n next : ℕ) where
   pub number-read : numberOf text at ≡ Read n next → IsRead text at n next
   unfolding numberOf
-  number-read = go (ltb m (2 ^ 64)) (same ds (decimal m)) refl refl
-    where
-      ds : List ℕ
-      ds = digitsOf (drop at text)
-
-      m : ℕ
-      m = worth 0 ds
-
-      go : (t u : Bool) → ltb m (2 ^ 64) ≡ t → same ds (decimal m) ≡ u → cond (t && u) (Read m (at + length ds)) Refused ≡ Read n next → IsRead text at n next
-      go false u p q e = absurd (no-number e)
-      go true false p q e = absurd (no-number e)
-      go true true p q e =
-          let v : m ≡ n = cc in
-          let w : at + length ds ≡ next = cc in
-          let d : ds ≡ decimal n = decide-iff (List-discrete ℕ-discrete ds (decimal m)) .0 q ∙ ap decimal v in
-          let s = digits-split (drop at text) in
-          record { below = rw v at (ltb-true m (2 ^ 64) p); piece = rw (← w, d) (stands at (decimal n) (s .0) (s .1 ∙ ap (λ (l : List ℕ). l ++ s .0) d)) }
+  number-read e =
+      let ds = digitsOf (drop at text) in
+      let m = worth 0 ds in
+      let t = taken (ltb m (2 ^ 64) && sameText ds (decimal m)) e no-number in
+      let b = and-eq-true-iff (ltb m (2 ^ 64)) (sameText ds (decimal m)) .0 (t .0) in
+      let v : m ≡ n = cc (t .1) in
+      let w : at + length ds ≡ next = cc (t .1) in
+      let d : ds ≡ decimal n = decide-iff (List-discrete ℕ-discrete ds (decimal m)) .0 (b .1) ∙ ap decimal v in
+      let s = digits-split (drop at text) in
+      record { below = rw v at (ltb-true m (2 ^ 64) (b .0)); piece = rw (← w, d) (stands at (decimal n) (s .0) (s .1 ∙ ap (λ (l : List ℕ). l ++ s .0) d)) }
 
   -- and the decimal that stands there is read, where no digit comes after it
   pub number-back : digitsOf (drop next text) ≡ [] → IsRead text at n next → numberOf text at ≡ Read n next

@@ -49,13 +49,10 @@ length-four n h =
     let e : n / 10000 ≡ n / 10 / 10 / 10 / 10 = omega arith in
     rw e (omega (arith, length-more n (omega arith), length-more (n / 10) (omega arith), length-more (n / 10 / 10) (omega arith), length-more (n / 10 / 10 / 10) (omega arith)))
 
-tenth-below : (k n : ℕ) → n < 10 ^ suc k → n / 10 < 10 ^ k
-tenth-below k n h = omega arith
-
 pub decimal-length : (k n : ℕ) → n < 10 ^ suc k → length (decimal n) ≤ suc k
 decimal-length zero n h = rw (decimal-one n h) (omega arith)
 decimal-length (suc k) n h =
     elim (decLt n 10) [
       | yes s ↦ rw (decimal-one n s) (omega arith)
-      | no s ↦ rw (decimal-more n (omega arith), length-append) (omega (arith, decimal-length k (n / 10) (tenth-below (suc k) n h)))
+      | no s ↦ rw (decimal-more n (omega arith), length-append) (omega (arith, decimal-length k (n / 10) (omega arith)))
     ]

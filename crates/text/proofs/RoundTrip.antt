@@ -1,30 +1,28 @@
 -- Fields are read back as their numbers, and what is read are the fields of its numbers: one after the other, each is a decimal and
 -- the byte that ends it. Assumes nothing.
 use mathlib.Core.Path.{_≡_, refl, sym, ap, _∙_}
-use mathlib.Core.Bool.{Bool, true, false, cond, decide-iff, false≢true}
+use mathlib.Core.Bool.{Bool, true, false, decide-iff, false≢true}
 use mathlib.Core.List.{List, [], _∷_, _++_, List-discrete}
 use mathlib.Core.Option.{Option, none, some, Option·some-injective, Option·none-ne-some}
 use Prim.Native.Nat.{ℕ, suc, _+_, _^_, _≤_, _<_}
 use native.Mathlib.Nat.{add-zero}
-use native.Mathlib.Numerals.{add-one}
 use native.Mathlib.Omega.{arith}
 use native.Mathlib.Decide.{ℕ-discrete, decLt}
 use borrow.Author.Tests.{eqb-true, eq-eqb}
 use lib.Dec.{eqb}
 use lib.ListN.{length, getD, take, drop, set, drop-of-length-le, length-take, take-append-drop}
 use lib.Seq.{drop-cons, drop-drop, append-snoc, take-append-seam}
-use Rattle.text.specs.Ascii.{within, same, startsWith}
+use Rattle.text.specs.Ascii.{within, sameText, startsWith}
 use Rattle.text.specs.Decimal.{decimal}
 use Rattle.text.specs.Fields.{fields, fieldAt, before, fieldsAt, readTo}
 use Rattle.text.specs.Number.{digitsOf, numberOf}
-use Rattle.text.specs.declared.fields.Fields.{Fields}
 use Rattle.text.specs.declared.number.Number.{Number}
 use Rattle.text.specs.declared.number.Number.the-variants.{Read, Refused}
-use Rattle.text.proofs.Numbers.{IsRead, differ, no-number, number-read, number-back}
+use Rattle.text.proofs.Numbers.{differ, taken, no-number, number-read, number-back}
 use Rattle.text.proofs.Stands.{Stands, stands-then, stands-parts}
 
 -- texts that are the same, and one that begins with another
-pub same-as : (r : Bool) (a b : List ℕ) → (r ≡ true → a ≡ b) → (a ≡ b → r ≡ true) → r ≡ same a b
+pub same-as : (r : Bool) (a b : List ℕ) → (r ≡ true → a ≡ b) → (a ≡ b → r ≡ true) → r ≡ sameText a b
 same-as true a b f g = sym (decide-iff (List-discrete ℕ-discrete a b) .1 (f refl))
 same-as false a b f g = sym (differ (List-discrete ℕ-discrete a b) (λ e. false≢true (g e)))
 
@@ -66,28 +64,36 @@ module _ (text : List ℕ) (at end : ℕ) where
   unfolding fieldAt
   field-none e = rw e
 
-  pub field-next : (n next : ℕ) → numberOf text at ≡ Read n next → cond (startsWith (end ∷ []) (drop next text)) (Read n (next + 1)) Refused ≡ fieldAt text at end
-  unfolding fieldAt
-  field-next n next e = rw e
-
--- fields, by the first of them
-read-more : (of : List ℕ) (i n : ℕ) (rest : Option (List ℕ × ℕ)) → readTo of i (before n rest) ≡ readTo (set of i n) (suc i) rest
+-- numbers read, by the first of them
+pub read-more : (of : List ℕ) (i n : ℕ) (rest : Option (List ℕ × ℕ)) → readTo of i (before n rest) ≡ readTo (set of i n) (suc i) rest
 read-more of i n none = refl
 read-more of i n (some r) = refl
 
-module _ (text of ends : List ℕ) (at i : ℕ) where
-  pub fields-done : length ends ≤ i → record { read = true; next = at; of = of } ≡ readTo of i (fieldsAt text at (drop i ends))
-  unfolding fieldsAt
-  fields-done h = rw (drop-of-length-le ends h)
+some-parts : {r s : List ℕ × ℕ} → some r ≡ some s → (r .0 ≡ s .0) × (r .1 ≡ s .1)
+some-parts e = let p = Option·some-injective _ _ e in (ap (λ (r : List ℕ × ℕ). r .0) p, ap (λ (r : List ℕ × ℕ). r .1) p)
 
-  module _ (h : i < length ends) where
-    pub fields-none : fieldAt text at (getD ends i 0) ≡ Refused → readTo of i none ≡ readTo of i (fieldsAt text at (drop i ends))
-    unfolding fieldsAt
-    fields-none e = rw (drop-cons ends i 0 h, e)
+-- numbers that were read: the first of them, and the others
+record First (text : List ℕ) (at end : ℕ) (ends ns : List ℕ) (next : ℕ) : Type 0 where
+  number : ℕ
+  middle : ℕ
+  others : List ℕ
+  field : fieldAt text at end ≡ Read number middle
+  rest : fieldsAt text middle ends ≡ some (others, next)
+  all : ns ≡ number ∷ others
 
-    pub fields-more : (n next : ℕ) → fieldAt text at (getD ends i 0) ≡ Read n next → readTo of i (fieldsAt text at (drop i ends)) ≡ readTo (set of i n) (i + 1) (fieldsAt text next (drop (i + 1) ends))
-    unfolding fieldsAt
-    fields-more n next e = rw (drop-cons ends i 0 h, e, add-one) (read-more of i n (fieldsAt text next (drop (suc i) ends)))
+fields-first : (text : List ℕ) (at end : ℕ) (ends ns : List ℕ) (next : ℕ) → fieldsAt text at (end ∷ ends) ≡ some (ns, next) → First text at end ends ns next
+unfolding fieldsAt
+fields-first text at end ends ns next e = by-field (fieldAt text at end) refl
+  where
+    by-rest : (n middle : ℕ) → fieldAt text at end ≡ Read n middle → (o : Option (List ℕ × ℕ)) → fieldsAt text middle ends ≡ o → before n o ≡ some (ns, next) → First text at end ends ns next
+    by-rest n middle f none q e = absurd (Option·none-ne-some (ns, next) e)
+    by-rest n middle f (some r) q e =
+        let q′ = some-parts e in
+        record { number = n; middle = middle; others = r .0; field = f; rest = rw (q′ .1) at q; all = sym (q′ .0) }
+
+    by-field : (m : Number) → fieldAt text at end ≡ m → First text at end ends ns next
+    by-field Refused f = absurd (Option·none-ne-some (ns, next) (rw f at e))
+    by-field (Read n middle) f = by-rest n middle f (fieldsAt text middle ends) refl (rw f at e)
 
 -- numbers below 2 ^ 64, and bytes that are no digits
 abbrev pub Words : List ℕ → Type 0
@@ -107,42 +113,30 @@ pub record FieldsStand (text : List ℕ) (at : ℕ) (ends ns : List ℕ) (next :
 module _ (text : List ℕ) where
   -- what is read stands there
   module _ (at end n next : ℕ) where
-    field-end : (k middle : ℕ) → IsRead text at k middle → (t : Bool) → startsWith (end ∷ []) (drop middle text) ≡ t → cond t (Read k (middle + 1)) Refused ≡ Read n next → FieldsStand text at (end ∷ []) (n ∷ []) next
-    field-end k middle r false s q = absurd (no-number q)
-    field-end k middle r true s q =
-        let v : k ≡ n = cc in
-        let p : middle + 1 ≡ next = cc in
-        rw (← v, ← p) (record { count = refl; words = (r .below, tt); piece = stands-then (r .piece) (byte-stands text middle end s) })
-
     field-cases : (m : Number) → numberOf text at ≡ m → fieldAt text at end ≡ Read n next → FieldsStand text at (end ∷ []) (n ∷ []) next
     unfolding fieldAt
     field-cases Refused e f = absurd (no-number (rw e at f))
-    field-cases (Read k middle) e f = field-end k middle (number-read text at k middle e) (startsWith (end ∷ []) (drop middle text)) refl (rw e at f)
+    field-cases (Read k middle) e f =
+        let t = taken (startsWith (end ∷ []) (drop middle text)) (rw e at f) no-number in
+        let v : k ≡ n = cc (t .1) in
+        let p : middle + 1 ≡ next = cc (t .1) in
+        let r = number-read text at k middle e in
+        rw (← v, ← p) (record { count = refl; words = (r .below, tt); piece = stands-then (r .piece) (byte-stands text middle end (t .0)) })
 
     pub field-read : fieldAt text at end ≡ Read n next → FieldsStand text at (end ∷ []) (n ∷ []) next
     field-read = field-cases (numberOf text at) refl
 
-  module _ (at end : ℕ) (ends ns : List ℕ) (next : ℕ) where
-    rest-cases : (n middle : ℕ) → fieldAt text at end ≡ Read n middle → (o : Option (List ℕ × ℕ)) → ((ms : List ℕ) (last : ℕ) → o ≡ some (ms, last) → FieldsStand text middle ends ms last) → before n o ≡ some (ns, next) → FieldsStand text at (end ∷ ends) ns next
-    rest-cases n middle e none rest f = absurd (Option·none-ne-some (ns, next) f)
-    rest-cases n middle e (some r) rest f =
-        let i = field-read at end n middle e in
-        let j = rest (r .0) (r .1) refl in
-        let q : _≡_ {A = List ℕ × ℕ} (n ∷ r .0, r .1) (ns, next) = Option·some-injective _ _ f in
-        rw (← ap (λ (p : List ℕ × ℕ). p .0) q, ← ap (λ (p : List ℕ × ℕ). p .1) q)
-        (record { count = ap suc (j .count); words = (i .words .0, j .words); piece = rw (append-snoc (decimal n) end (fields (r .0) ends)) at (stands-then (i .piece) (j .piece)) })
-
-    first-cases : (m : Number) → fieldAt text at end ≡ m → ((middle : ℕ) (ms : List ℕ) (last : ℕ) → fieldsAt text middle ends ≡ some (ms, last) → FieldsStand text middle ends ms last) → fieldsAt text at (end ∷ ends) ≡ some (ns, next) → FieldsStand text at (end ∷ ends) ns next
-    unfolding fieldsAt
-    first-cases Refused e rest f = absurd (Option·none-ne-some (ns, next) (rw e at f))
-    first-cases (Read n middle) e rest f = rest-cases n middle e (fieldsAt text middle ends) (rest middle) (rw e at f)
-
   pub fields-read : (ends : List ℕ) (at : ℕ) (ns : List ℕ) (next : ℕ) → fieldsAt text at ends ≡ some (ns, next) → FieldsStand text at ends ns next
   unfolding fieldsAt
   fields-read [] at ns next e =
-      let q : _≡_ {A = List ℕ × ℕ} ([], at) (ns, next) = Option·some-injective _ _ e in
-      rw (← ap (λ (p : List ℕ × ℕ). p .0) q, ← ap (λ (p : List ℕ × ℕ). p .1) q) (record { count = refl; words = tt; piece = record { found = refl; place = sym (add-zero at) } })
-  fields-read (end ∷ ends) at ns next e = first-cases at end ends ns next (fieldAt text at end) refl (λ middle ms last. fields-read ends middle ms last) e
+      let q = some-parts e in
+      rw (← q .0, ← q .1) (record { count = refl; words = tt; piece = record { found = refl; place = sym (add-zero at) } })
+  fields-read (end ∷ ends) at ns next e =
+      let f = fields-first text at end ends ns next e in
+      let i = field-read at end (f .number) (f .middle) (f .field) in
+      let j = fields-read ends (f .middle) (f .others) next (f .rest) in
+      rw (f .all)
+      (record { count = ap suc (j .count); words = (i .words .0, j .words); piece = rw (append-snoc (decimal (f .number)) end (fields (f .others) ends)) at (stands-then (i .piece) (j .piece)) })
 
   -- what stands there is read, where the byte that ends it is no digit
   pub ended : (at end next : ℕ) → within 48 57 end ≡ false → Stands text at (end ∷ []) next → (digitsOf (drop at text) ≡ []) × (startsWith (end ∷ []) (drop at text) ≡ true)
@@ -179,15 +173,7 @@ module _ (text more : List ℕ) (next : ℕ) where
   pub fields-split : (ends : List ℕ) (at : ℕ) (ns : List ℕ) → fieldsAt text at (ends ++ more) ≡ some (ns, next) → FieldsSplit text at ends more next
   unfolding fieldsAt
   fields-split [] at ns e = record { front = []; middle = at; back = ns; first = refl; rest = e }
-  fields-split (end ∷ ends) at ns e = by-field (fields-split ends) (fieldAt text at end) refl
-    where
-      by-rest : ((after : ℕ) (ms : List ℕ) → fieldsAt text after (ends ++ more) ≡ some (ms, next) → FieldsSplit text after ends more next) → (n after : ℕ) → fieldAt text at end ≡ Read n after → (o : Option (List ℕ × ℕ)) → fieldsAt text after (ends ++ more) ≡ o → before n o ≡ some (ns, next) → FieldsSplit text at (end ∷ ends) more next
-      by-rest split n after f none q e = absurd (Option·none-ne-some (ns, next) e)
-      by-rest split n after f (some r) q e =
-          let last : r .1 ≡ next = ap (λ (p : List ℕ × ℕ). p .1) (Option·some-injective (n ∷ r .0, r .1) (ns, next) e) in
-          let s = split after (r .0) (q ∙ ap (λ (k : ℕ). some (r .0, k)) last) in
-          record { front = n ∷ s .front; middle = s .middle; back = s .back; first = rw (f, s .first); rest = s .rest }
-
-      by-field : ((after : ℕ) (ms : List ℕ) → fieldsAt text after (ends ++ more) ≡ some (ms, next) → FieldsSplit text after ends more next) → (m : Number) → fieldAt text at end ≡ m → FieldsSplit text at (end ∷ ends) more next
-      by-field split Refused f = absurd (Option·none-ne-some (ns, next) (rw f at e))
-      by-field split (Read n after) f = by-rest split n after f (fieldsAt text after (ends ++ more)) refl (rw f at e)
+  fields-split (end ∷ ends) at ns e =
+      let f = fields-first text at end (ends ++ more) ns next e in
+      let s = fields-split ends (f .middle) (f .others) (f .rest) in
+      record { front = f .number ∷ s .front; middle = s .middle; back = s .back; first = rw (f .field, s .first); rest = s .rest }

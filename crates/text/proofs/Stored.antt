@@ -4,9 +4,8 @@ use mathlib.Core.Bool.{true, false, false≢true}
 use mathlib.Core.List.{List, [], _∷_, _++_}
 use mathlib.Core.Option.{Option, none, some}
 use Prim.Native.Nat.{ℕ, zero, suc, _+_, _≤_}
-use native.Mathlib.Decide.{decLt}
 use native.Mathlib.Omega.{arith}
-use lib.ListN.{length, getD, drop, replicate, length-replicate, getD-replicate, List·getD-eq-default}
+use lib.ListN.{length, getD, drop, replicate}
 use lib.Seq.{sets, getD-drop}
 use Rattle.text.specs.Fields.{fieldsAt, readTo, fieldsOf}
 use Rattle.text.specs.declared.fields.Fields.{Fields}
@@ -20,11 +19,9 @@ padded (n ∷ ns) zs z zero = refl
 padded (n ∷ ns) zs z (suc i) = padded ns zs z i
 
 zeros : (n i : ℕ) → getD {A = ℕ} (replicate n 0) i 0 ≡ 0
-zeros n i =
-    elim (decLt i n) [
-      | yes h ↦ getD-replicate {A = ℕ} n i 0 0 h
-      | no h ↦ List·getD-eq-default {A = ℕ} (replicate n 0) 0 {n = i} (omega (arith, length-replicate {A = ℕ} n 0))
-    ]
+zeros zero i = refl
+zeros (suc n) zero = refl
+zeros (suc n) (suc i) = zeros n i
 
 stored : (ns : List ℕ) → length ns ≤ 8 → (i : ℕ) → getD (sets (replicate 8 0) 0 ns) i 0 ≡ getD ns i 0
 stored ns h i =

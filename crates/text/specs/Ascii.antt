@@ -23,9 +23,9 @@ abbrev pub within : ℕ → ℕ → ℕ → Bool
 within low high c = leb low c && leb c high
 
 -- whether two texts are the same
-abbrev pub same : List ℕ → List ℕ → Bool
-same a b = decide (List-discrete ℕ-discrete a b)
+abbrev pub sameText : List ℕ → List ℕ → Bool
+sameText a b = decide (List-discrete ℕ-discrete a b)
 
 -- whether a text begins with `start`
 abbrev pub startsWith : List ℕ → List ℕ → Bool
-startsWith start text = same (take (length start) text) start
+startsWith start text = sameText (take (length start) text) start

@@ -4,7 +4,7 @@ use mathlib.Core.Bool.{cond, _&&_}
 use mathlib.Core.List.{List, [], _∷_}
 use lib.Dec.{ltb}
 use lib.ListN.{length, drop}
-use Rattle.text.specs.Ascii.{within, same}
+use Rattle.text.specs.Ascii.{within, sameText}
 use Rattle.text.specs.Decimal.{decimal}
 use Rattle.text.specs.declared.number.Number.{Number}
 use Rattle.text.specs.declared.number.Number.the-variants.{Read, Refused}
@@ -24,4 +24,4 @@ unfoldable pub numberOf : List ℕ → ℕ → Number
 numberOf text at =
     let digits = digitsOf (drop at text) in
     let n = worth 0 digits in
-    cond (ltb n (2 ^ 64) && same digits (decimal n)) (Read n (at + length digits)) Refused
+    cond (ltb n (2 ^ 64) && sameText digits (decimal n)) (Read n (at + length digits)) Refused

@@ -4,15 +4,15 @@ ghost use Prim.Native.Nat.{_+_, _≤_, _<_};
 ghost use lib.ListN.{length};
 ghost use Rattle.text.specs.Decimal.{decimal};
 ghost use Rattle.text.specs.Put.{Put, written};
-use crate::put::fits;
+use crate::put::place;
 use crate::put::put_text;
 
 pub fn put_decimal(out: &mut [u8], at: usize, n: u64) -> usize
     ensures { λ r. ⌜ Put (now (out .entry)) at (decimal n) (now (out .exit)) r ⌝ }
 {
     let count = digits(n);
-    if fits(out.len(), at, count) {
-        let end = at + count;
+    let end = place(at, count);
+    if end <= out.len() {
         fill(out, at, end, n);
         return end;
     }

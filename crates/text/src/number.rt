@@ -46,5 +46,5 @@ pub fn read_decimal(text: &[u8], at: usize) -> Number
 fn is_digit(c: u8) -> bool
     ensures { λ r. ⌜ r ≡ within 48 57 c ⌝ }
 {
-    b'0' <= c && c <= b'9'
+    (b'0' <= c) & (c <= b'9')
 }

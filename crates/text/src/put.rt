@@ -1,7 +1,5 @@
 // Writing at a running place: a byte, a text, numbers with the bytes that end them.
 ghost use mathlib.Core.Path.{_≡_};
-ghost use Prim.Native.Nat.{_+_};
-ghost use lib.Dec.{leb};
 ghost use mathlib.Core.List.{[], _∷_, _++_};
 ghost use Rattle.text.specs.Decimal.{decimal};
 ghost use Rattle.text.specs.Fields.{fields};
@@ -62,18 +60,8 @@ pub fn put_fields(out: &mut [u8], at: usize, of: &[u64], ends: &[u8]) -> usize
     next
 }
 
-// Whether `count` bytes from a place on lie in an output of that length.
-pub(crate) fn fits(length: usize, at: usize, count: usize) -> bool
-    ensures { λ r. ⌜ r ≡ leb (at + count) length ⌝ }
-{
-    if length < at {
-        return false;
-    }
-    count <= length - at
-}
-
 // The place `count` bytes on.
-fn place(at: usize, count: usize) -> usize
+pub(crate) fn place(at: usize, count: usize) -> usize
     ensures { λ r. ⌜ r ≡ past at count ⌝ }
 {
     if usize::MAX - at < count {

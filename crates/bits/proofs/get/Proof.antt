@@ -1,7 +1,7 @@
 -- `bits::get` meets its contract: a shift right divides, and `1 << width` is 2 ^ width, since width is below 64.
 -- Assumes nothing.
 use borrow.Author.Needs.{needs}
-use mathlib.Core.Path.{_≡_, ap, subst, sym}
+use mathlib.Core.Path.{ap, subst, sym}
 use Prim.Native.Nat.{ℕ, _/_, _%_, _<_, _^_}
 use lib.Pow.{pow-pos}
 use Rattle.bits.proofs.Shift.{one-shl}

@@ -9,10 +9,6 @@ use Rattle.bundle.specs.Bundle.{findAnswer}
 use Rattle.bundle.proofs.find_answer.Statement.{statement}
 use Rattle.bundle.proofs.find_answer.Tie as tie
 
-returns : tie.Need-returns
-unfolding findAnswer
-returns c = simp (lt-ltb _ _ (c .if1 .taken))
-
 returns-2 : tie.Need-returns-2
 unfolding findAnswer
 returns-2 c =
@@ -28,4 +24,5 @@ returns-3 c =
     simp (le-ltb _ _ (c .before .if1 .left), le-ltb _ _ h)
 
 pub find-answer-spec : {M : Type 1} → statement M
-find-answer-spec = tie.close (tie.spec returns returns-2 returns-3)
+unfolding findAnswer
+find-answer-spec = tie.close (tie.spec (λ c. simp (lt-ltb _ _ (c .if1 .taken))) returns-2 returns-3)

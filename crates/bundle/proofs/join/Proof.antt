@@ -27,20 +27,8 @@ can-join : (c : tie.Else1) →
     Joinable (a .tag) (a .slots) (now (a .out))
 can-join c = joinable _ _ _ (sym (c .before .joinable .ensures) ∙ c .if1 .left)
 
-slice-relend-prefix-write : tie.Need-slice-relend-prefix-write
-slice-relend-prefix-write c = can-join c .room
-
 sixteen : (c : tie.After-write-arg) → length (take 16 (now (c .before .before .before .before .args .out))) ≡ 16
 sixteen c = length-take-le 16 (now (c .before .before .before .before .args .out)) (can-join (c .before) .room)
-
-slice-aggregate-write : tie.Need-slice-aggregate-write
-slice-aggregate-write c = sym (sixteen c)
-
-pack-requires : tie.Need-pack-requires
-pack-requires c κs = let f = can-join (c .before) .fitting in (f .tag-fits, f .a-fits, f .b-fits, f .c-fits)
-
-write-requires : tie.Need-write-requires
-write-requires c κs = sixteen (c .before)
 
 returns-2 : tie.Need-returns-2
 returns-2 c =
@@ -58,9 +46,9 @@ join-spec =
     (tie.spec
     (λ c κs. search needs)
     returns
-    slice-relend-prefix-write
-    slice-aggregate-write
-    pack-requires
-    write-requires
+    (λ c. can-join c .room)
+    (λ c. sym (sixteen c))
+    (λ c κs. let f = can-join (c .before) .fitting in (f .tag-fits, f .a-fits, f .b-fits, f .c-fits))
+    (λ c κs. sixteen (c .before))
     (λ c. search needs)
     returns-2)

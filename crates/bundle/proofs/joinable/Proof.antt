@@ -26,15 +26,6 @@ returns c =
     (λ w. rw (le-ltb 31 (a .tag) (w .0 .left), w .1 .left, w .2 .left, w .3 .taken)))) (c .if1 .came) in
     rw large
 
-returns-2 : tie.Need-returns-2
-returns-2 c = rw (small (c .before .before .before), sym (tested (c .before)) ∙ c .if5 .taken)
-
-returns-3 : tie.Need-returns-3
-returns-3 c = rw (small (c .before .before .before .before), sym (tested (c .before .before)) ∙ c .before .if5 .left, lt-ltb _ _ (c .if6 .taken))
-
-returns-4 : tie.Need-returns-4
-returns-4 c = rw (small (c .before .before .before .before), sym (tested (c .before .before)) ∙ c .before .if5 .left, le-ltb _ _ (c .if6 .left))
-
 pub joinable-spec : {M : Type 1} → statement M
 joinable-spec =
     tie.close
@@ -45,6 +36,6 @@ joinable-spec =
     returns
     (λ c κs. search needs)
     (λ c κs. search needs)
-    returns-2
-    returns-3
-    returns-4)
+    (λ c. rw (small (c .before .before .before), sym (tested (c .before)) ∙ c .if5 .taken))
+    (λ c. rw (small (c .before .before .before .before), sym (tested (c .before .before)) ∙ c .before .if5 .left, lt-ltb _ _ (c .if6 .taken)))
+    (λ c. rw (small (c .before .before .before .before), sym (tested (c .before .before)) ∙ c .before .if5 .left, le-ltb _ _ (c .if6 .left))))

@@ -12,15 +12,6 @@ use Rattle.bundle.proofs.sixteen.Tie as tie
 found : (c : tie.Start) → Lies (now (c .args .code)) (c .args .bundle)
 found c = lies _ _ (c .pre)
 
-mul-at : tie.Need-mul-at
-mul-at c = let h = found c in omega arith
-
-add-result : tie.Need-add-result
-add-result c = let h = found c in omega arith
-
-part-result-end : tie.Need-part-result-end
-part-result-end c = let h = found c in omega arith
-
 returns : tie.Need-returns
 returns c =
     let a = c .before .args in
@@ -30,4 +21,11 @@ returns c =
 
 pub sixteen-spec : {M : Type 1} → statement M
 sixteen-spec =
-    tie.close (tie.spec mul-at add-result (λ c. search needs) (λ c. search needs) part-result-end returns)
+    tie.close
+    (tie.spec
+    (λ c. let h = found c in omega arith)
+    (λ c. let h = found c in omega arith)
+    (λ c. search needs)
+    (λ c. search needs)
+    (λ c. let h = found c in omega arith)
+    returns)

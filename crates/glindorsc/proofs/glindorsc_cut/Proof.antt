@@ -1,7 +1,7 @@
 -- `glindorsc_cut` meets its contract: it hands on what `cut` hands back, as numbers. Assumes nothing.
 use mathlib.Core.Path.{_∙_, ap}
 use Rattle.bundle.specs.declared.Bundle.{Bundle}
-use Rattle.glindorsc.specs.Calls.{numbersOf, cutCall}
+use Rattle.glindorsc.specs.Calls.{cutNumbers, cutCall}
 use borrow.Author.Needs.{needs}
 use Rattle.glindorsc.proofs.glindorsc_cut.Statement.{statement}
 use Rattle.glindorsc.proofs.glindorsc_cut.Tie as tie
@@ -11,7 +11,7 @@ unfolding cutCall
 returns c =
     let cut = c .before .cut .ensures in
     let answer = ap (λ (b : Bundle). b .answer) cut in
-    let numbers = c .numbers .ensures ∙ ap numbersOf cut in
+    let numbers = c .numbers .ensures ∙ ap cutNumbers cut in
     λ i. record { answer = answer i; out = numbers i }
 
 pub glindorsc-cut-spec : {M : Type 1} → statement M

@@ -6,9 +6,8 @@ use borrow.Author.Needs.{needs}
 use Rattle.glindorsc.proofs.glindorsc_target.Statement.{statement}
 use Rattle.glindorsc.proofs.glindorsc_target.Tie as tie
 
-returns : tie.Need-returns
-unfolding targetCall
-returns c = ap (λ (t : Target). record { answer = t .answer; number = t .address }) (c .target .ensures)
-
 pub glindorsc-target-spec : {M : Type 1} → statement M
-glindorsc-target-spec = tie.close (tie.spec (λ c κs. search needs) returns)
+unfolding targetCall
+glindorsc-target-spec =
+    tie.close
+    (tie.spec (λ c κs. search needs) (λ c. ap (λ (t : Target). record { answer = t .answer; number = t .address }) (c .target .ensures)))

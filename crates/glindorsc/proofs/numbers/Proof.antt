@@ -1,8 +1,7 @@
 -- `numbers` meets its contract: the tag, and three arrays of three, one after the other. Assumes nothing.
 use mathlib.Core.Path.{_≡_, _∙_, refl, ap, sym}
 use mathlib.Core.Bool.{Bool, true, false, cond}
-use mathlib.Core.List.{List, [], _∷_, _++_, map}
-use Prim.Native.Nat.{ℕ}
+use mathlib.Core.List.{[], _∷_, _++_, map}
 use lib.ListN.{length, getD}
 use mir.Val.{boolByte}
 use Rattle.bundle.proofs.Elements.{listed}

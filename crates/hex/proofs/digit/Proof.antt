@@ -4,11 +4,12 @@ use borrow.Author.Tests.{lt-ltb, le-ltb}
 use Rattle.hex.proofs.digit.Statement.{statement}
 use Rattle.hex.proofs.digit.Tie as tie
 
-returns : tie.Need-returns
-returns c = rw (lt-ltb (c .before .args .value) 10 (c .if1 .taken))
-
-returns-2 : tie.Need-returns-2
-returns-2 c = rw (le-ltb (c .before .args .value) 10 (c .if1 .left))
-
 pub digit-spec : {M : Type 1} → statement M
-digit-spec = tie.close (tie.spec (λ c. search needs) (λ c. search needs) (λ c. search needs) returns returns-2)
+digit-spec =
+    tie.close
+    (tie.spec
+    (λ c. search needs)
+    (λ c. search needs)
+    (λ c. search needs)
+    (λ c. rw (lt-ltb (c .before .args .value) 10 (c .if1 .taken)))
+    (λ c. rw (le-ltb (c .before .args .value) 10 (c .if1 .left))))

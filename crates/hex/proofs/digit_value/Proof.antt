@@ -9,7 +9,7 @@ use lib.ListN.{getD, replicate}
 use borrow.Author.Needs.{needs}
 use borrow.Author.Tests.{lt-ltb, le-ltb}
 use Rattle.table.proofs.Check.{checked}
-use Rattle.hex.specs.Hex.{valueOf}
+use Rattle.hex.specs.Hex.{digitValue}
 use Rattle.hex.proofs.digit_value.Statement.{statement}
 use Rattle.hex.proofs.digit_value.Tie as tie
 
@@ -23,24 +23,16 @@ table = 0 ∷ 1 ∷ 2 ∷ 3 ∷ 4 ∷ 5 ∷ 6 ∷ 7 ∷ 8 ∷ 9 ∷ (replicate 7
 abbrev looked : ℕ → ℕ
 looked c = cond (ltb c 48) 16 (cond (ltb 102 c) 16 (getD table (c - 48) 0))
 
-at-byte : (c : ℕ) → c < 256 → looked c ≡ valueOf c
-unfolding valueOf
-at-byte c h = eqb→eq (looked c) (valueOf c) (checked (λ k. eqb (looked k) (valueOf k)) 256 tt c h)
-
-returns : tie.Need-returns
-returns c =
-    let s = c .before .before in
-    rw (lt-ltb (s .args .c) 48 (c .if1 .taken)) at (at-byte (s .args .c) (s .fits .c .fits))
-
-returns-2 : tie.Need-returns-2
-returns-2 c =
-    let s = c .before .before .before in
-    rw (le-ltb (s .args .c) 48 (c .before .if1 .left), lt-ltb 102 (s .args .c) (c .if2 .taken)) at (at-byte (s .args .c) (s .fits .c .fits))
-
-returns-3 : tie.Need-returns-3
-returns-3 c =
-    let s = c .before .before .before .before in
-    rw (le-ltb (s .args .c) 48 (c .before .before .if1 .left), le-ltb 102 (s .args .c) (c .before .if2 .left)) at (at-byte (s .args .c) (s .fits .c .fits))
+at-byte : (c : ℕ) → c < 256 → looked c ≡ digitValue c
+unfolding digitValue
+at-byte c h = eqb→eq (looked c) (digitValue c) (checked (λ k. eqb (looked k) (digitValue k)) 256 tt c h)
 
 pub digit-value-spec : {M : Type 1} → statement M
-digit-value-spec = tie.close (tie.spec returns returns-2 (λ c. search needs) (λ c. search needs) returns-3)
+digit-value-spec =
+    tie.close
+    (tie.spec
+    (λ c. let s = c .before .before in rw (lt-ltb (s .args .c) 48 (c .if1 .taken)) at (at-byte (s .args .c) (s .fits .c .fits)))
+    (λ c. let s = c .before .before .before in rw (le-ltb (s .args .c) 48 (c .before .if1 .left), lt-ltb 102 (s .args .c) (c .if2 .taken)) at (at-byte (s .args .c) (s .fits .c .fits)))
+    (λ c. search needs)
+    (λ c. search needs)
+    (λ c. let s = c .before .before .before .before in rw (le-ltb (s .args .c) 48 (c .before .before .if1 .left), le-ltb 102 (s .args .c) (c .before .if2 .left)) at (at-byte (s .args .c) (s .fits .c .fits))))

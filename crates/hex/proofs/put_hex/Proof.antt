@@ -7,6 +7,7 @@ use native.Mathlib.Omega.{arith}
 use lib.ListN.{length, getD, take}
 use lib.Seq.{append-snoc, take-all}
 use borrow.Author.Needs.{needs}
+use Rattle.needs.proofs.Together.{together}
 use Rattle.hex.specs.Hex.{digitOf, hexOf}
 use Rattle.text.specs.Put.{Put}
 use Rattle.text.proofs.Writing.{put-none, put-then, put-length}
@@ -25,12 +26,6 @@ Inv-loop out₀ at bytes next₀ i₀ out next i = (i ≤ length bytes) × Put o
 abbrev μ-loop : tie.MeasureT-loop
 μ-loop out₀ at bytes next₀ i₀ out next i = length bytes - i
 
-loop-holds : tie.Need-loop-holds Inv-loop μ-loop
-loop-holds c = (omega arith, put-none (omega arith))
-
-digit-requires : tie.Need-digit-requires Inv-loop μ-loop
-digit-requires c κs = omega (arith, c .shared-slice-known2 .given (c .before .before .before .loop .i))
-
 loop-again : tie.Need-loop-again Inv-loop μ-loop
 loop-again c =
     let bytes = c .before .before .before .before .before .before .before .before .before .before .before .before .before .before .before .before .args .bytes .now in
@@ -38,27 +33,17 @@ loop-again c =
     let p = put-then (omega arith) (put-then (omega arith) (l .inv .1) (c .before .before .before .before .before .before .before .before .put-byte .ensures)) (c .before .before .put-byte2 .ensures) in
     (omega arith, rw (add-one, hex-next (l .i) bytes (omega arith), ← c .before .before .before .before .before .before .before .before .before .digit .ensures, ← c .before .before .before .digit2 .ensures, ← append-snoc (hexOf (take (l .i) bytes))) p)
 
-same-length : tie.Need-same-length Inv-loop μ-loop
-same-length c = put-length (c .before .loop .inv .1)
-
-returns : tie.Need-returns Inv-loop μ-loop
-returns c = rw (take-all (c .before .loop .i) _ (c .loop-test .left)) at (c .before .loop .inv .1)
-
 pub put-hex-spec : {M : Type 1} → statement M
 put-hex-spec =
     tie.close
+    (together 6 _
     (tie.spec
     Inv-loop
     μ-loop
-    loop-holds
+    (λ c. (omega arith, put-none (omega arith)))
     (λ c. search needs)
-    digit-requires
-    (λ c κs. search needs)
-    (λ c. search needs)
-    (λ c κs. search needs)
-    (λ c κs. search needs)
-    (λ c. search needs)
-    (λ c. search needs)
+    (λ c κs. omega (arith, c .shared-slice-known2 .given (c .before .before .before .loop .i))))
+    (search needs)
     loop-again
-    same-length
-    returns)
+    (λ c. put-length (c .before .loop .inv .1))
+    (λ c. rw (take-all (c .before .loop .i) _ (c .loop-test .left)) at (c .before .loop .inv .1)))

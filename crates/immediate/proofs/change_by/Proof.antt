@@ -1,7 +1,6 @@
 -- `change_by` meets its contract: a row that stands in the slot is sound there, so the value's raw number is scattered into the bundle's number.
 -- Assumes nothing.
 use mathlib.Core.Path.{_≡_, refl, _∙_, ap, sym, subst}
-use mathlib.Core.Bool.{Bool, true, false}
 use Prim.Native.Nat.{ℕ, _<_, _^_}
 use native.Mathlib.Omega.{arith}
 use borrow.Author.Needs.{needs}
@@ -11,7 +10,7 @@ use Rattle.bundle.specs.Bundle.{whole, halvesOf}
 use Rattle.bundle.proofs.Halves.{halves-whole}
 use Rattle.parts.specs.Placed.{widthOf}
 use Rattle.row.specs.Row.{rowOf}
-use Rattle.meaning.specs.Fits.{Fitting}
+use Rattle.meaning.specs.inner.Fits.{Fitting}
 use Rattle.meaning.specs.Meaning.{Bad, operandFor, rawOf}
 use Rattle.row.specs.declared.Row.{Row}
 use Rattle.meaning.specs.declared.Raw.{Raw}
@@ -19,15 +18,15 @@ use Rattle.row.proofs.Rows.{row-good}
 use Rattle.meaning.proofs.Inverse.{raw-told}
 use Rattle.meaning.proofs.Patterns.{raw-of-none}
 use Rattle.form.specs.declared.Edit.{Edit}
-use Rattle.immediate.specs.Sound.{Sound, editIfTold}
-use Rattle.immediate.specs.Immediate.{readRefusals, rawFor, withRaw, noChange}
+use Rattle.immediate.specs.inner.Sound.{Sound, editIfPattern}
+use Rattle.immediate.specs.Immediate.{readRefusals, rawFor, withRaw}
 use Rattle.immediate.proofs.Laws.{read-sound, unchanged-by, not-read, no-raw, changed-done}
 use Rattle.immediate.proofs.change_by.Statement.{statement}
 use Rattle.immediate.proofs.change_by.Tie as tie
 
 -- the edit, by its value or by none
 abbrev edit : tie.Start → Edit
-edit s = let a = s .args in editIfTold (a .slot) (a .form) (a .told) (a .pattern)
+edit s = let a = s .args in editIfPattern (a .slot) (a .form) (a .told) (a .pattern)
 
 answer : (c : tie.After-read-answer) →
     let a = c .before .args in
@@ -68,9 +67,6 @@ returns-2 c =
     let bad : rawFor row (edit s .value) .answer ≡ accepted → ⊥ = λ e. eqb-false badValue accepted refl (sym (ap (λ (x : Raw). x .answer) none) ∙ e) in
     c .unchanged2 .ensures ∙ unchanged-by n (edit s) _ (no-raw n (edit s) (read e1) bad) (eqb-false badValue accepted refl)
 
-width-requires : tie.Need-width-requires
-width-requires c κs = is-sound (c .before .before) .reads
-
 raw-of-requires : tie.Need-raw-of-requires
 raw-of-requires c κs =
     let e1 = c .before .before .before in
@@ -102,12 +98,6 @@ returns-3 c =
     let six = is ∙ ap (λ (x : Raw). x .answer) (raw-told (row .meaning) (widthOf (row .parts)) (edit s .value) none) in
     c .unchanged3 .ensures ∙ unchanged-by n (edit s) _ (no-raw n (edit s) (read e1) none ∙ sym six) refused
 
-cast-scatter : tie.Need-cast-scatter
-cast-scatter c = let h = is-sound (c .before .before .before .before .before) .in-bundle in omega arith
-
-scatter-requires : tie.Need-scatter-requires
-scatter-requires c κs = let s = is-sound (c .before .before .before .before .before) in (s .in-bundle, s .reads)
-
 halves-fit : (c : tie.After-scatter) → (c .scatter .result .low < 2 ^ 64) × (c .scatter .result .high < 2 ^ 64)
 halves-fit c = (omega (arith, c .scatter .ok), omega (arith, c .scatter .ok))
 
@@ -137,10 +127,10 @@ change-by-spec =
     returns
     (λ c κs. search needs)
     returns-2
-    width-requires
+    (λ c κs. is-sound (c .before .before) .reads)
     raw-of-requires
     (λ c κs. search needs)
     returns-3
-    cast-scatter
-    scatter-requires
+    (λ c. let h = is-sound (c .before .before .before .before .before) .in-bundle in omega arith)
+    (λ c κs. let s = is-sound (c .before .before .before .before .before) in (s .in-bundle, s .reads))
     returns-4)

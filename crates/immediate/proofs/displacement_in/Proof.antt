@@ -6,7 +6,7 @@ use Rattle.parts.specs.Placed.{widthOf}
 use Rattle.parts.proofs.Steps.{gathered-lt}
 use Rattle.operand.specs.Pattern.{patternOf}
 use Rattle.meaning.specs.Meaning.{signedOf}
-use Rattle.meaning.specs.Fits.{Fitting}
+use Rattle.meaning.specs.inner.Fits.{Fitting}
 use Rattle.meaning.specs.declared.Meaning.{Meaning}
 use borrow.Author.Needs.{needs}
 use Rattle.immediate.proofs.displacement_in.Statement.{statement}

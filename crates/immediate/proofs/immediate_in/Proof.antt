@@ -2,13 +2,13 @@
 use mathlib.Core.Path.{_≡_, _∙_, ap, sym}
 use native.Mathlib.Omega.{arith}
 use borrow.Author.Needs.{needs}
-use Rattle.answer.specs.Answer.{accepted, first}
+use Rattle.answer.specs.Answer.{first}
 use Rattle.answer.proofs.Laws.{accepts, refuses}
 use Rattle.bundle.specs.Bundle.{whole}
 use Rattle.row.specs.Row.{rowOf}
 use Rattle.row.specs.declared.Row.{Row}
 use Rattle.row.proofs.Rows.{row-good}
-use Rattle.immediate.specs.Sound.{Sound}
+use Rattle.immediate.specs.inner.Sound.{Sound}
 use Rattle.immediate.specs.Immediate.{readRefusals, valueIn, noImmediate, immediateIn}
 use Rattle.immediate.proofs.Laws.{read-sound}
 use Rattle.immediate.proofs.immediate_in.Statement.{statement}

@@ -5,17 +5,18 @@ use mathlib.Core.List.{List, [], _∷_, _++_}
 use Prim.Native.Nat.{ℕ, _+_, _%_, _^_}
 use native.Mathlib.Omega.{arith}
 use borrow.Author.Needs.{needs}
+use Rattle.needs.proofs.Together.{together}
 use borrow.Author.Tests.{eq-eqb, ne-eqb, eqb-false}
 use lib.Dec.{eqb}
 use Rattle.answer.specs.Answer.{Refusal, accepted, badValue, first}
 use Rattle.answer.proofs.Laws.{accepts, refuses, first-on, first-stop}
 use Rattle.bundle.specs.Bundle.{whole}
 use Rattle.operand.specs.Pattern.{patternOf}
-use Rattle.row.specs.Row.{rowOf, onlyTimes16, targetRowOf}
+use Rattle.row.specs.Row.{onlyTimes16, targetRowOf}
 use Rattle.row.specs.declared.Row.{Row}
 use Rattle.meaning.specs.declared.Meaning.the-variants.{Signed}
 use Rattle.row.proofs.Rows.{target-good, target-16}
-use Rattle.immediate.specs.Sound.{Sound}
+use Rattle.immediate.specs.inner.Sound.{Sound}
 use Rattle.immediate.specs.Immediate.{readRefusals, displacementIn, noTarget, targetIn}
 use Rattle.immediate.proofs.Laws.{stands, read-sound}
 use Rattle.immediate.proofs.target_in.Statement.{statement}
@@ -69,12 +70,6 @@ returns-2 c =
     let six : first (reading r ++ odd r) ≡ badValue = first-on (reading r) (odd r) tt (read e1) ∙ rw (ne-eqb _ 0 (c .before .if2 .taken)) in
     c .no-target2 .ensures ∙ ap noTarget (sym six) ∙ sym (refuses _ _ _ (λ e. eqb-false 6 0 refl (sym six ∙ e)))
 
-cast-displacement-in : tie.Need-cast-displacement-in
-cast-displacement-in c = let h = is-sound (c .before) .in-bundle in omega arith
-
-displacement-in-requires : tie.Need-displacement-in-requires
-displacement-in-requires c κs = rw (row-is (c .before .before)) (is-sound (c .before), is-16 (c .before))
-
 returns-3 : tie.Need-returns-3
 unfolding targetIn
 returns-3 c =
@@ -90,15 +85,11 @@ returns-3 c =
 pub target-in-spec : {M : Type 1} → statement M
 target-in-spec =
     tie.close
-    (tie.spec
-    (λ c κs. search needs)
-    (λ c κs. search needs)
-    (λ c κs. search needs)
-    (λ c κs. search needs)
+    (together 4 _ tie.spec (search needs)
     returns
     (λ c κs. search needs)
     returns-2
-    cast-displacement-in
-    displacement-in-requires
+    (λ c. let h = is-sound (c .before) .in-bundle in omega arith)
+    (λ c κs. rw (row-is (c .before .before)) (is-sound (c .before), is-16 (c .before)))
     (λ c κs. search needs)
     returns-3)

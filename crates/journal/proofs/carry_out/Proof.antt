@@ -2,7 +2,7 @@ mod Lts
 mod Tie
 -- `carry_out` meets its contract: a refused plan leaves all as it was; an accepted one's bundle is written and its record kept, in the
 -- party's part of the slice. Assumes nothing.
-use mathlib.Core.Path.{_≡_, _∙_, sym, ap}
+use mathlib.Core.Path.{_∙_, sym, ap}
 use Prim.Native.Nat.{_+_, _-_}
 use native.Mathlib.Omega.{arith}
 use borrow.Author.Needs.{needs}
@@ -10,11 +10,12 @@ use borrow.Rule.Slice.PartMut.{putMid}
 use lib.ListN.{set, length-set}
 use Rattle.answer.proofs.Laws.{accepts, refuses}
 use Rattle.records.specs.Journal.{Journal}
-use Rattle.records.specs.Shared.{Shared, sharing, placesOf, withOwn, servedOf, Lent}
+use Rattle.records.specs.Shared.{Shared, sharing, placesOf, withOwn, servedOf}
+use Rattle.records.specs.inner.Shows.{Lent}
 use Rattle.records.proofs.Sharing.{part-put}
 use Rattle.records.proofs.Standing.{valid-places}
 use Rattle.journal.specs.Edit.{byParty}
-use Rattle.journal.specs.Plan.{carriedOut}
+use Rattle.journal.specs.inner.Plan.{carriedOut}
 use Rattle.journal.proofs.carry_out.Statement.{statement}
 use Rattle.journal.proofs.carry_out.Proof.Tie as tie
 

@@ -1,13 +1,9 @@
 -- `rewrite` meets its contract: the part that is lent is the bundle's, and comes back as its bytes. Assumes nothing.
-use mathlib.Core.Path.{_≡_, _∙_, ap}
-use mathlib.Core.List.{List, _++_}
-use Prim.Native.Nat.{ℕ, _+_, _-_, _*_}
+use mathlib.Core.Path.{_≡_}
+use Prim.Native.Nat.{_+_, _-_, _*_}
 use native.Mathlib.Omega.{arith}
 use denote.Ref.{now}
-use lib.ListN.{take, drop}
 use lib.Seq.{drop-drop}
-use Rattle.bundle.specs.Bytes.{bytes}
-use Rattle.bundle.specs.Bundle.{whole}
 use Rattle.bundle.proofs.Lies.{Lies, lies}
 use Rattle.journal.specs.Edit.{rewritten}
 use borrow.Author.Needs.{needs}
@@ -22,14 +18,9 @@ returns : tie.Need-returns
 unfolding rewritten
 returns c =
     let a = c .before .before .before .before .before .args in
-    let xs = now (a .code) in
     let at : a .bundle * 16 ≡ 16 * a .bundle = omega arith in
     let size : a .bundle * 16 + 16 - a .bundle * 16 ≡ 16 = omega arith in
-    let written = c .before .before .write in
-    ap (λ (s : ℕ). take (a .bundle * 16) xs ++ (written .last .0 ++ drop s (drop (a .bundle * 16) xs))) size
-    ∙ ap (λ (p : ℕ). take p xs ++ (written .last .0 ++ drop 16 (drop p xs))) at
-    ∙ ap (λ ys. take (16 * a .bundle) xs ++ (ys ++ drop 16 (drop (16 * a .bundle) xs))) (written .ensures)
-    ∙ ap (λ zs. take (16 * a .bundle) xs ++ (bytes 16 (whole (a .halves)) ++ zs)) (drop-drop 16 (16 * a .bundle) xs)
+    rw (size, at, c .before .before .write .ensures, drop-drop)
 
 pub rewrite-spec : {M : Type 1} → statement M
 rewrite-spec =

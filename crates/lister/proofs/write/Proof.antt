@@ -5,22 +5,23 @@ use Prim.Native.Nat.{_-_, _/_, _≤_}
 use native.Mathlib.Nat.{le-antisymm}
 use native.Mathlib.Omega.{arith}
 use borrow.Author.Needs.{needs}
+use Rattle.needs.proofs.Together.{together}
 use lib.ListN.{length}
 use Rattle.text.specs.Put.{Put}
 use Rattle.text.proofs.Writing.{put-none, put-then, put-length}
-use Rattle.lister.specs.Listing.{linesOf, listOf}
+use Rattle.lister.specs.Listing.{bundleLines, listOf}
 use Rattle.lister.proofs.Lines.{lines-more}
 use Rattle.lister.proofs.write.Statement.{statement}
 use Rattle.lister.proofs.write.Tie as tie
 
 abbrev Inv-loop : tie.InvT-loop
-Inv-loop code out₀ at₀ count n₀ out at n = (n ≤ count) × Put out₀ at₀ (linesOf code n) out at
+Inv-loop code out₀ at₀ count n₀ out at n = (n ≤ count) × Put out₀ at₀ (bundleLines code n) out at
 
 abbrev μ-loop : tie.MeasureT-loop
 μ-loop code out₀ at₀ count n₀ out at n = count - n
 
 loop-holds : tie.Need-loop-holds Inv-loop μ-loop
-unfolding linesOf
+unfolding bundleLines
 loop-holds c = (omega arith, put-none (omega (arith, c .before .before .put-text .ensures .place)))
 
 loop-again : tie.Need-loop-again Inv-loop μ-loop
@@ -41,18 +42,4 @@ written c =
 
 pub write-spec : {M : Type 1} → statement M
 write-spec =
-    tie.close
-    (tie.spec
-    Inv-loop
-    μ-loop
-    (λ c. search needs)
-    (λ c κs. search needs)
-    loop-holds
-    (λ c κs. search needs)
-    (λ c κs. search needs)
-    (λ c. search needs)
-    (λ c. search needs)
-    loop-again
-    (λ c κs. search needs)
-    (λ c. put-length (written c))
-    written)
+    tie.close (together 4 _ (tie.spec Inv-loop μ-loop (λ c. search needs) (λ c κs. search needs) loop-holds) (search needs) loop-again (λ c κs. search needs) (λ c. put-length (written c)) written)

@@ -10,9 +10,6 @@ use Rattle.listing.proofs.main.Tie as tie
 array-share-prefix-out : tie.Need-array-share-prefix-out
 array-share-prefix-out c = whole-within [] _ _ (c .before .listing .ensures .0)
 
-slice-aggregate-write-all : tie.Need-slice-aggregate-write-all
-slice-aggregate-write-all c = sym (length-take-le _ _ (array-share-prefix-out (c .before)))
-
 pub main-spec : {M : Type 1} → statement M
 main-spec =
     tie.close
@@ -24,6 +21,6 @@ main-spec =
     (λ c. search needs)
     (λ c κs. search needs)
     array-share-prefix-out
-    slice-aggregate-write-all
+    (λ c. sym (length-take-le _ _ (array-share-prefix-out (c .before))))
     (λ c κs. search needs)
     (λ c. search needs))

@@ -15,18 +15,6 @@ use Rattle.meaning.proofs.displacement.Tie as tie
 power : (c : tie.Start) → (1 * 2 ^ (c .args .width - 1)) % 2 ^ 64 ≡ 2 ^ (c .args .width - 1)
 power c = let h : c .args .width - 1 < 64 = omega arith in one-shl (c .args .width - 1) h
 
-rem-low : tie.Need-rem-low
-rem-low c = rw (power c) (pow-pos (c .args .width - 1))
-
-mul-wrapping-sub-u64 : tie.Need-mul-wrapping-sub-u64
-mul-wrapping-sub-u64 c = let a = c .args in rw (power c) (omega (arith, low-fits (a .unit) (a .width) (a .raw) (c .pre .0) (c .pre .1)))
-
-sub-wrapping-sub-u64 : tie.Need-sub-wrapping-sub-u64
-sub-wrapping-sub-u64 c = mod-le (c .args .raw) _
-
-mul-wrapping-sub-u64-2 : tie.Need-mul-wrapping-sub-u64-2
-mul-wrapping-sub-u64-2 c = let a = c .args in rw (power c) (omega (arith, top-fits (a .unit) (a .width) (a .raw) (c .pre .0) (c .pre .1)))
-
 returns : tie.Need-returns
 returns c =
     let start = c .before in
@@ -41,9 +29,9 @@ displacement-spec =
     (λ c. search needs)
     (λ c. search needs)
     (λ c. search needs)
-    rem-low
-    mul-wrapping-sub-u64
-    sub-wrapping-sub-u64
-    mul-wrapping-sub-u64-2
+    (λ c. rw (power c) (pow-pos (c .args .width - 1)))
+    (λ c. rw (power c) (omega (arith, low-fits (c .args .unit) (c .args .width) (c .args .raw) (c .pre .0) (c .pre .1))))
+    (λ c. mod-le (c .args .raw) _)
+    (λ c. rw (power c) (omega (arith, top-fits (c .args .unit) (c .args .width) (c .args .raw) (c .pre .0) (c .pre .1))))
     (λ c κs. search needs)
     returns)

@@ -22,15 +22,6 @@ passed : (list n b : ℕ) → 1 ≤ n → placeIn list n b ≡ cond (eqb (entry 
 passed list zero b h = absurd (omega arith)
 passed list (suc n) b h = let e : suc n - 1 ≡ n = omega arith in rw e
 
-loop-holds : tie.Need-loop-holds Inv-loop μ-loop
-loop-holds c = search needs
-
-sub-place : tie.Need-sub-place Inv-loop μ-loop
-sub-place c = search needs
-
-entry-at-requires : tie.Need-entry-at-requires Inv-loop μ-loop
-entry-at-requires c κs = search needs
-
 returns : tie.Need-returns Inv-loop μ-loop
 returns c =
     let at = c .before .before .before in
@@ -38,9 +29,6 @@ returns c =
     let some : 1 ≤ at .loop .place = omega arith in
     let e = sym (c .before .entry-at .ensures) ∙ c .if1 .taken in
     sym (at .loop .inv .1 ∙ passed (a .list) (at .loop .place) (a .entry) some ∙ rw (eq-eqb (entry (a .list) (at .loop .place - 1)) (a .entry) e))
-
-loop-less : tie.Need-loop-less Inv-loop μ-loop
-loop-less c = search needs
 
 loop-again : tie.Need-loop-again Inv-loop μ-loop
 loop-again c =
@@ -57,4 +45,5 @@ returns-2 c =
     sym (c .before .loop .inv .1 ∙ ap (λ (n : ℕ). placeIn (a .list) n (a .entry)) none)
 
 pub place-in-spec : {M : Type 1} → statement M
-place-in-spec = tie.close (tie.spec Inv-loop μ-loop loop-holds sub-place entry-at-requires returns loop-less loop-again returns-2)
+place-in-spec =
+    tie.close (tie.spec Inv-loop μ-loop (λ c. search needs) (λ c. search needs) (λ c κs. search needs) returns (λ c. search needs) loop-again returns-2)

@@ -6,6 +6,7 @@ use native.Mathlib.Omega.{arith}
 use borrow.Author.Tests.{lt-ltb, le-ltb}
 use Rattle.meaning.specs.Meaning.{rawDown}
 use borrow.Author.Needs.{needs}
+use Rattle.needs.proofs.Together.{together}
 use Rattle.meaning.proofs.raw_signed.Statement.{statement}
 use Rattle.meaning.proofs.raw_signed.Tie as tie
 
@@ -19,4 +20,4 @@ returns-2 c =
     rw (le-ltb (a .pattern) (2 ^ 63) (c .before .if1 .left)) (c .raw-down .ensures ∙ ap (rawDown (a .unit) (a .width)) lacks)
 
 pub raw-signed-spec : {M : Type 1} → statement M
-raw-signed-spec = tie.close (tie.spec (λ c κs. search needs) (λ c. search needs) (λ c. search needs) (λ c κs. search needs) returns returns-2)
+raw-signed-spec = tie.close (together 4 _ tie.spec (search needs) returns returns-2)

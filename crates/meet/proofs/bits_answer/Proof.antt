@@ -9,14 +9,12 @@ use Rattle.meet.proofs.bits_answer.Tie as tie
 none-is : (c : tie.After-is-none) → c .is-none .result ≡ isNone (rowOf (c .before .before .before .args .edit .form))
 none-is c = c .is-none .ensures ∙ ap isNone (c .before .row-of .ensures)
 
-returns : tie.Need-returns
-returns c = rw (sym (none-is (c .before)) ∙ c .if1 .taken)
-
-returns-2 : tie.Need-returns-2
-returns-2 c = rw (sym (none-is (c .before .before .before)) ∙ c .before .before .if1 .left, lt-ltb 2 _ (c .if2 .taken))
-
-returns-3 : tie.Need-returns-3
-returns-3 c = rw (sym (none-is (c .before .before .before)) ∙ c .before .before .if1 .left, le-ltb 2 _ (c .if2 .left))
-
 pub bits-answer-spec : {M : Type 1} → statement M
-bits-answer-spec = tie.close (tie.spec (λ c κs. search needs) (λ c κs. search needs) returns returns-2 returns-3)
+bits-answer-spec =
+    tie.close
+    (tie.spec
+    (λ c κs. search needs)
+    (λ c κs. search needs)
+    (λ c. rw (sym (none-is (c .before)) ∙ c .if1 .taken))
+    (λ c. rw (sym (none-is (c .before .before .before)) ∙ c .before .before .if1 .left, lt-ltb 2 _ (c .if2 .taken)))
+    (λ c. rw (sym (none-is (c .before .before .before)) ∙ c .before .before .if1 .left, le-ltb 2 _ (c .if2 .left))))

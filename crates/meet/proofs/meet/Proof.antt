@@ -44,9 +44,6 @@ returns-2 c =
     ∙ ap noMeeting e
     ∙ second-refused (a .one) (a .other) (sym (asked .before .before .bits-answer .ensures) ∙ asked .before .if1 .left) (λ q. c .before .if2 .taken (e ∙ q))
 
-bits-apart-requires : tie.Need-bits-apart-requires
-bits-apart-requires c κs = let e2 = c .before .before .before in (one-has e2, other-has e2)
-
 returns-3 : tie.Need-returns-3
 returns-3 c =
     let same = c .before in
@@ -71,6 +68,6 @@ meet-spec =
     (λ c κs. search needs)
     (λ c κs. search needs)
     returns-2
-    bits-apart-requires
+    (λ c κs. let e2 = c .before .before .before in (one-has e2, other-has e2))
     returns-3
     returns-4)

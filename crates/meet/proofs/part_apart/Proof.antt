@@ -4,6 +4,7 @@ use mathlib.Core.Bool.{Bool, _&&_, _||_}
 use Prim.Native.Nat.{ℕ, _+_, _-_, _≤_, _<_}
 use native.Mathlib.Omega.{arith}
 use borrow.Author.Needs.{needs}
+use Rattle.needs.proofs.Together.{together}
 use borrow.Author.Tests.{not-true, not-false}
 use lib.Dec.{leb}
 use lib.ListN.{length, getD}
@@ -51,18 +52,6 @@ turned c =
     ∙ ap (apartFrom p) (left-next (a .slot) (a .t4) (l .loop .j) (here (c .before .before)))
     ∙ ap (λ (t : Bool). t && apartFrom p (left (a .slot) (a .t4) (l .loop .j + 1))) (sym test)
 
-cast-to : tie.Need-cast-to Inv-loop μ-loop
-cast-to c = omega (arith, ends-at c)
-
-add-to : tie.Need-add-to Inv-loop μ-loop
-add-to c = omega (arith, ends-at c)
-
-returns : tie.Need-returns Inv-loop μ-loop
-returns c = sym (turned (c .before) ∙ rw (not-true (c .before .apart .result) (c .if1 .taken)))
-
-loop-again : tie.Need-loop-again Inv-loop μ-loop
-loop-again c = (search needs, turned (c .before) ∙ rw (not-false (c .before .apart .result) (c .if1 .left)))
-
 returns-2 : tie.Need-returns-2 Inv-loop μ-loop
 returns-2 c =
     let l = c .before in
@@ -73,21 +62,12 @@ returns-2 c =
 pub part-apart-spec : {M : Type 1} → statement M
 part-apart-spec =
     tie.close
-    (tie.spec
-    Inv-loop
-    μ-loop
-    (λ c. search needs)
-    (λ c. (search needs, refl))
-    (λ c. search needs)
-    (λ c. search needs)
+    (together 5 _ (tie.spec Inv-loop μ-loop (λ c. search needs) (λ c. (search needs, refl))) (search needs)
+    (λ c. omega (arith, ends-at c))
+    (λ c. omega (arith, ends-at c))
     (λ c κs. search needs)
+    (λ c. sym (turned (c .before) ∙ rw (not-true (c .before .apart .result) (c .if1 .taken))))
     (λ c. search needs)
     (λ c. search needs)
-    cast-to
-    add-to
-    (λ c κs. search needs)
-    returns
-    (λ c. search needs)
-    (λ c. search needs)
-    loop-again
+    (λ c. (search needs, turned (c .before) ∙ rw (not-false (c .before .apart .result) (c .if1 .left))))
     returns-2)

@@ -4,6 +4,7 @@ use mathlib.Core.Bool.{Bool, _&&_}
 use Prim.Native.Nat.{ℕ, _+_, _-_, _≤_, _<_}
 use native.Mathlib.Omega.{arith}
 use borrow.Author.Needs.{needs}
+use Rattle.needs.proofs.Together.{together}
 use borrow.Author.Tests.{not-true, not-false}
 use lib.ListN.{length, getD}
 use Rattle.bits.specs.Parts.{Parts, apartFrom, meetNot}
@@ -50,18 +51,6 @@ turned c =
     ∙ ap (λ (ps : Parts). meetNot ps qs) (left-next (a .slot) (a .t2) (l .loop .i) (here (c .before .before)))
     ∙ ap (λ (t : Bool). t && meetNot (left (a .slot) (a .t2) (l .loop .i + 1)) qs) (sym test)
 
-cast-part-apart : tie.Need-cast-part-apart Inv-loop μ-loop
-cast-part-apart c = omega (arith, ends-at c)
-
-part-apart-requires : tie.Need-part-apart-requires Inv-loop μ-loop
-part-apart-requires c κs = let pre = c .before .before .before .pre in (ends-at c, pre .2, pre .3)
-
-returns : tie.Need-returns Inv-loop μ-loop
-returns c = sym (turned (c .before) ∙ rw (not-true (c .before .part-apart .result) (c .if1 .taken)))
-
-loop-again : tie.Need-loop-again Inv-loop μ-loop
-loop-again c = (search needs, turned (c .before) ∙ rw (not-false (c .before .part-apart .result) (c .if1 .left)))
-
 returns-2 : tie.Need-returns-2 Inv-loop μ-loop
 returns-2 c =
     let l = c .before in
@@ -72,19 +61,11 @@ returns-2 c =
 pub parts-apart-spec : {M : Type 1} → statement M
 parts-apart-spec =
     tie.close
-    (tie.spec
-    Inv-loop
-    μ-loop
-    (λ c. (search needs, refl))
+    (together 5 _ (tie.spec Inv-loop μ-loop (λ c. (search needs, refl))) (search needs)
+    (λ c. omega (arith, ends-at c))
+    (λ c κs. let pre = c .before .before .before .pre in (ends-at c, pre .2, pre .3))
+    (λ c. sym (turned (c .before) ∙ rw (not-true (c .before .part-apart .result) (c .if1 .taken))))
     (λ c. search needs)
     (λ c. search needs)
-    (λ c κs. search needs)
-    (λ c. search needs)
-    (λ c. search needs)
-    cast-part-apart
-    part-apart-requires
-    returns
-    (λ c. search needs)
-    (λ c. search needs)
-    loop-again
+    (λ c. (search needs, turned (c .before) ∙ rw (not-false (c .before .part-apart .result) (c .if1 .left))))
     returns-2)

@@ -4,9 +4,10 @@ use mathlib.Core.Bool.{true}
 use native.Mathlib.Omega.{arith}
 use borrow.Author.Needs.{needs}
 use borrow.Author.Tests.{not-true, not-false}
+use Rattle.text.proofs.Numbers.{bounds}
 use Rattle.text.proofs.Writing.{put-then}
 use Rattle.name.specs.Name.{isLetter}
-use Rattle.name.proofs.Names.{letter, letter-name, other-name}
+use Rattle.name.proofs.Names.{letter-name, other-name}
 use Rattle.name.proofs.put_name.Statement.{statement}
 use Rattle.name.proofs.put_name.Tie as tie
 
@@ -18,9 +19,6 @@ returns c =
 -- the family is a letter
 is-letter : (c : tie.Else1) → isLetter (c .before .before .before .args .form .family) ≡ true
 is-letter c = sym (c .before .is-letter .ensures) ∙ not-false _ (c .if1 .left)
-
-cast-put-byte : tie.Need-cast-put-byte
-cast-put-byte c = let l = letter (c .before .before .before .before .args .form .family) (is-letter (c .before)) in omega (arith, l)
 
 returns-2 : tie.Need-returns-2
 returns-2 c =
@@ -36,7 +34,7 @@ put-name-spec =
     (λ c κs. search needs)
     (λ c. search needs)
     returns
-    cast-put-byte
+    (λ c. omega (arith, bounds 65 90 (c .before .before .before .before .args .form .family) (is-letter (c .before))))
     (λ c κs. search needs)
     (λ c κs. search needs)
     (λ c. search needs)

@@ -2,22 +2,14 @@
 use mathlib.Core.Path.{_≡_, sym, _∙_}
 use native.Mathlib.Omega.{arith}
 use mathlib.Core.Bool.{true}
-use lib.ListN.{getD}
+use lib.ListN.{getD, List·getD-eq-default}
 use borrow.Author.Needs.{needs}
+use Rattle.needs.proofs.Together.{together}
 use borrow.Author.Tests.{not-true, not-false}
-use Rattle.name.specs.Name.{isLetter}
-use Rattle.name.proofs.Names.{name-past, name-dash, name-other, name-number, name-no-number}
+use Rattle.name.specs.Name.{isLetter, nameAt}
+use Rattle.name.proofs.Names.{name-dash, name-other, name-number, name-no-number}
 use Rattle.name.proofs.read_name.Statement.{statement}
 use Rattle.name.proofs.read_name.Tie as tie
-
-returns : tie.Need-returns
-returns c = let a = c .before .before .args in sym (name-past (a .text .now) (a .at) (c .if1 .taken))
-
-cast-family : tie.Need-cast-family
-cast-family c = omega (arith, c .shared-slice-known2 .given (c .before .before .before .args .at))
-
-returns-2 : tie.Need-returns-2
-returns-2 c = let a = c .before .before .before .before .args in sym (name-dash (a .text .now) (a .at) (c .if2 .taken))
 
 returns-3 : tie.Need-returns-3
 returns-3 c =
@@ -41,19 +33,18 @@ returns-5 c =
     sym (name-number (a .text .now) (a .at) (t .before .before .if2 .left) (is-letter t) _ _ (sym (c .before .before .before .read-decimal .ensures) ∙ c .before .read .given .1))
 
 pub read-name-spec : {M : Type 1} → statement M
+unfolding nameAt
 read-name-spec =
     tie.close
+    (together 4 _
     (tie.spec
-    returns
+    (λ c. rw (List·getD-eq-default (c .before .before .args .text .now) 0 (c .if1 .taken)))
     (λ c. search needs)
-    cast-family
+    (λ c. omega (arith, c .shared-slice-known2 .given (c .before .before .before .args .at)))
     (λ c. search needs)
-    returns-2
+    (λ c. let a = c .before .before .before .before .args in sym (name-dash (a .text .now) (a .at) (c .if2 .taken)))
     (λ c κs. search needs)
-    returns-3
-    (λ c. search needs)
-    (λ c κs. search needs)
-    (λ c. search needs)
-    (λ c. search needs)
+    returns-3)
+    (search needs)
     returns-4
     returns-5)

@@ -44,13 +44,6 @@ module _ (c : tie.In-loop Inv-loop μ-loop) where
   can-read : Reads (getD (c .before .before .args .t3) (c .before .loop .i - 1) noPart) (drop (suc (c .before .loop .i - 1)) (c .before .before .args .t3))
   can-read = reads (c .before .before .args .t3) (c .before .loop .i - 1) before (c .before .before .pre .1)
 
-loop-holds : tie.Need-loop-holds Inv-loop μ-loop
-unfolding gather
-loop-holds c = (search needs, sym (ap (gather (whole (c .args .halves))) (none-left c)))
-
-cast-width : tie.Need-cast-width Inv-loop μ-loop
-cast-width c = let r = can-read c in omega arith
-
 bits-from-requires : tie.Need-bits-from-requires Inv-loop μ-loop
 bits-from-requires c κs =
     let l = c .before .before .before in
@@ -58,15 +51,6 @@ bits-from-requires c κs =
     let past = stands-past (l .before .args .slot) (p .place) in
     let end = ends (l .before .args .slot) p (l .before .pre .0) (can-read (c .before .before) .in-word) in
     rw (c .stands-at .ensures) (omega arith, omega (arith, c .before .if1 .taken))
-
-cast-raw : tie.Need-cast-raw Inv-loop μ-loop
-cast-raw c = let r = can-read (c .before .before .before) in omega arith
-
-shl-raw : tie.Need-shl-raw Inv-loop μ-loop
-shl-raw c = can-read (c .before .before .before) .width-fits
-
-get-requires : tie.Need-get-requires Inv-loop μ-loop
-get-requires c κs = (lit< tt, can-read (c .before .before .before) .width-fits)
 
 turned : (c : tie.After-get Inv-loop μ-loop) →
     let l = c .before .before .before .before .before in
@@ -95,9 +79,6 @@ add-raw c =
     let a = l .before .args in
     fits-of-lt (subst (λ (x : ℕ). x < 2 ^ 64) (sym (turned c)) (gather-fits (whole (a .halves)) (a .slot) (a .t3) (l .loop .i - 1) (before t) (l .before .pre .1)))
 
-loop-again : tie.Need-loop-again Inv-loop μ-loop
-loop-again c = (search needs, turned c)
-
 loop-again-2 : tie.Need-loop-again-2 Inv-loop μ-loop
 loop-again-2 c =
     let t = c .before in
@@ -118,26 +99,27 @@ returns c =
     c .before .loop .inv .1 ∙ ap (λ (k : ℕ). gather (whole (a .halves)) (placed (a .slot) (drop k (a .t3)))) zero
 
 pub gather-spec : {M : Type 1} → statement M
+unfolding gather
 gather-spec =
     tie.close
     (tie.spec
     Inv-loop
     μ-loop
-    loop-holds
+    (λ c. (search needs, sym (ap (gather (whole (c .args .halves))) (none-left c))))
     (λ c. search needs)
     (λ c. search needs)
     (λ c. search needs)
-    cast-width
+    (λ c. let r = can-read c in omega arith)
     (λ c. search needs)
     (λ c. search needs)
     (λ c κs. search needs)
     bits-from-requires
-    cast-raw
-    shl-raw
-    get-requires
+    (λ c. let r = can-read (c .before .before .before) in omega arith)
+    (λ c. can-read (c .before .before .before) .width-fits)
+    (λ c κs. (lit< tt, can-read (c .before .before .before) .width-fits))
     add-raw
     (λ c. search needs)
-    loop-again
+    (λ c. (search needs, turned c))
     (λ c. search needs)
     loop-again-2
     returns)

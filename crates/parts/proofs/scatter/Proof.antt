@@ -33,9 +33,6 @@ module _ (c : tie.In-loop Inv-loop μ-loop) where
   can-read : Reads (getD (c .before .before .args .t3) (c .before .loop .i) noPart) (drop (suc (c .before .loop .i)) (c .before .before .args .t3))
   can-read = reads (c .before .before .args .t3) (c .before .loop .i) before (c .before .before .pre .1)
 
-cast-width : tie.Need-cast-width Inv-loop μ-loop
-cast-width c = let r = can-read c in omega arith
-
 put-requires : tie.Need-put-requires Inv-loop μ-loop
 put-requires c κs =
     let l = c .before .before .before in
@@ -43,12 +40,6 @@ put-requires c κs =
     let r = can-read (c .before .before) in
     let end = ends (l .before .args .slot) p (l .before .pre .0) (r .in-word) in
     rw (c .stands-at .ensures) (omega (arith, c .before .if1 .taken), r .width-fits, end)
-
-cast-rest : tie.Need-cast-rest Inv-loop μ-loop
-cast-rest c = let r = can-read (c .before .before .before) in omega arith
-
-shr-rest : tie.Need-shr-rest Inv-loop μ-loop
-shr-rest c = can-read (c .before .before .before) .width-fits
 
 -- a turn, by which of the two ways it went
 turned : (c : tie.Joined1 Inv-loop μ-loop) →
@@ -101,13 +92,13 @@ scatter-spec =
     (λ c. search needs)
     (λ c. search needs)
     (λ c. search needs)
-    cast-width
+    (λ c. let r = can-read c in omega arith)
     (λ c. search needs)
     (λ c. search needs)
     (λ c κs. search needs)
     put-requires
-    cast-rest
-    shr-rest
+    (λ c. let r = can-read (c .before .before .before) in omega arith)
+    (λ c. can-read (c .before .before .before) .width-fits)
     (λ c. search needs)
     (λ c. search needs)
     loop-again

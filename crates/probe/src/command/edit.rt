@@ -2,6 +2,7 @@
 use crate::calls::Call;
 use form::Edit;
 use form::Form;
+use journal::Act;
 use lines::fields;
 use lines::fields::Six;
 use lines::operands;
@@ -20,5 +21,5 @@ pub fn asked(of: Six, rest: &[u8]) -> Call {
         },
         value,
     };
-    Call::Edit(of.0, edit)
+    Call::Act(of.0, Act::Edit(edit))
 }

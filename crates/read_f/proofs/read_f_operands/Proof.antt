@@ -1,15 +1,11 @@
 -- `read_f_operands` meets its contract: an arm's reader reads the table's line for the arm's numbers, and a number that no
 -- arm names has no line. Assumes nothing.
-use mathlib.Core.List.{List, [], _∷_}
-use Prim.Native.Nat.{ℕ}
+use mathlib.Core.List.{[], _∷_}
 use Rattle.read_f.specs.Table.{fForms}
 use Rattle.table.proofs.Match.{ones}
 use Rattle.reading.proofs.LastArm.{none-named}
 use Rattle.read_f.proofs.read_f_operands.Statement.{statement}
 use Rattle.read_f.proofs.read_f_operands.Tie as tie
-
-abbrev arms : List (List ℕ)
-arms = ones (16 ∷ 15 ∷ 14 ∷ 13 ∷ 12 ∷ 11 ∷ 10 ∷ 9 ∷ 8 ∷ 7 ∷ 6 ∷ 5 ∷ 4 ∷ 3 ∷ 2 ∷ 1 ∷ [])
 
 pub read-f-operands-spec : {M : Type 1} → statement M
 read-f-operands-spec =
@@ -34,4 +30,4 @@ read-f-operands-spec =
     (λ c. rw (c .before .match .keys14) (c .read-f14-f16 .ensures))
     (λ c. rw (c .before .match .keys15) (c .read-f14-f162 .ensures))
     (λ c. rw (c .before .match .keys16) (c .read-f14-f163 .ensures))
-    (λ c. none-named arms _ fForms _ _ _ tt (c .before .match .rest) (c .no-op .ensures)))
+    (λ c. none-named (ones (16 ∷ 15 ∷ 14 ∷ 13 ∷ 12 ∷ 11 ∷ 10 ∷ 9 ∷ 8 ∷ 7 ∷ 6 ∷ 5 ∷ 4 ∷ 3 ∷ 2 ∷ 1 ∷ [])) _ fForms _ _ _ tt (c .before .match .rest) (c .no-op .ensures)))

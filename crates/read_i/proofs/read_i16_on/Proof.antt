@@ -1,15 +1,11 @@
 -- `read_i16_on` meets its contract: an arm's reader reads the table's line for the arm's numbers, and a number that no arm
 -- names has no line. Assumes nothing.
-use mathlib.Core.List.{List, [], _∷_}
-use Prim.Native.Nat.{ℕ}
+use mathlib.Core.List.{[], _∷_}
 use Rattle.read_i.specs.Table.{iForms16}
 use Rattle.table.proofs.Match.{ones}
 use Rattle.reading.proofs.LastArm.{none-named}
 use Rattle.read_i.proofs.read_i16_on.Statement.{statement}
 use Rattle.read_i.proofs.read_i16_on.Tie as tie
-
-abbrev arms : List (List ℕ)
-arms = ones (30 ∷ 29 ∷ 28 ∷ 27 ∷ 26 ∷ 25 ∷ 24 ∷ 23 ∷ 22 ∷ 21 ∷ 20 ∷ 19 ∷ 18 ∷ 17 ∷ 16 ∷ [])
 
 pub read-i16-on-spec : {M : Type 1} → statement M
 read-i16-on-spec =
@@ -32,4 +28,4 @@ read-i16-on-spec =
     (λ c. rw (c .before .match .keys13) (c .read-i28 .ensures))
     (λ c. rw (c .before .match .keys14) (c .read-i29 .ensures))
     (λ c. rw (c .before .match .keys15) (c .read-i30 .ensures))
-    (λ c. none-named arms _ iForms16 _ _ _ tt (c .before .match .rest) (c .no-op .ensures)))
+    (λ c. none-named (ones (30 ∷ 29 ∷ 28 ∷ 27 ∷ 26 ∷ 25 ∷ 24 ∷ 23 ∷ 22 ∷ 21 ∷ 20 ∷ 19 ∷ 18 ∷ 17 ∷ 16 ∷ [])) _ iForms16 _ _ _ tt (c .before .match .rest) (c .no-op .ensures)))

@@ -1,15 +1,11 @@
 -- `read_i_operands` meets its contract: an arm's reader reads the table's line for the arm's numbers, and a number that no
 -- arm names has none of these lines. Assumes nothing.
-use mathlib.Core.List.{List, [], _∷_}
-use Prim.Native.Nat.{ℕ}
+use mathlib.Core.List.{[], _∷_}
 use Rattle.read_i.specs.Table.{iForms1, iForms16}
 use Rattle.table.proofs.Match.{ones}
 use Rattle.reading.proofs.LastArm.{none-named-yet}
 use Rattle.read_i.proofs.read_i_operands.Statement.{statement}
 use Rattle.read_i.proofs.read_i_operands.Tie as tie
-
-abbrev arms : List (List ℕ)
-arms = ones (15 ∷ 14 ∷ 13 ∷ 12 ∷ 11 ∷ 10 ∷ 9 ∷ 8 ∷ 6 ∷ 5 ∷ 4 ∷ 3 ∷ 7 ∷ 2 ∷ 1 ∷ [])
 
 pub read-i-operands-spec : {M : Type 1} → statement M
 read-i-operands-spec =
@@ -32,4 +28,4 @@ read-i-operands-spec =
     (λ c. rw (c .before .match .keys13) (c .read-i13 .ensures))
     (λ c. rw (c .before .match .keys14) (c .read-i14 .ensures))
     (λ c. rw (c .before .match .keys15) (c .read-i15 .ensures))
-    (λ c. none-named-yet arms _ iForms1 iForms16 _ _ _ tt (c .before .match .rest) (c .read-i16-on .ensures)))
+    (λ c. none-named-yet (ones (15 ∷ 14 ∷ 13 ∷ 12 ∷ 11 ∷ 10 ∷ 9 ∷ 8 ∷ 6 ∷ 5 ∷ 4 ∷ 3 ∷ 7 ∷ 2 ∷ 1 ∷ [])) _ iForms1 iForms16 _ _ _ tt (c .before .match .rest) (c .read-i16-on .ensures)))

@@ -1,15 +1,11 @@
 -- `read_m17_on` meets its contract: an arm's reader reads the table's line for the arm's numbers, and a number that no arm
 -- names has none of these lines. Assumes nothing.
-use mathlib.Core.List.{List, [], _∷_}
-use Prim.Native.Nat.{ℕ}
+use mathlib.Core.List.{[], _∷_}
 use Rattle.read_m.specs.Table.{mForms17, mForms31}
 use Rattle.table.proofs.Match.{ones}
 use Rattle.reading.proofs.LastArm.{none-named-yet}
 use Rattle.read_m.proofs.read_m17_on.Statement.{statement}
 use Rattle.read_m.proofs.read_m17_on.Tie as tie
-
-abbrev arms : List (List ℕ)
-arms = ones (30 ∷ 29 ∷ 47 ∷ 28 ∷ 27 ∷ 26 ∷ 25 ∷ 24 ∷ 23 ∷ 22 ∷ 21 ∷ 20 ∷ 19 ∷ 18 ∷ 17 ∷ [])
 
 pub read-m17-on-spec : {M : Type 1} → statement M
 read-m17-on-spec =
@@ -32,4 +28,4 @@ read-m17-on-spec =
     (λ c. rw (c .before .match .keys13) (c .read-m28-m472 .ensures))
     (λ c. rw (c .before .match .keys14) (c .read-m29 .ensures))
     (λ c. rw (c .before .match .keys15) (c .read-m30 .ensures))
-    (λ c. none-named-yet arms _ mForms17 mForms31 _ _ _ tt (c .before .match .rest) (c .read-m31-on .ensures)))
+    (λ c. none-named-yet (ones (30 ∷ 29 ∷ 47 ∷ 28 ∷ 27 ∷ 26 ∷ 25 ∷ 24 ∷ 23 ∷ 22 ∷ 21 ∷ 20 ∷ 19 ∷ 18 ∷ 17 ∷ [])) _ mForms17 mForms31 _ _ _ tt (c .before .match .rest) (c .read-m31-on .ensures)))

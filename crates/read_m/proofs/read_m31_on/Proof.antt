@@ -1,15 +1,11 @@
 -- `read_m31_on` meets its contract: an arm's reader reads the table's line for the arm's numbers, and a number that no arm
 -- names has no line. Assumes nothing.
-use mathlib.Core.List.{List, [], _∷_}
-use Prim.Native.Nat.{ℕ}
+use mathlib.Core.List.{[], _∷_}
 use Rattle.read_m.specs.Table.{mForms31}
 use Rattle.table.proofs.Match.{ones}
 use Rattle.reading.proofs.LastArm.{none-named}
 use Rattle.read_m.proofs.read_m31_on.Statement.{statement}
 use Rattle.read_m.proofs.read_m31_on.Tie as tie
-
-abbrev arms : List (List ℕ)
-arms = ones (46 ∷ 45 ∷ 44 ∷ 43 ∷ 42 ∷ 41 ∷ 40 ∷ 39 ∷ 38 ∷ 48 ∷ 37 ∷ 36 ∷ 35 ∷ 34 ∷ 33 ∷ 32 ∷ 31 ∷ [])
 
 pub read-m31-on-spec : {M : Type 1} → statement M
 read-m31-on-spec =
@@ -35,4 +31,4 @@ read-m31-on-spec =
     (λ c. rw (c .before .match .keys15) (c .read-m44 .ensures))
     (λ c. rw (c .before .match .keys16) (c .read-m45 .ensures))
     (λ c. rw (c .before .match .keys17) (c .read-m46 .ensures))
-    (λ c. none-named arms _ mForms31 _ _ _ tt (c .before .match .rest) (c .no-op .ensures)))
+    (λ c. none-named (ones (46 ∷ 45 ∷ 44 ∷ 43 ∷ 42 ∷ 41 ∷ 40 ∷ 39 ∷ 38 ∷ 48 ∷ 37 ∷ 36 ∷ 35 ∷ 34 ∷ 33 ∷ 32 ∷ 31 ∷ [])) _ mForms31 _ _ _ tt (c .before .match .rest) (c .no-op .ensures)))

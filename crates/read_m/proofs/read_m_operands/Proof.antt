@@ -1,15 +1,11 @@
 -- `read_m_operands` meets its contract: an arm's reader reads the table's line for the arm's numbers, and a number that no
 -- arm names has none of these lines. Assumes nothing.
-use mathlib.Core.List.{List, [], _∷_, _++_}
-use Prim.Native.Nat.{ℕ}
+use mathlib.Core.List.{[], _∷_, _++_}
 use Rattle.read_m.specs.Table.{mForms1, mForms17, mForms31}
 use Rattle.table.proofs.Match.{ones}
 use Rattle.reading.proofs.LastArm.{none-named-yet}
 use Rattle.read_m.proofs.read_m_operands.Statement.{statement}
 use Rattle.read_m.proofs.read_m_operands.Tie as tie
-
-abbrev arms : List (List ℕ)
-arms = ones (15 ∷ 14 ∷ 13 ∷ 12 ∷ 11 ∷ 10 ∷ 9 ∷ 8 ∷ 7 ∷ 6 ∷ 5 ∷ 4 ∷ 3 ∷ 16 ∷ 2 ∷ 1 ∷ [])
 
 pub read-m-operands-spec : {M : Type 1} → statement M
 read-m-operands-spec =
@@ -34,4 +30,4 @@ read-m-operands-spec =
     (λ c. rw (c .before .match .keys14) (c .read-m13 .ensures))
     (λ c. rw (c .before .match .keys15) (c .read-m14 .ensures))
     (λ c. rw (c .before .match .keys16) (c .read-m15 .ensures))
-    (λ c. none-named-yet arms _ mForms1 (mForms17 ++ mForms31) _ _ _ tt (c .before .match .rest) (c .read-m17-on .ensures)))
+    (λ c. none-named-yet (ones (15 ∷ 14 ∷ 13 ∷ 12 ∷ 11 ∷ 10 ∷ 9 ∷ 8 ∷ 7 ∷ 6 ∷ 5 ∷ 4 ∷ 3 ∷ 16 ∷ 2 ∷ 1 ∷ [])) _ mForms1 (mForms17 ++ mForms31) _ _ _ tt (c .before .match .rest) (c .read-m17-on .ensures)))

@@ -3,8 +3,5 @@ use mathlib.Core.Path.{refl}
 use Rattle.record.proofs.is_whole.Statement.{statement}
 use Rattle.record.proofs.is_whole.Tie as tie
 
-returns : tie.Need-returns
-returns c = refl
-
 pub is-whole-spec : {M : Type 1} → statement M
-is-whole-spec = tie.close (tie.spec returns)
+is-whole-spec = tie.close (tie.spec (λ c. refl))

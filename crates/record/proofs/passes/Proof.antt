@@ -21,8 +21,8 @@ returns-2 c =
     let one = part .before .before .args .one in
     let not-whole : isWhole one ≡ false = sym (part .before .is-whole .ensures) ∙ part .if1 .left in
     rw not-whole
-    (ap (λ (t : Bool). eqb (made .change-told .result .answer) accepted && t) (c .same-halves .ensures)
-    ∙ ap (λ (x : Changed). gives x (one .new)) (made .change-told .ensures (one .bundle)))
+    (ap (λ (t : Bool). eqb (made .change-by-pattern .result .answer) accepted && t) (c .same-halves .ensures)
+    ∙ ap (λ (x : Changed). gives x (one .new)) (made .change-by-pattern .ensures (one .bundle)))
 
 pub passes-spec : {M : Type 1} → statement M
 passes-spec = tie.close (tie.spec (λ c κs. search needs) returns (λ c κs. search needs) (λ c κs. search needs) returns-2)

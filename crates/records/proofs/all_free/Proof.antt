@@ -3,15 +3,12 @@ mod Tie
 -- `all_free` meets its contract: each turn tests one record more. Assumes nothing.
 use mathlib.Core.Path.{_≡_, refl, _∙_, ap, ap₂, sym}
 use mathlib.Core.Bool.{Bool, _&&_}
-use mathlib.Core.List.{List}
 use Prim.Native.Nat.{_-_, _≤_}
 use native.Mathlib.Omega.{arith}
 use borrow.Author.Needs.{needs}
-use lib.Dec.{T}
 use lib.ListN.{length, take}
 use lib.Seq.{take-all}
 use Rattle.record.specs.Record.{isFree}
-use Rattle.record.specs.declared.Record.{Record}
 use Rattle.records.specs.Journal.{all}
 use Rattle.records.proofs.Standing.{all-more}
 use Rattle.records.proofs.all_free.Statement.{statement}

@@ -1,7 +1,7 @@
 -- `get_at` meets its contract: a walk of its MIR, by hand. A place is so many times 80 bytes, a record's size, past the slice's pointer;
 -- the slice is looked into, the element is taken out of the row, read, and put back. Of the record nothing but its size is used.
 -- Assumes nothing.
-use mathlib.Core.Path.{_≡_, refl, sym}
+use mathlib.Core.Path.{refl, sym}
 use Prim.Native.Nat.{ℕ, _<_, _*_, _^_}
 use native.Mathlib.Omega.{arith}
 use mathlib.Core.List.{List, [], _∷_}

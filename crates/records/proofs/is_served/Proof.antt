@@ -1,8 +1,8 @@
 mod Lts
 mod Tie
 -- `is_served` meets its contract: the lower and the upper part are each lent to the test of one party's journal. Assumes nothing.
-use mathlib.Core.Path.{_≡_, refl, _∙_, ap, ap₂, subst, sym}
-use mathlib.Core.Bool.{Bool, true, false, _&&_}
+use mathlib.Core.Path.{_≡_, refl, _∙_, ap, subst, sym}
+use mathlib.Core.Bool.{true, false, _&&_}
 use mathlib.Core.List.{List}
 use Prim.Native.Nat.{ℕ, _-_, _≤_}
 use native.Mathlib.Omega.{arith}
@@ -11,21 +11,19 @@ use borrow.Author.Tests.{eqb-true, eqb-false, not-true, not-false}
 use lib.Dec.{T, ltb}
 use lib.ListN.{length, take, drop, length-drop}
 use lib.Seq.{take-all, length-take-le}
-use Rattle.record.specs.Record.{isHeld}
+use Rattle.record.specs.Record.{fits64}
 use Rattle.record.specs.declared.Record.{Record}
 use Rattle.records.specs.Journal.{limit, lent, all, standing, validOf}
-use Rattle.records.specs.Shared.{sharing, seam, isOpened, sharedValid, serves, HeldBy}
+use Rattle.records.specs.Shared.{sharing, seam, sharedValid, serves}
 use Rattle.records.specs.declared.Counts.{Counts}
 use Rattle.records.proofs.Sharing.{both, seam-within, serving, served-sized}
 use Rattle.records.proofs.is_served.Statement.{statement}
 use Rattle.records.proofs.is_served.Proof.Tie as tie
 
 not-sized : (c : Counts) (rs : List Record) (party : ℕ) → (length rs ≡ limit → ⊥) → false ≡ serves (sharing c rs) party
-not-sized c rs party d = go (serves (sharing c rs) party) refl
-  where
-    go : (t : Bool) → serves (sharing c rs) party ≡ t → false ≡ t
-    go true e = absurd (d (served-sized c rs party (serving (sharing c rs) party e)))
-    go false e = refl
+not-sized c rs party d =
+    (elim (serves (sharing c rs) party) as (λ t. serves (sharing c rs) party ≡ t → false ≡ t)
+    [ true ↦ λ e. absurd (d (served-sized c rs party (serving (sharing c rs) party e))) | false ↦ λ e. refl ]) refl
 
 returns : tie.Need-returns
 returns c =
@@ -45,7 +43,7 @@ lower-is : (c : tie.After-is-valid) →
     let s = c .before .before in
     let a = sized s .args in
     let part = take (seam (a .counts .parties)) (a .records .now) in
-    (c .is-valid .result ≡ validOf 0 (seam (a .counts .parties)) (lent (a .counts .lower) part)) × (c .is-valid .result ≡ true → T (all isHeld (standing (lent (a .counts .lower) part))))
+    (c .is-valid .result ≡ validOf 0 (seam (a .counts .parties)) (lent (a .counts .lower) part)) × (c .is-valid .result ≡ true → T (all fits64 (standing (lent (a .counts .lower) part))))
 lower-is c =
     let s = c .before .before in
     let a = sized s .args in
@@ -56,14 +54,14 @@ lower-is c =
       c .is-valid .ensures .0
           ∙ ap (λ (m : ℕ). validOf 0 (length (take m rs)) (lent (a .counts .lower) (take m rs))) same
           ∙ ap (λ (m : ℕ). validOf 0 m (lent (a .counts .lower) (take n rs))) long,
-      λ e. subst (λ (m : ℕ). T (all isHeld (standing (lent (a .counts .lower) (take m rs))))) same (c .is-valid .ensures .1 e),
+      λ e. subst (λ (m : ℕ). T (all fits64 (standing (lent (a .counts .lower) (take m rs))))) same (c .is-valid .ensures .1 e),
     )
 
 upper-is : (c : tie.After-is-valid2) →
     let s = c .before .before .before .before in
     let a = sized s .args in
     let part = drop (seam (a .counts .parties)) (a .records .now) in
-    (c .is-valid2 .result ≡ validOf 1 (limit - seam (a .counts .parties)) (lent (a .counts .upper) part)) × (c .is-valid2 .result ≡ true → T (all isHeld (standing (lent (a .counts .upper) part))))
+    (c .is-valid2 .result ≡ validOf 1 (limit - seam (a .counts .parties)) (lent (a .counts .upper) part)) × (c .is-valid2 .result ≡ true → T (all fits64 (standing (lent (a .counts .upper) part))))
 upper-is c =
     let s = c .before .before .before .before in
     let a = sized s .args in
@@ -77,7 +75,7 @@ upper-is c =
       c .is-valid2 .ensures .0
           ∙ ap (λ (qs : List Record). validOf 1 (length qs) (lent (a .counts .upper) qs)) part
           ∙ ap (λ (m : ℕ). validOf 1 m (lent (a .counts .upper) (drop n rs))) long,
-      λ e. subst (λ (qs : List Record). T (all isHeld (standing (lent (a .counts .upper) qs)))) part (c .is-valid2 .ensures .1 e),
+      λ e. subst (λ (qs : List Record). T (all fits64 (standing (lent (a .counts .upper) qs)))) part (c .is-valid2 .ensures .1 e),
     )
 
 returns-2 : tie.Need-returns-2

@@ -2,15 +2,16 @@ mod Lts
 mod Tie
 -- `is_valid` meets its contract: the places before the count and those past it are tested each by its own loop. Assumes nothing.
 use mathlib.Core.Path.{_≡_, refl, _∙_, ap, ap₂, subst, sym}
-use mathlib.Core.Bool.{Bool, true, false, _&&_, and-false}
-use Prim.Native.Nat.{ℕ, _-_, _≤_}
+use mathlib.Core.Bool.{Bool, _&&_, and-false}
+use Prim.Native.Nat.{ℕ, _-_}
 use native.Mathlib.Omega.{arith}
 use borrow.Author.Needs.{needs}
+use Rattle.needs.proofs.Together.{together}
 use borrow.Author.Tests.{le-leb, lt-leb, eq-eqb}
 use lib.Dec.{T, eqb}
 use lib.ListN.{length, take, drop, length-drop}
 use lib.Seq.{take-all}
-use Rattle.record.specs.Record.{isFree, mayStand, isHeld}
+use Rattle.record.specs.Record.{isFree, mayStand, fits64}
 use Rattle.records.specs.Journal.{all, standing, validOf}
 use Rattle.records.proofs.is_valid.Statement.{statement}
 use Rattle.records.proofs.is_valid.Proof.Tie as tie
@@ -35,21 +36,8 @@ returns-2 c =
     let free : c .all-free .result ≡ all isFree (drop (a .count) rs) =
     c .all-free .ensures ∙ ap (all isFree) (take-all (length rs - a .count) (drop (a .count) rs) (omega (arith, length-drop (a .count) rs))) in (
       rw (eq-eqb (length rs) (length rs) refl, le-leb (a .count) (length rs) (e .if1 .left)) (ap₂ (λ (t u : Bool). t && u) stand free),
-      λ _. subst (λ (n : ℕ). T (all isHeld (take n rs))) all-of (s .all-stand .ensures .1),
+      λ _. subst (λ (n : ℕ). T (all fits64 (take n rs))) all-of (s .all-stand .ensures .1),
     )
 
 pub is-valid-spec : {M : Type 1} → statement M
-is-valid-spec =
-    tie.close
-    (tie.spec
-    returns
-    (λ c. search needs)
-    (λ c. search needs)
-    (λ c. search needs)
-    (λ c κs. search needs)
-    (λ c. search needs)
-    (λ c. search needs)
-    (λ c. search needs)
-    (λ c. search needs)
-    (λ c κs. search needs)
-    returns-2)
+is-valid-spec = tie.close (together 9 _ (tie.spec returns) (search needs) returns-2)

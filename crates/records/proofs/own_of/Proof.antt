@@ -1,16 +1,17 @@
 mod Lts
 mod Tie
 -- `own_of` meets its contract: a journal that serves the party shows the last record of that party's part. Assumes nothing.
-use mathlib.Core.Path.{_≡_, refl, _∙_, ap, subst, sym}
+use mathlib.Core.Path.{_≡_, _∙_, ap, subst, sym}
 use mathlib.Core.Bool.{Bool, true}
 use Prim.Native.Nat.{ℕ, _+_, _-_, _≤_, _<_}
 use native.Mathlib.Omega.{arith}
 use borrow.Author.Needs.{needs}
+use Rattle.needs.proofs.Together.{together}
 use borrow.Author.Tests.{not-true, not-false}
 use lib.Dec.{T}
 use lib.ListN.{getD}
 use Rattle.record.specs.Record.{noRecord}
-use Rattle.records.specs.Journal.{Journal, shown, viewOf, recordAt}
+use Rattle.records.specs.Journal.{Journal, viewIf, viewOf, recordAt}
 use Rattle.records.specs.Shared.{Shared, sharing, placesOf, countOf, ownOf, serves, servedOf}
 use Rattle.records.specs.declared.Share.{Share}
 use Rattle.records.proofs.Sharing.{Serving, serving, served-own, not-shown, own-valid, own-within, own-some, own-count, own-reads, shows}
@@ -96,18 +97,8 @@ returns-2 c =
     ∙ sym
     (ap (viewOf (a .party) places) (served-own g (a .party) (served e))
     ∙ view-shown (a .party) places (own e)
-    ∙ ap (λ (t : Bool). shown t (own e .count) (recordAt (own e) (own e .count - 1))) (own-valid g (a .party) (it-serves e))) in
+    ∙ ap (λ (t : Bool). viewIf t (own e .count) (recordAt (own e) (own e .count - 1))) (own-valid g (a .party) (it-serves e))) in
     shows (a .counts) (a .records .now) (a .party) _ (λ i. record { first = share i .first; places = share i .places; view = view i }) (λ _. e .before .is-served .ensures .1 (not-false _ (e .if1 .left)))
 
 pub own-of-spec : {M : Type 1} → statement M
-own-of-spec =
-    tie.close
-    (tie.spec
-    (λ c κs. search needs)
-    (λ c κs. search needs)
-    (λ c κs. search needs)
-    returns
-    (λ c κs. search needs)
-    add-get
-    (λ c κs. search needs)
-    returns-2)
+own-of-spec = tie.close (together 3 _ tie.spec (search needs) returns (λ c κs. search needs) add-get (λ c κs. search needs) returns-2)

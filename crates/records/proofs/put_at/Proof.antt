@@ -2,7 +2,7 @@
 -- the borrow is opened, the element is taken out of the row and stored to, and the borrow is closed at the list with the record at its
 -- place. Of the record nothing but its size is used.
 -- Assumes nothing.
-use mathlib.Core.Path.{_≡_, refl, sym, ap, subst}
+use mathlib.Core.Path.{refl, sym, ap, subst}
 use Prim.Native.Nat.{ℕ, _<_, _*_, _^_}
 use native.Mathlib.Omega.{arith}
 use mathlib.Core.List.{List, [], _∷_}

@@ -4,11 +4,11 @@ use Prim.Native.Nat.{_^_}
 use borrow.Author.Needs.{needs}
 use borrow.Author.Tests.{lt-ltb}
 use lib.Dec.{T}
-use Rattle.record.specs.Record.{isHeld}
+use Rattle.record.specs.Record.{fits64}
 use Rattle.records.proofs.stands.Statement.{statement}
 use Rattle.records.proofs.stands.Tie as tie
 
-held : (c : tie.Start) → T (isHeld (c .args .one))
+held : (c : tie.Start) → T (fits64 (c .args .one))
 held c =
     let r = c .args .one in
     let numbers = c .good .1 .0 .1 .1 .1 in

@@ -1,6 +1,4 @@
 -- `row_of` meets its contract: each arm's rows are the family's, and a family that no arm names stands in no line. Assumes nothing.
-use mathlib.Core.Path.{_∙_, sym, ap}
-use Prim.Native.Nat.{ℕ}
 use borrow.Author.Tests.{ne-eqb}
 use Rattle.row.specs.Row.{rowOf}
 use Rattle.row.proofs.row_of.Statement.{statement}

@@ -18,41 +18,20 @@ sum c = let six : length (c .args .t1) ≡ 6 = search needs in ap widthOf (liste
 bits : (c : tie.Start) → widthOf (c .args .t1) ≤ 64
 bits c = leb→le _ _ (and-yes (inWords true (c .args .t1)) (leb (widthOf (c .args .t1)) 64) (c .pre) .1)
 
-add-bits : tie.Need-add-bits
-add-bits c = omega (arith, sum c, bits c)
-
-add-bits-2 : tie.Need-add-bits-2
-add-bits-2 c = omega (arith, sum c, bits c)
-
-add-bits-3 : tie.Need-add-bits-3
-add-bits-3 c = omega (arith, sum c, bits c)
-
-add-bits-4 : tie.Need-add-bits-4
-add-bits-4 c = omega (arith, sum c, bits c)
-
-add-bits-5 : tie.Need-add-bits-5
-add-bits-5 c = omega (arith, sum c, bits c)
-
-cast-result : tie.Need-cast-result
-cast-result c = omega (arith, sum c, bits c)
-
-returns : tie.Need-returns
-returns c = omega (arith, sum c, bits c)
-
 pub width-spec : {M : Type 1} → statement M
 width-spec =
     tie.close
     (tie.spec
     (λ c. search needs)
     (λ c. search needs)
-    add-bits
+    (λ c. omega (arith, sum c, bits c))
     (λ c. search needs)
-    add-bits-2
+    (λ c. omega (arith, sum c, bits c))
     (λ c. search needs)
-    add-bits-3
+    (λ c. omega (arith, sum c, bits c))
     (λ c. search needs)
-    add-bits-4
+    (λ c. omega (arith, sum c, bits c))
     (λ c. search needs)
-    add-bits-5
-    cast-result
-    returns)
+    (λ c. omega (arith, sum c, bits c))
+    (λ c. omega (arith, sum c, bits c))
+    (λ c. omega (arith, sum c, bits c)))

@@ -1,48 +1,50 @@
 mod Lts
 mod Tie
--- `sheet::fill` meets its contract. The loop's invariant: what is written, and then what is to be written at the places left, is the
--- whole. Assumes nothing.
+-- `sheet::fill` meets its contract. The loop's invariant: the places so far are those of the journal of the records that were found, and
+-- the lines left give the others. Assumes nothing.
 use mathlib.Core.Path.{_≡_, refl, sym, ap, ap₂, _∙_}
-use mathlib.Core.List.{List, [], _∷_, _++_, append-nil}
-use Prim.Native.Nat.{ℕ, suc, _+_, _-_, _≤_, _<_}
+use mathlib.Core.List.{List, [], _∷_, _++_}
+use mathlib.Core.Option.{some}
+use Prim.Native.Nat.{ℕ, _+_, _-_, _≤_, _<_}
 use native.Mathlib.Numerals.{add-one}
 use native.Mathlib.Omega.{arith}
 use borrow.Author.Needs.{needs}
-use lib.ListN.{length, set, take, length-set}
-use lib.Seq.{append-snoc, take-suc-set, take-length}
+use lib.ListN.{length, getD, set, take, drop, length-set}
+use lib.Seq.{take-suc, take-suc-set, take-length, getD-drop, drop-drop}
+use Rattle.record.specs.Record.{noRecord}
 use Rattle.record.specs.declared.Record.{Record}
-use Rattle.sheet.specs.Twice.{nextOf, filled}
+use Rattle.records.specs.Journal.{journalOf}
+use Rattle.records.proofs.Standing.{journal-reads}
+use Rattle.sheet.specs.inner.Finds.{linesFrom, Gives}
 use Rattle.sheet.specs.declared.look.Found.{Found}
-use Rattle.sheet.specs.declared.look.Next.{Next}
+use Rattle.sheet.proofs.Inverse.{journal-places}
 use Rattle.sheet.proofs.fill.Statement.{statement}
 use Rattle.sheet.proofs.fill.Proof.Tie as tie
 
--- what is written, and what is to be written after it
-abbrev half : ℕ → List ℕ → Found → ℕ → ℕ → List Record → List Record
-half party text found at place rs = take place rs ++ filled party text found at place (length rs - place)
+record Filled (party : ℕ) (text : List ℕ) (found : Found) (before records : List Record) (at place : ℕ) : Type 0 where
+  within : place ≤ length records
+  long : length records ≡ length before
+  lines : (rs : List Record) → Gives party text found rs → linesFrom party text found at place ≡ some (drop place rs)
+  full : (rs : List Record) → Gives party text found rs → length rs ≤ length before → take place records ≡ take place (journalOf (length before) rs .records)
 
 -- one place more
-turn : (party : ℕ) (text : List ℕ) (found : Found) (at place : ℕ) (rs out : List Record) (next : Next) → place < length rs → next ≡ nextOf party text at place found → out ≡ set rs place (next .one)
-    → half party text found (next .at) (place + 1) out ≡ half party text found at place rs
-turn party text found at place rs out next h e₁ e₂ =
-    let long : length out ≡ length rs = ap length e₂ ∙ length-set rs place (next .one) in
-    let left : length rs - place ≡ suc (length out - (place + 1)) = omega arith in
-    let front : take (place + 1) out ≡ take place rs ++ (next .one ∷ []) = rw (add-one, e₂) (take-suc-set rs place (next .one) h) in
-    let more = ap (λ (n : Next). n .one ∷ filled party text found (n .at) (suc place) (length out - (place + 1))) e₁ in
-    ap₂ (λ (l : List Record) (p : ℕ). l ++ filled party text found (next .at) p (length out - (place + 1))) front (add-one place)
-    ∙ append-snoc (take place rs) (next .one) _
-    ∙ ap (λ (l : List Record). take place rs ++ l) more
-    ∙ ap (λ (k : ℕ). take place rs ++ filled party text found at place k) (sym left)
+turn : (places place : ℕ) (records out rs : List Record) (one : Record) → place < length records → length records ≡ places → length rs ≤ places → out ≡ set records place one → one ≡ getD (drop place rs) 0 noRecord
+    → take place records ≡ take place (journalOf places rs .records) → take (place + 1) out ≡ take (place + 1) (journalOf places rs .records)
+turn places place records out rs one h long few put is so-far =
+    let whole = journalOf places rs .records in
+    let here : place + 0 ≡ place = omega arith in
+    let at : one ≡ getD whole place noRecord = is ∙ getD-drop place rs 0 noRecord ∙ rw here (sym (journal-reads places rs place)) in
+    let fits : place < length whole = omega (arith, journal-places places rs few) in
+    rw (add-one, put, take-suc-set records place one h, take-suc whole place noRecord fits) (ap₂ (λ (l : List Record) (r : Record). l ++ (r ∷ [])) so-far at)
 
 abbrev Inv-loop : tie.InvT-loop
-Inv-loop records₀ party text found at₀ place₀ records at place =
-    (place ≤ length records) × (length records ≡ length records₀) × (half party text found at place records ≡ filled party text found (found .first) 0 (length records₀))
+Inv-loop records₀ party text found at₀ place₀ records at place = Filled party text found records₀ records at place
 
 abbrev μ-loop : tie.MeasureT-loop
 μ-loop records₀ party text found at₀ place₀ records at place = length records - place
 
 loop-holds : tie.Need-loop-holds Inv-loop μ-loop
-loop-holds c = let n : length (c .before .args .records .now) - 0 ≡ length (c .before .args .records .now) = omega arith in (omega arith, refl, rw n)
+loop-holds c = record { within = omega arith; long = refl; lines = λ rs g. g .lines; full = λ rs g few. refl }
 
 -- a turn leaves as many places
 same : (c : tie.After-put Inv-loop μ-loop) → length (c .put .last .0) ≡ length (c .before .before .before .before .before .loop .records)
@@ -53,19 +55,24 @@ loop-again c =
     let p = c .before in
     let n = p .before .before .before in
     let l = n .before .before in
-    let a = l .before .before .args in (
-      omega (arith, same p),
-      same p ∙ l .loop .inv .1,
-      turn (a .party) (a .text .now) (a .found) (l .loop .at) (l .loop .place) (l .loop .records) (p .put .last .0) (n .next-line .result) (omega arith) (n .next-line .ensures) (p .put .ensures) ∙ l .loop .inv .2,
-    )
+    let i = l .loop .inv in
+    let place = l .loop .place in
+    let next : (rs : List Record) → Gives _ _ _ rs → _ = λ rs g. n .next-line .ensures (drop place rs) (i .lines rs g) in
+    record {
+      within = omega (arith, same p);
+      long = same p ∙ i .long;
+      lines = λ rs g. next rs g .1 ∙ ap some (drop-drop 1 place rs);
+      full = λ rs g few. turn _ place (l .loop .records) (p .put .last .0) rs (n .next-line .result .one) (omega arith) (i .long) few (p .put .ensures) (next rs g .0) (i .full rs g few);
+    }
 
 returns : tie.Need-returns Inv-loop μ-loop
-returns c =
+returns c rs g few =
     let l = c .before in
-    let a = l .before .before .args in
-    let none : length (l .loop .records) - l .loop .place ≡ 0 = omega arith in
-    let whole : l .loop .place ≡ length (l .loop .records) = omega arith in
-    sym (rw none (append-nil (take (l .loop .place) (l .loop .records)) ∙ ap (λ (n : ℕ). take n (l .loop .records)) whole ∙ take-length (l .loop .records))) ∙ l .loop .inv .2
+    let places = length (l .before .before .args .records .now) in
+    let whole = journalOf places rs .records in
+    let all : l .loop .place ≡ length (l .loop .records) = omega arith in
+    let all-too : l .loop .place ≡ length whole = omega (arith, journal-places places rs few) in
+    sym (rw all (take-length (l .loop .records))) ∙ l .loop .inv .full rs g few ∙ rw all-too (take-length whole)
 
 pub fill-spec : {M : Type 1} → statement M
 fill-spec =
@@ -79,5 +86,5 @@ fill-spec =
     (λ c. search needs)
     (λ c. omega (arith, same (c .before)))
     loop-again
-    (λ c. c .before .loop .inv .1)
+    (λ c. c .before .loop .inv .long)
     returns)

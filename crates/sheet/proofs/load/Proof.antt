@@ -1,96 +1,78 @@
 mod Lts
 mod Tie
 -- `sheet::load` meets its contract: what was found is written into the party's part, and nothing where none was. Assumes nothing.
-use mathlib.Core.Path.{_≡_, sym, ap, _∙_, subst}
+use mathlib.Core.Path.{_≡_, sym, ap, _∙_}
 use mathlib.Core.List.{List}
-use Prim.Native.Nat.{ℕ, _+_, _-_, _≤_}
+use Prim.Native.Nat.{ℕ, _+_, _-_}
 use native.Mathlib.Omega.{arith}
 use borrow.Author.Needs.{needs}
+use borrow.Author.Tests.{ne-eqb}
 use borrow.Rule.Slice.PartMut.{midOf, putMid}
 use lib.ListN.{length}
 use Rattle.answer.specs.Answer.{accepted}
-use Rattle.answer.proofs.Laws.{refuses}
-use Rattle.records.specs.Journal.{Journal, limit, lent, standing, validOf}
-use Rattle.records.specs.Shared.{Shared, sharing, placesOf, withOwn, withCount, servedOf, afterBy, Lent}
+use Rattle.record.specs.declared.Record.{Record}
+use Rattle.records.specs.Journal.{Journal, limit, journalOf}
+use Rattle.records.specs.Shared.{sharing, placesOf, servedOf}
+use Rattle.records.specs.inner.Shows.{withCount, Lent, Shows}
+use Rattle.records.specs.declared.Counts.{Counts}
+use Rattle.records.specs.declared.Own.{Own}
 use Rattle.records.proofs.Sharing.{part-put}
 use Rattle.records.proofs.Standing.{valid-places}
-use Rattle.sheet.specs.Load.{Loaded, SharedLoaded, loadOf}
-use Rattle.sheet.specs.Twice.{foundFor, filled}
+use Rattle.sheet.specs.Load.{loadOf, loadOutcome, loadBy}
+use Rattle.sheet.specs.inner.Finds.{FindsFor, Fills}
 use Rattle.sheet.specs.declared.look.Found.{Found}
-use Rattle.sheet.proofs.Twice.{load-refused, load-taken, found-valid, filled-length}
+use Rattle.sheet.proofs.Inverse.{journal-places, Taken, load-taken}
 use Rattle.sheet.proofs.load.Statement.{statement}
 use Rattle.sheet.proofs.load.Proof.Tie as tie
 
--- what the call is shown of the party's part
-module _ (c : tie.After-own-of) where
-  abbrev start : tie.Start
-  start = c .before .before .before
-
-  abbrev given : Shared
-  given = sharing (start .args .counts) (start .args .records .now)
-
+-- what is found for the part that is shown
+module _ {c : Counts} {rs : List Record} {party : ℕ} {o : Own} (shows : Shows c rs party o) {text : List ℕ} {f : Found} (finds : FindsFor party (o .view .valid) (o .places) text f) where
   abbrev places : ℕ
-  places = placesOf (start .args .counts .parties) (start .args .party)
+  places = placesOf (c .parties) party
 
   abbrev journal : Journal
-  journal = servedOf given (start .args .party)
+  journal = servedOf (sharing c rs) party
 
-  -- what is looked for in a text
-  abbrev Sought : List ℕ → Found
-  Sought text = foundFor limit (start .args .party) (validOf (start .args .party) places journal) places text
+  answers : f .answer ≡ loadOf limit party places journal text .answer
+  answers =
+      let is : o .places ≡ places = ap (λ (o : Own). o .places) (shows .is) in
+      rw is at (finds .answers journal (rw is (sym (shows .valid-is))))
 
--- what was found
-found-is : (c : tie.After-look) → let o = c .before .before in c .look .result ≡ Sought o (start o .args .text .now)
-found-is c =
-    let o = c .before .before in
-    let a = start o .args in
-    c .look .ensures ∙ (λ i. foundFor limit (a .party) (o .own-of .ensures .valid-is i) (o .own-of .ensures .is i .places) (a .text .now))
+  refused : (f .answer ≡ accepted → ⊥) → loadOutcome (record { answer = f .answer; counts = c }) rs ≡ loadBy (sharing c rs) party text
+  refused d = rw (← answers, ne-eqb (f .answer) accepted d)
+
+  module _ (yes : f .answer ≡ accepted) where
+    taken : Taken limit party places journal text
+    taken = load-taken limit party places journal text (sym answers ∙ yes)
+
+    part : Lent c rs party o
+    part = shows .part (shows .valid-is ∙ taken .valid)
+
+    filled : (counts : Counts) (out : List Record) → counts ≡ withCount c party (f .count) → Fills party text f (midOf (o .first) (o .first + o .places - o .first) rs) out
+        → loadOutcome (record { answer = f .answer; counts = counts }) (putMid (o .first) (o .first + o .places - o .first) rs out) ≡ loadBy (sharing c rs) party text
+    unfolding journalOf
+    filled counts out count fills =
+        let qs = taken .records in
+        let g = finds .gives qs yes (taken .gives) in
+        let many = ap (λ (j : Journal). length (j .records)) (part .is-lent) ∙ valid-places party places journal (part .valid) in
+        let is = fills qs g (omega (arith, many, taken .few)) ∙ ap (λ (n : ℕ). journalOf n qs .records) many in
+        let journal-is =
+        (λ i. sharing ((count ∙ ap (withCount c party) (g .counts)) i) (putMid (o .first) (o .first + o .places - o .first) rs (is i)))
+        ∙ part-put c rs party o (shows .is) (part .served) (length qs) (journalOf places qs .records) (journal-places places qs (taken .few)) in
+        (λ i. record { answer = yes i; journal = journal-is i }) ∙ rw (taken .is)
 
 returns : tie.Need-returns
-returns c =
-    let k = c .before in
-    let o = k .before .before in
-    let a = start o .args in
-    let answer = ap (λ (f : Found). f .answer) (found-is k) in
-    let no : Sought o (a .text .now) .answer ≡ accepted → ⊥ = λ e. c .if1 .taken (answer ∙ e) in
-    let l = load-refused limit (a .party) (places o) (journal o) (a .text .now) no in
-    let as-given = refuses (Sought o (a .text .now) .answer) (withOwn (given o) (a .party) (journal o)) (given o) no in
-    ap (λ (n : ℕ). record { answer = n; journal = given o }) answer
-    ∙ sym (ap (λ (l : Loaded). record { answer = l .answer; journal = afterBy (given o) (a .party) (l .answer) (l .journal) }) l ∙ ap (λ (s : Shared). record { answer = Sought o (a .text .now) .answer; journal = s }) as-given)
+returns c = let k = c .before in refused (k .before .before .own-of .ensures) (k .look .ensures) (c .if1 .taken)
 
 -- the part that is lent
-module _ (c : tie.Else1) where
-  abbrev shown : tie.After-own-of
-  shown = c .before .before .before
-
-  taken : Sought shown (start shown .args .text .now) .answer ≡ accepted
-  taken = sym (ap (λ (f : Found). f .answer) (found-is (c .before))) ∙ c .if1 .left
-
-  lent-part : Lent (start shown .args .counts) (start shown .args .records .now) (start shown .args .party) (shown .own-of .result)
-  lent-part = let a = start shown .args in shown .own-of .ensures .part (shown .own-of .ensures .valid-is ∙ found-valid limit (a .party) (places shown) (a .text .now) _ taken)
+lent-part : (c : tie.Else1) → let o = c .before .before .before in let a = o .before .before .before .args in Lent (a .counts) (a .records .now) (a .party) (o .own-of .result)
+lent-part c = part (c .before .before .before .own-of .ensures) (c .before .look .ensures) (c .if1 .left)
 
 returns-2 : tie.Need-returns-2
 returns-2 c =
     let f = c .before .before in
     let e = f .before .before .before in
-    let o = shown e in
-    let a = start o .args in
-    let rs = a .records .now in
-    let own = o .own-of .result in
-    let is = o .own-of .ensures .is in
-    let k = own .first + own .places - own .first in
-    let found = found-is (e .before) in
-    let many =
-    ap (λ (j : Journal). length (j .records)) (lent-part e .is-lent)
-    ∙ valid-places (a .party) (places o) (journal o) (lent-part e .valid) in
-    let written = f .fill .ensures ∙ (λ i. filled (a .party) (a .text .now) (found i) (found i .first) 0 (many i)) in
-    let ys = filled (a .party) (a .text .now) (Sought o (a .text .now)) (Sought o (a .text .now) .first) 0 (places o) in
-    let counts = c .with-count .ensures ∙ ap (λ (g : Found). withCount (a .counts) (a .party) (g .count)) found in
-    let journal-is =
-    (λ i. sharing (counts i) (putMid (own .first) k rs (written i)))
-    ∙ part-put (a .counts) rs (a .party) own is (lent-part e .served) (Sought o (a .text .now) .count) ys (filled-length (a .party) (a .text .now) _ _ 0 (places o)) in
-    (λ i. record { answer = (e .if1 .left) i; journal = journal-is i })
-    ∙ sym (ap (λ (l : Loaded). record { answer = l .answer; journal = afterBy (given o) (a .party) (l .answer) (l .journal) }) (load-taken limit (a .party) (places o) (journal o) (a .text .now) (taken e)))
+    filled (e .before .before .before .own-of .ensures) (e .before .look .ensures) (e .if1 .left) _ _ (c .with-count .ensures) (f .fill .ensures)
 
 pub load-spec : {M : Type 1} → statement M
 load-spec =
@@ -100,11 +82,7 @@ load-spec =
     (λ c κs. search needs)
     (λ c. search needs)
     returns
-    (λ c. omega (arith, lent-part (c .before) .short))
-    (λ c. omega (arith, lent-part (c .before) .short))
-    (λ c. search needs)
-    (λ c. search needs)
-    (λ c. lent-part (c .before) .within)
+    (λ c. omega (arith, lent-part (c .before) .short)) (λ c. omega (arith, lent-part (c .before) .short)) (λ c. search needs) (λ c. search needs) (λ c. lent-part (c .before) .within)
     (λ c κs. search needs)
     (λ c κs. search needs)
     (λ c. search needs)

@@ -4,6 +4,7 @@ use Prim.Native.Nat.{_*_, _-_, _%_, _≤_}
 use native.Mathlib.Nat.{le-antisymm}
 use native.Mathlib.Omega.{arith}
 use borrow.Author.Needs.{needs}
+use Rattle.needs.proofs.Together.{together}
 use lib.ListN.{getD}
 use Rattle.bundle.specs.Bundle.{tagOf, numberAt}
 use Rattle.tally.specs.Report.{below, tagsTo, tagsOf}
@@ -22,18 +23,12 @@ loop-holds : tie.Need-loop-holds Inv-loop μ-loop
 unfolding below
 loop-holds c = (omega arith, refl)
 
-array-read-counts : tie.Need-array-read-counts Inv-loop μ-loop
-array-read-counts c = omega arith
-
 add-counts : tie.Need-add-counts Inv-loop μ-loop
 add-counts c =
     let l = c .before .before .loop in
     let image = c .before .before .before .args .image .now in
     let few = counted-few (tagsTo image (l .n)) (omega (arith, length-to (λ k. tagOf (numberAt image k)) (l .n), c .before .before .before .pre)) in
     record { fits = omega (arith, rw (sym (l .inv .1)) at (few (getD image (16 * l .n) 0 % 32) (omega arith))) }
-
-array-write-counts : tie.Need-array-write-counts Inv-loop μ-loop
-array-write-counts c = omega arith
 
 loop-again : tie.Need-loop-again Inv-loop μ-loop
 loop-again c =
@@ -48,19 +43,4 @@ returns c =
 
 pub by-tag-spec : {M : Type 1} → statement M
 by-tag-spec =
-    tie.close
-    (tie.spec
-    Inv-loop
-    μ-loop
-    loop-holds
-    (λ c. search needs)
-    (λ c. search needs)
-    (λ c. search needs)
-    (λ c. search needs)
-    array-read-counts
-    add-counts
-    array-write-counts
-    (λ c. search needs)
-    (λ c. search needs)
-    loop-again
-    returns)
+    tie.close (together 4 _ (tie.spec Inv-loop μ-loop loop-holds) (search needs) (λ c. omega arith) add-counts (λ c. omega arith) (λ c. search needs) (λ c. search needs) loop-again returns)

@@ -7,7 +7,7 @@ use native.Mathlib.Omega.{arith}
 use borrow.Author.Needs.{needs}
 use lib.ListN.{getD}
 use Rattle.tally.specs.Report.{sum, below}
-use Rattle.tally.specs.Share.{shareOf}
+use Rattle.tally.specs.inner.Share.{tagShares}
 use Rattle.tally.specs.declared.Shares.{Shares}
 use Rattle.tally.proofs.Lists.{sum-more}
 use Rattle.tally.proofs.shares_of.Statement.{statement}
@@ -16,8 +16,8 @@ use Rattle.tally.proofs.shares_of.Tie as tie
 abbrev Inv-loop : tie.InvT-loop
 Inv-loop counts reserved₀ stops₀ tag₀ reserved stops tag =
     (tag ≤ 32)
-    × (reserved ≡ sum (map (λ t. getD counts t 0 * shareOf t .reserved) (below tag))) × (reserved ≤ 12288 * tag)
-    × (stops ≡ sum (map (λ t. getD counts t 0 * shareOf t .stops) (below tag))) × (stops ≤ 12288 * tag)
+    × (reserved ≡ sum (map (λ t. getD counts t 0 * tagShares t .reserved) (below tag))) × (reserved ≤ 12288 * tag)
+    × (stops ≡ sum (map (λ t. getD counts t 0 * tagShares t .stops) (below tag))) × (stops ≤ 12288 * tag)
 
 abbrev μ-loop : tie.MeasureT-loop
 μ-loop counts reserved₀ stops₀ tag₀ reserved stops tag = 32 - tag
@@ -35,18 +35,6 @@ adds c =
     let e = c .share .ensures in
     (mul-le-mul {m₂ = 3} few (omega (arith, e .1)), mul-le-mul few (e .2))
 
-mul-reserved : tie.Need-mul-reserved Inv-loop μ-loop
-mul-reserved c = record { fits = omega (arith, adds (c .before)) }
-
-add-reserved : tie.Need-add-reserved Inv-loop μ-loop
-add-reserved c = record { fits = omega (arith, adds (c .before)) }
-
-mul-stops : tie.Need-mul-stops Inv-loop μ-loop
-mul-stops c = record { fits = omega (arith, adds (c .before .before)) }
-
-add-stops : tie.Need-add-stops Inv-loop μ-loop
-add-stops c = record { fits = omega (arith, adds (c .before .before)) }
-
 loop-again : tie.Need-loop-again Inv-loop μ-loop
 loop-again c =
     let s = c .before .before in
@@ -57,9 +45,9 @@ loop-again c =
     λ w had one h e. rw (h, e) (sym (sum-more (λ t. getD counts t 0 * w t) (l .tag))) in
     let e = s .share .ensures .0 in (
       omega arith,
-      more (λ t. shareOf t .reserved) (l .reserved) (s .share .result .reserved) (l .inv .1) (ap (λ (r : Shares). r .reserved) e),
+      more (λ t. tagShares t .reserved) (l .reserved) (s .share .result .reserved) (l .inv .1) (ap (λ (r : Shares). r .reserved) e),
       omega (arith, adds s),
-      more (λ t. shareOf t .stops) (l .stops) (s .share .result .stops) (l .inv .3) (ap (λ (r : Shares). r .stops) e),
+      more (λ t. tagShares t .stops) (l .stops) (s .share .result .stops) (l .inv .3) (ap (λ (r : Shares). r .stops) e),
       omega (arith, adds s),
     )
 
@@ -81,10 +69,10 @@ shares-of-spec =
     (λ c. search needs)
     (λ c. search needs)
     (λ c κs. search needs)
-    mul-reserved
-    add-reserved
-    mul-stops
-    add-stops
+    (λ c. record { fits = omega (arith, adds (c .before)) })
+    (λ c. record { fits = omega (arith, adds (c .before)) })
+    (λ c. record { fits = omega (arith, adds (c .before .before)) })
+    (λ c. record { fits = omega (arith, adds (c .before .before)) })
     (λ c. search needs)
     (λ c. search needs)
     loop-again

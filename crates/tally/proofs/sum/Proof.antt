@@ -9,6 +9,7 @@ use lib.Seq.{take-all}
 use mir.Syntax.{w64}
 use mir.Val.{Fits}
 use borrow.Author.Needs.{needs}
+use Rattle.needs.proofs.Together.{together}
 use Rattle.answer.specs.Answer.{accepted}
 use Rattle.tally.specs.Report.{plus}
 use Rattle.tally.proofs.Sums.{plus-length, plus-at, sums-more, large, large-more, large-some, added-fits, added-large}
@@ -24,15 +25,9 @@ abbrev μ-loop : tie.MeasureT-loop
 size : (c : tie.Start Inv-loop μ-loop) → (length (c .args .t1) ≡ 36) × (length (c .args .t2) ≡ 36)
 size c = (search needs, search needs)
 
-loop-holds : tie.Need-loop-holds Inv-loop μ-loop
-loop-holds c = (omega arith, refl, refl)
-
 -- the next number of the second report, and of the sum
 fits : (c : tie.In-loop Inv-loop μ-loop) → Fits w64 (getD (c .before .before .args .t2) (c .before .loop .i) 0)
 fits c = search needs
-
-sub-if1 : tie.Need-sub-if1 Inv-loop μ-loop
-sub-if1 c = omega (arith, fits c)
 
 next : (c : tie.In-loop Inv-loop μ-loop) → let a = c .before .before .args in let i = c .before .loop .i in
     (i < length (plus (a .t1) (a .t2))) × (getD (plus (a .t1) (a .t2)) i 0 ≡ getD (a .t1) i 0 + getD (a .t2) i 0)
@@ -78,20 +73,8 @@ returns-2 c =
 pub sum-spec : {M : Type 1} → statement M
 sum-spec =
     tie.close
-    (tie.spec
-    Inv-loop
-    μ-loop
-    loop-holds
-    (λ c. search needs)
-    (λ c. search needs)
-    (λ c. search needs)
-    (λ c. search needs)
-    sub-if1
-    returns
-    (λ c. record { fits = omega (arith, c .if1 .left, fits (c .before)) })
-    (λ c. search needs)
-    (λ c. search needs)
-    (λ c. search needs)
-    (λ c. search needs)
+    (together 4 _
+    (together 4 _ (tie.spec Inv-loop μ-loop (λ c. (omega arith, refl, refl))) (search needs) (λ c. omega (arith, fits c)) returns (λ c. record { fits = omega (arith, c .if1 .left, fits (c .before)) }))
+    (search needs)
     loop-again
     returns-2)

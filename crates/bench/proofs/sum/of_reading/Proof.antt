@@ -1,6 +1,7 @@
 -- `of_reading`: the operands are counted up to five.
 use Prim.Native.Nat.{_≤_, _-_}
 use borrow.Author.Needs.{needs}
+use Rattle.needs.proofs.Together.{together}
 use Rattle.bench.proofs.sum.of_reading.Statement.{statement}
 use Rattle.bench.proofs.sum.of_reading.Tie as tie
 
@@ -11,18 +12,4 @@ abbrev μ-loop : tie.MeasureT-loop
 μ-loop reading sum₀ i₀ sum i = 5 - i
 
 pub of-reading-spec : {M : Type 1} → statement M
-of-reading-spec =
-    tie.close
-    (tie.spec
-    Inv-loop
-    μ-loop
-    (λ c κs. search needs)
-    (λ c. search needs)
-    (λ c. search needs)
-    (λ c. search needs)
-    (λ c κs. search needs)
-    (λ c κs. search needs)
-    (λ c. search needs)
-    (λ c. search needs)
-    (λ c. search needs)
-    (λ c. search needs))
+of-reading-spec = tie.close (together 10 _ (tie.spec Inv-loop μ-loop) (search needs))

@@ -4,6 +4,7 @@ mod Tie
 use mathlib.Core.Path.{_≡_}
 use Prim.Native.Nat.{_≤_}
 use borrow.Author.Needs.{needs}
+use Rattle.needs.proofs.Together.{together}
 use lib.ListN.{length}
 use Rattle.bench.proofs.writing.bench_edit.Statement.{statement}
 use Rattle.bench.proofs.writing.bench_edit.Proof.Tie as tie
@@ -23,22 +24,4 @@ loop-again c =
     search (needs, undone .undo .kept, edited .edit .kept, test .loop .inv)
 
 pub bench-edit-spec : {M : Type 1} → statement M
-bench-edit-spec =
-    tie.close
-    (tie.spec
-    Inv-loop
-    μ-loop
-    (λ c. search needs)
-    (λ c κs. search needs)
-    (λ c κs. search needs)
-    (λ c κs. search needs)
-    (λ c. search needs)
-    (λ c. search needs)
-    (λ c κs. search needs)
-    (λ c κs. search needs)
-    (λ c. search needs)
-    (λ c. search needs)
-    loop-again
-    (λ c. search needs)
-    (λ c. search needs)
-    (λ c. search needs))
+bench-edit-spec = tie.close (together 10 _ (tie.spec Inv-loop μ-loop) (search needs) loop-again (λ c. search needs) (λ c. search needs) (λ c. search needs))

@@ -4,6 +4,7 @@ mod Tie
 use mathlib.Core.Path.{_≡_}
 use Prim.Native.Nat.{_≤_}
 use borrow.Author.Needs.{needs}
+use Rattle.needs.proofs.Together.{together}
 use lib.ListN.{length}
 use Rattle.bench.proofs.writing.bench_load.Statement.{statement}
 use Rattle.bench.proofs.writing.bench_load.Proof.Tie as tie
@@ -15,17 +16,4 @@ abbrev μ-loop : tie.MeasureT-loop
 μ-loop parties lower upper records₀ party text times counts₀ sum₀ left₀ records counts sum left = left
 
 pub bench-load-spec : {M : Type 1} → statement M
-bench-load-spec =
-    tie.close
-    (tie.spec
-    Inv-loop
-    μ-loop
-    (λ c. search needs)
-    (λ c κs. search needs)
-    (λ c. search needs)
-    (λ c κs. search needs)
-    (λ c. search needs)
-    (λ c. search needs)
-    (λ c. search needs)
-    (λ c. search needs)
-    (λ c. search needs))
+bench-load-spec = tie.close (together 9 _ (tie.spec Inv-loop μ-loop) (search needs))

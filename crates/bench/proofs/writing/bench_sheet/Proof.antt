@@ -4,6 +4,7 @@ mod Tie
 use mathlib.Core.Path.{_≡_}
 use Prim.Native.Nat.{_≤_}
 use borrow.Author.Needs.{needs}
+use Rattle.needs.proofs.Together.{together}
 use lib.ListN.{length}
 use Rattle.bench.proofs.writing.bench_sheet.Statement.{statement}
 use Rattle.bench.proofs.writing.bench_sheet.Proof.Tie as tie
@@ -15,16 +16,4 @@ abbrev μ-loop : tie.MeasureT-loop
 μ-loop parties lower upper records party out₀ times counts sum₀ left₀ out sum left = left
 
 pub bench-sheet-spec : {M : Type 1} → statement M
-bench-sheet-spec =
-    tie.close
-    (tie.spec
-    Inv-loop
-    μ-loop
-    (λ c. search needs)
-    (λ c κs. search needs)
-    (λ c κs. search needs)
-    (λ c. search needs)
-    (λ c. search needs)
-    (λ c. search needs)
-    (λ c. search needs)
-    (λ c. search needs))
+bench-sheet-spec = tie.close (together 8 _ (tie.spec Inv-loop μ-loop) (search needs))

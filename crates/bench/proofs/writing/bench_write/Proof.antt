@@ -2,6 +2,7 @@
 use mathlib.Core.Path.{_≡_}
 use Prim.Native.Nat.{_≤_, _-_}
 use borrow.Author.Needs.{needs}
+use Rattle.needs.proofs.Together.{together}
 use lib.ListN.{length}
 use Rattle.bench.proofs.writing.bench_write.Statement.{statement}
 use Rattle.bench.proofs.writing.bench_write.Tie as tie
@@ -15,19 +16,7 @@ abbrev μ-loop : tie.MeasureT-loop
 pub bench-write-spec : {M : Type 1} → statement M
 bench-write-spec =
     tie.close
-    (tie.spec
-    Inv-loop
-    μ-loop
-    (λ c. search needs)
-    (λ c κs. search needs)
-    (λ c κs. search needs)
-    (λ c κs. search needs)
-    (λ c κs. search needs)
-    (λ c. search needs)
-    (λ c. search needs)
-    (λ c. search needs)
-    (λ c. search needs)
-    (λ c. search needs)
+    (together 10 _ (tie.spec Inv-loop μ-loop) (search needs)
     (λ c. search needs)
     (λ c κs. search needs)
     (λ c. search needs)

@@ -9,6 +9,7 @@ use Rattle.bits.proofs.Laws.{part-lt}
 use Rattle.bundle.specs.Bundle.{whole}
 use Rattle.bundle.proofs.Seam.{bits-high, bits-seam}
 use borrow.Author.Needs.{needs}
+use Rattle.needs.proofs.Together.{together}
 use Rattle.bundle.proofs.half.bits_from.Statement.{statement}
 use Rattle.bundle.proofs.half.bits_from.Tie as tie
 
@@ -22,9 +23,6 @@ across c =
     let l : a .halves .low < 2 ^ 64 = omega (arith, start) in
     let low : a .place ≤ 64 = omega arith in
     bits-seam (a .halves .low) (a .halves .high) (a .place) l low
-
-returns-2 : tie.Need-returns-2
-returns-2 c = across c
 
 add-result : tie.Need-add-result
 add-result c =
@@ -40,15 +38,4 @@ returns c =
     bits-high (a .halves .low) (a .halves .high) (a .place) l h (c .before .if1 .taken)
 
 pub bits-from-spec : {M : Type 1} → statement M
-bits-from-spec =
-    tie.close
-    (tie.spec
-    (λ c. search needs)
-    (λ c. search needs)
-    (λ c. search needs)
-    (λ c. search needs)
-    (λ c. search needs)
-    (λ c. search needs)
-    add-result
-    returns
-    returns-2)
+bits-from-spec = tie.close (together 6 _ tie.spec (search needs) add-result returns (λ c. across c))

@@ -6,6 +6,7 @@ use denote.Ref.{now}
 use Rattle.bundle.specs.Bytes.{number}
 use Rattle.bundle.proofs.Elements.{listed}
 use borrow.Author.Needs.{needs}
+use Rattle.needs.proofs.Together.{together}
 use Rattle.bundle.proofs.half.load_half.Statement.{statement}
 use Rattle.bundle.proofs.half.load_half.Tie as tie
 
@@ -16,30 +17,4 @@ returns c =
     omega (arith, ap number (listed (now (start .args .half)) 0 8 (start .pre)))
 
 pub load-half-spec : {M : Type 1} → statement M
-load-half-spec =
-    tie.close
-    (tie.spec
-    (λ c. search needs)
-    (λ c κs. search needs)
-    (λ c. search needs)
-    (λ c κs. search needs)
-    (λ c. search needs)
-    (λ c. search needs)
-    (λ c κs. search needs)
-    (λ c. search needs)
-    (λ c. search needs)
-    (λ c κs. search needs)
-    (λ c. search needs)
-    (λ c. search needs)
-    (λ c κs. search needs)
-    (λ c. search needs)
-    (λ c. search needs)
-    (λ c κs. search needs)
-    (λ c. search needs)
-    (λ c. search needs)
-    (λ c κs. search needs)
-    (λ c. search needs)
-    (λ c. search needs)
-    (λ c κs. search needs)
-    (λ c. search needs)
-    returns)
+load-half-spec = tie.close (together 11 _ (together 12 _ tie.spec (search needs)) (search needs) returns)

@@ -7,6 +7,7 @@ use lib.ListN.{getD}
 use Rattle.bundle.specs.Bundle.{halvesOf}
 use Rattle.bundle.proofs.Halves.{halves-whole, whole-joined}
 use borrow.Author.Needs.{needs}
+use Rattle.needs.proofs.Together.{together}
 use Rattle.bundle.proofs.half.pack.Statement.{statement}
 use Rattle.bundle.proofs.half.pack.Tie as tie
 
@@ -25,18 +26,4 @@ returns c =
     (λ i. record { low = el i; high = eh i }) ∙ sym (halves-whole low high l h) ∙ ap halvesOf (whole-joined t a b d)
 
 pub pack-spec : {M : Type 1} → statement M
-pack-spec =
-    tie.close
-    (tie.spec
-    (λ c. search needs)
-    (λ c. search needs)
-    (λ c. search needs)
-    (λ c. search needs)
-    (λ c. search needs)
-    (λ c. search needs)
-    (λ c. search needs)
-    (λ c. search needs)
-    (λ c. search needs)
-    (λ c. search needs)
-    (λ c. search needs)
-    returns)
+pack-spec = tie.close (together 11 _ tie.spec (search needs) returns)

@@ -6,6 +6,7 @@ use Rattle.bits.specs.Part.{above}
 use Rattle.bits.proofs.Laws.{put-lt}
 use Rattle.bundle.proofs.Seam.{put-in-high, put-in-low, put-across}
 use borrow.Author.Needs.{needs}
+use Rattle.needs.proofs.Together.{together}
 use Rattle.bundle.proofs.half.put.Statement.{statement}
 use Rattle.bundle.proofs.half.put.Tie as tie
 
@@ -36,18 +37,4 @@ returns-3 c =
     ∙ put-across (a .halves .low) (a .halves .high) (a .place) (a .width) l (a .value) below seam less (put-lt (a .halves .low) (a .place) below (a .value) 64 fits l)
 
 pub put-spec : {M : Type 1} → statement M
-put-spec =
-    tie.close
-    (tie.spec
-    (λ c κs. search needs)
-    returns
-    (λ c. search needs)
-    (λ c κs. search needs)
-    returns-2
-    (λ c. search needs)
-    (λ c κs. search needs)
-    (λ c. search needs)
-    (λ c. search needs)
-    (λ c. search needs)
-    (λ c κs. search needs)
-    returns-3)
+put-spec = tie.close (together 6 _ (tie.spec (λ c κs. search needs) returns (λ c. search needs) (λ c κs. search needs) returns-2) (search needs) returns-3)

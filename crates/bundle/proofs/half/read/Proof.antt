@@ -12,6 +12,7 @@ use Rattle.bundle.specs.Bundle.{halvesOf}
 use Rattle.bundle.proofs.Bytes.{number-split}
 use Rattle.bundle.proofs.Halves.{halves-whole}
 use borrow.Author.Needs.{needs}
+use Rattle.needs.proofs.Together.{together}
 use Rattle.bundle.proofs.half.read.Statement.{statement}
 use Rattle.bundle.proofs.half.read.Tie as tie
 
@@ -20,12 +21,6 @@ first-half c =
     let l = now (c .before .before .args .bundle) in
     let h : 8 ≤ length l = omega arith in
     length-take-le 8 l h
-
-slice-aggregate-load-half : tie.Need-slice-aggregate-load-half
-slice-aggregate-load-half c = sym (first-half c)
-
-load-half-requires : tie.Need-load-half-requires
-load-half-requires c κs = first-half c
 
 returns : tie.Need-returns
 returns c =
@@ -41,11 +36,5 @@ returns c =
 pub read-spec : {M : Type 1} → statement M
 read-spec =
     tie.close
-    (tie.spec
-    slice-aggregate-load-half
-    load-half-requires
-    (λ c. search needs)
-    (λ c. search needs)
-    (λ c. search needs)
-    (λ c κs. search needs)
+    (together 4 _ (tie.spec (λ c. sym (first-half c)) (λ c κs. first-half c)) (search needs)
     returns)

@@ -7,6 +7,7 @@ use native.Mathlib.Omega.{arith}
 use Rattle.bits.specs.Part.{above}
 use Rattle.bundle.proofs.Halves.{slots-of-halves}
 use borrow.Author.Needs.{needs}
+use Rattle.needs.proofs.Together.{together}
 use Rattle.bundle.proofs.half.slots.Statement.{statement}
 use Rattle.bundle.proofs.half.slots.Tie as tie
 
@@ -20,15 +21,4 @@ returns c =
     (λ i. (h .low / 2 ^ 5 % 2 ^ 41) ∷ slot1 i ∷ slot2 i ∷ []) ∙ sym (slots-of-halves (h .low) (h .high) l g)
 
 pub slots-spec : {M : Type 1} → statement M
-slots-spec =
-    tie.close
-    (tie.spec
-    (λ c. search needs)
-    (λ c. search needs)
-    (λ c. search needs)
-    (λ c. search needs)
-    (λ c. search needs)
-    (λ c. search needs)
-    (λ c. search needs)
-    (λ c. search needs)
-    returns)
+slots-spec = tie.close (together 8 _ tie.spec (search needs) returns)

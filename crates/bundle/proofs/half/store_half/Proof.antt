@@ -10,23 +10,8 @@ use borrow.Author.Needs.{needs}
 use Rattle.bundle.proofs.half.store_half.Statement.{statement}
 use Rattle.bundle.proofs.half.store_half.Tie as tie
 
-slice-write-half-5 : tie.Need-slice-write-half-5
-slice-write-half-5 c = simp length-set (omega arith)
-
-slice-write-half-6 : tie.Need-slice-write-half-6
-slice-write-half-6 c = simp length-set (omega arith)
-
-slice-write-half-7 : tie.Need-slice-write-half-7
-slice-write-half-7 c = simp length-set (omega arith)
-
-slice-write-half-8 : tie.Need-slice-write-half-8
-slice-write-half-8 c = simp length-set (omega arith)
-
-returns : tie.Need-returns
-unfolding bytes
-returns c = simp div-div-eq-div-mul (overwritten (now (c .args .half)) _ (c .pre))
-
 pub store-half-spec : {M : Type 1} → statement M
+unfolding bytes
 store-half-spec =
     tie.close
     (tie.spec
@@ -39,12 +24,12 @@ store-half-spec =
     (λ c. search needs)
     (λ c. search needs)
     (λ c. search needs)
-    slice-write-half-5
+    (λ c. simp length-set (omega arith))
     (λ c. search needs)
-    slice-write-half-6
+    (λ c. simp length-set (omega arith))
     (λ c. search needs)
-    slice-write-half-7
+    (λ c. simp length-set (omega arith))
     (λ c. search needs)
-    slice-write-half-8
+    (λ c. simp length-set (omega arith))
     (λ c. search needs)
-    returns)
+    (λ c. simp div-div-eq-div-mul (overwritten (now (c .args .half)) _ (c .pre))))

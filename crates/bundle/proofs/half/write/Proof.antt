@@ -5,6 +5,7 @@ use mathlib.Core.List.{_++_}
 use Prim.Native.Nat.{_≤_, _<_, _^_}
 use native.Mathlib.Omega.{arith}
 use borrow.Author.Needs.{needs}
+use Rattle.needs.proofs.Together.{together}
 use denote.Ref.{now}
 use lib.ListN.{length, take}
 use lib.Seq.{length-take-le}
@@ -19,12 +20,6 @@ first-half c =
     let h : 8 ≤ length l = omega arith in
     length-take-le 8 l h
 
-slice-aggregate-store-half : tie.Need-slice-aggregate-store-half
-slice-aggregate-store-half c = sym (first-half c)
-
-store-half-requires : tie.Need-store-half-requires
-store-half-requires c κs = first-half c
-
 returns : tie.Need-returns
 returns c =
     let start = c .before .before .before .before .before .before .before .before .before in
@@ -38,13 +33,5 @@ returns c =
 pub write-spec : {M : Type 1} → statement M
 write-spec =
     tie.close
-    (tie.spec
-    (λ c. search needs)
-    slice-aggregate-store-half
-    store-half-requires
-    (λ c. search needs)
-    (λ c. search needs)
-    (λ c. search needs)
-    (λ c κs. search needs)
-    (λ c. search needs)
+    (together 5 _ (tie.spec (λ c. search needs) (λ c. sym (first-half c)) (λ c κs. first-half c)) (search needs)
     returns)

@@ -1,10 +1,7 @@
 -- `template::units` meets its contract: each arm's units are the table's, and a number that no arm names has none. Assumes nothing.
-use mathlib.Core.Path.{_≡_, _∙_, sym}
-use mathlib.Core.List.{List, [], _∷_}
-use Prim.Native.Nat.{ℕ, _/_}
-use Rattle.table.specs.Table.{select}
+use mathlib.Core.List.{[], _∷_}
 use Rattle.table.proofs.Match.{ones, otherwise}
-use Rattle.bundle.specs.Template.{noUnits, unitsOf}
+use Rattle.bundle.specs.Template.{noUnits}
 use Rattle.bundle.proofs.Templates.{unitsByHalf, units-by-half}
 use borrow.Author.Needs.{needs}
 use Rattle.bundle.proofs.template.units.Statement.{statement}

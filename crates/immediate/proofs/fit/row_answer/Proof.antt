@@ -4,14 +4,12 @@ use borrow.Author.Needs.{needs}
 use Rattle.immediate.proofs.fit.row_answer.Statement.{statement}
 use Rattle.immediate.proofs.fit.row_answer.Tie as tie
 
-returns : tie.Need-returns
-returns c = rw (sym (c .before .unitless .ensures) ∙ c .if1 .taken)
-
-returns-2 : tie.Need-returns-2
-returns-2 c = let e = c .before .before in rw (sym (e .before .unitless .ensures) ∙ e .if1 .left, sym (c .before .is-none .ensures) ∙ c .if2 .taken)
-
-returns-3 : tie.Need-returns-3
-returns-3 c = let e = c .before .before in rw (sym (e .before .unitless .ensures) ∙ e .if1 .left, sym (c .before .is-none .ensures) ∙ c .if2 .left)
-
 pub row-answer-spec : {M : Type 1} → statement M
-row-answer-spec = tie.close (tie.spec (λ c κs. search needs) returns (λ c κs. search needs) returns-2 returns-3)
+row-answer-spec =
+    tie.close
+    (tie.spec
+    (λ c κs. search needs)
+    (λ c. rw (sym (c .before .unitless .ensures) ∙ c .if1 .taken))
+    (λ c κs. search needs)
+    (λ c. let e = c .before .before in rw (sym (e .before .unitless .ensures) ∙ e .if1 .left, sym (c .before .is-none .ensures) ∙ c .if2 .taken))
+    (λ c. let e = c .before .before in rw (sym (e .before .unitless .ensures) ∙ e .if1 .left, sym (c .before .is-none .ensures) ∙ c .if2 .left)))

@@ -5,14 +5,12 @@ use borrow.Author.Tests.{lt-ltb, le-ltb, not-true, not-false}
 use Rattle.immediate.proofs.fit.slot_answer.Statement.{statement}
 use Rattle.immediate.proofs.fit.slot_answer.Tie as tie
 
-returns : tie.Need-returns
-returns c = rw (lt-ltb 2 _ (c .if1 .taken))
-
-returns-2 : tie.Need-returns-2
-returns-2 c = let e = c .before .before in rw (le-ltb 2 _ (e .if1 .left), sym (c .before .fits2 .ensures) ∙ not-true _ (c .if2 .taken))
-
-returns-3 : tie.Need-returns-3
-returns-3 c = let e = c .before .before in rw (le-ltb 2 _ (e .if1 .left), sym (c .before .fits2 .ensures) ∙ not-false _ (c .if2 .left))
-
 pub slot-answer-spec : {M : Type 1} → statement M
-slot-answer-spec = tie.close (tie.spec returns (λ c. search needs) (λ c κs. search needs) returns-2 returns-3)
+slot-answer-spec =
+    tie.close
+    (tie.spec
+    (λ c. rw (lt-ltb 2 _ (c .if1 .taken)))
+    (λ c. search needs)
+    (λ c κs. search needs)
+    (λ c. let e = c .before .before in rw (le-ltb 2 _ (e .if1 .left), sym (c .before .fits2 .ensures) ∙ not-true _ (c .if2 .taken)))
+    (λ c. let e = c .before .before in rw (le-ltb 2 _ (e .if1 .left), sym (c .before .fits2 .ensures) ∙ not-false _ (c .if2 .left))))

@@ -9,15 +9,14 @@ use borrow.Author.Tests.{leb-false}
 use denote.Ref.{now}
 use Rattle.answer.specs.Answer.{Refusal, accepted, first}
 use Rattle.answer.proofs.Laws.{none-applies, first-on, first-stop, accepts}
-use Rattle.bundle.specs.Bundle.{numberAt, findRefusals, findAnswer, halvesOf}
-use Rattle.bundle.specs.declared.Loaded.{Loaded}
+use Rattle.bundle.specs.Bundle.{numberAt, findRefusals, findAnswer}
 use Rattle.bundle.proofs.Laws.{loaded-found}
 use Rattle.bundle.proofs.Loading.{Loading, loading}
 use Rattle.immediate.specs.Immediate.{changeRefusals, changedOf}
 use Rattle.immediate.specs.declared.outcome.Changed.{Changed}
 use Rattle.immediate.proofs.Laws.{changed-answer, changed-taken}
 use Rattle.journal.specs.Edit.{roomRefusals, editRefusals}
-use Rattle.journal.specs.Plan.{refusedPlan, editPlanOf}
+use Rattle.journal.specs.inner.Plan.{refusedPlan, editPlanOf}
 use Rattle.journal.proofs.Laws.{refused-is}
 use Rattle.journal.proofs.plan.edit_plan.Statement.{statement}
 use Rattle.journal.proofs.plan.edit_plan.Tie as tie

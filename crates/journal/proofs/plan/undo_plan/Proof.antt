@@ -1,6 +1,7 @@
 -- `undo_plan` meets its contract: where none of the refusals applies there is a last record. Assumes nothing.
-use mathlib.Core.Path.{_≡_, _∙_, refl, sym}
-use Prim.Native.Nat.{ℕ, zero, suc, _-_, _≤_, zero-le, suc-le-suc}
+use mathlib.Core.Path.{_≡_, _∙_, sym}
+use Prim.Native.Nat.{_-_}
+use native.Mathlib.Omega.{arith}
 use borrow.Author.Needs.{needs}
 use borrow.Author.Tests.{eqb-false}
 use denote.Ref.{now}
@@ -8,7 +9,7 @@ use Rattle.answer.specs.Answer.{accepted, first}
 use Rattle.answer.proofs.Laws.{none-applies, accepts}
 use Rattle.record.specs.Record.{noRecord}
 use Rattle.journal.specs.Edit.{undoRefusals}
-use Rattle.journal.specs.Plan.{refusedPlan, undoPlanOf}
+use Rattle.journal.specs.inner.Plan.{refusedPlan, undoPlanOf}
 use Rattle.journal.proofs.Laws.{refused-is}
 use Rattle.journal.proofs.plan.undo_plan.Statement.{statement}
 use Rattle.journal.proofs.plan.undo_plan.Tie as tie
@@ -24,11 +25,7 @@ some-stand : tie.Need-sub-place
 some-stand c =
     let e = c .before .before .before in
     let a = e .before .before .before .args in
-    some (a .view .count) (eqb-false (a .view .count) 0 (none-applies (undoRefusals (now (a .code)) (a .view)) tt (can-undo e) .1 .1 .0))
-  where
-    some : (n : ℕ) → (n ≡ 0 → ⊥) → 1 ≤ n
-    some zero d = absurd (d refl)
-    some (suc n) d = suc-le-suc zero-le
+    omega (arith, eqb-false (a .view .count) 0 (none-applies (undoRefusals (now (a .code)) (a .view)) tt (can-undo e) .1 .1 .0))
 
 returns-2 : tie.Need-returns-2
 unfolding undoPlanOf

@@ -1,12 +1,13 @@
 -- `undo_refusal` meets its contract: each return has the tests that led there. Assumes nothing.
 use mathlib.Core.Path.{_≡_, _∙_, ap, sym}
-use Prim.Native.Nat.{_+_, _*_, _≤_}
+use mathlib.Core.Bool.{not}
+use mathlib.Core.List.{[], _∷_}
+use Prim.Native.Nat.{_+_, _*_}
 use borrow.Author.Needs.{needs}
 use borrow.Author.Tests.{lt-ltb, le-ltb, eq-eqb, ne-eqb, not-true, not-false}
 use denote.Ref.{now}
 use lib.ListN.{length, drop}
-use Rattle.answer.specs.Answer.{accepted, first}
-use Rattle.bundle.specs.Bundle.{findAnswer, halvesOf, numberAt}
+use Rattle.answer.specs.Answer.{first, stale}
 use Rattle.bundle.specs.declared.Loaded.{Loaded}
 use Rattle.bundle.proofs.Laws.{loaded-found}
 use Rattle.bundle.proofs.Loading.{Loading, loading}
@@ -57,34 +58,23 @@ returns-4 c =
     let out = past-the-end (now (a .code)) (a .view .last .bundle) (e .before .before .before .before .if1 .left) (λ q. c .if4 .taken (is-loaded l .answer ∙ q)) in
     sym (of-last e ∙ rw (lt-ltb (length (now (a .code))) (16 * a .view .last .bundle + 16) out))
 
--- the bundle that was found, and whether it is the record's new one
-module _ (c : tie.Else4) where
-  is-found : let a = entry (c .before .before) .args in findAnswer (now (a .code)) (a .view .last .bundle) ≡ accepted
-  is-found = sym (is-loaded (c .before .before) .answer) ∙ c .if4 .left
-
-  within : let a = entry (c .before .before) .args in 16 * a .view .last .bundle + 16 ≤ length (now (a .code))
-  within = lies _ _ is-found .within
-
-  present : let a = entry (c .before .before) .args in c .before .before .load .result ≡ record { answer = accepted; halves = halvesOf (numberAt (now (a .code)) (a .view .last .bundle)) }
-  present = c .before .before .load .ensures ∙ loaded-found _ _ is-found
-
-same-is : (c : tie.After-same-halves) →
+-- once the bundle is found, what is left is whether it is the record's new one
+of-found : (c : tie.After-same-halves) →
     let a = entry (c .before .before .before .before .before) .args in
-    c .same-halves .result ≡ sameHalves (halvesOf (numberAt (now (a .code)) (a .view .last .bundle))) (a .view .last .new)
-same-is c =
-    let f = c .before .before .before in
-    let a = entry (f .before .before) .args in
-    c .same-halves .ensures ∙ ap (λ (l : Loaded). sameHalves (l .halves) (a .view .last .new)) (present f)
+    first (undoRefusals (now (a .code)) (a .view)) ≡ first ((stale, not (c .same-halves .result)) ∷ [])
+of-found c =
+    let e = c .before .before .before in
+    let l = e .before .before in
+    let a = entry l .args in
+    let found = sym (is-loaded l .answer) ∙ e .if4 .left in
+    let same = c .same-halves .ensures ∙ ap (λ (x : Loaded). sameHalves (x .halves) (a .view .last .new)) (l .load .ensures ∙ loaded-found _ _ found) in
+    of-last (l .before .before) ∙ rw (le-ltb _ _ (lies _ _ found .within), sym same)
 
 returns-5 : tie.Need-returns-5
-returns-5 c =
-    let f = c .before .before .before .before in
-    sym (of-last (f .before .before .before .before) ∙ rw (le-ltb _ _ (within f), sym (same-is (c .before)) ∙ not-true _ (c .if5 .taken)))
+returns-5 c = sym (of-found (c .before) ∙ rw (not-true (c .before .same-halves .result) (c .if5 .taken)))
 
 returns-6 : tie.Need-returns-6
-returns-6 c =
-    let f = c .before .before .before .before in
-    sym (of-last (f .before .before .before .before) ∙ rw (le-ltb _ _ (within f), sym (same-is (c .before)) ∙ not-false _ (c .if5 .left)))
+returns-6 c = sym (of-found (c .before) ∙ rw (not-false (c .before .same-halves .result) (c .if5 .left)))
 
 pub undo-refusal-spec : {M : Type 1} → statement M
 undo-refusal-spec =

@@ -2,8 +2,7 @@
 use Prim.Native.Nat.{_≤_, _-_}
 use borrow.Author.Needs.{needs}
 use mathlib.Core.Path.{_≡_}
-use lib.ListN.{length, length-set}
-use native.Mathlib.Omega.{arith}
+use lib.ListN.{length}
 use Rattle.lines.proofs.fields.read_numbers.Statement.{statement}
 use Rattle.lines.proofs.fields.read_numbers.Tie as tie
 
@@ -12,9 +11,6 @@ Inv-loop line from of₀ count at₀ i₀ of at i = (i ≤ count) × (length of 
 
 abbrev μ-loop : tie.MeasureT-loop
 μ-loop line from of₀ count at₀ i₀ of at i = count - i
-
-loop-again : tie.Need-loop-again Inv-loop μ-loop
-loop-again c = simp length-set (omega arith)
 
 pub read-numbers-spec : {M : Type 1} → statement M
 read-numbers-spec =
@@ -35,6 +31,6 @@ read-numbers-spec =
     (λ c. search needs)
     (λ c. search needs)
     (λ c. search needs)
-    loop-again
+    (λ c. search needs)
     (λ c. search needs)
     (λ c. search needs))

@@ -1,6 +1,7 @@
 -- `part::below`: the place stays within the slice.
 use Prim.Native.Nat.{_≤_, _-_}
 use borrow.Author.Needs.{needs}
+use Rattle.needs.proofs.Together.{together}
 use lib.ListN.{length}
 use Rattle.lines.proofs.part.below.Statement.{statement}
 use Rattle.lines.proofs.part.below.Tie as tie
@@ -13,14 +14,4 @@ abbrev μ-loop : tie.MeasureT-loop
 
 pub below-spec : {M : Type 1} → statement M
 below-spec =
-    tie.close
-    (tie.spec
-    Inv-loop
-    μ-loop
-    (λ c. search needs)
-    (λ c. search needs)
-    (λ c. search needs)
-    (λ c. search needs)
-    (λ c. search needs)
-    (λ c. search needs)
-    (λ c. search needs))
+    tie.close (together 7 _ (tie.spec Inv-loop μ-loop) (search needs))

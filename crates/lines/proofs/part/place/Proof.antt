@@ -1,6 +1,7 @@
 -- `part::place`: the place is at most one past the names, and no name is counted before its place.
 use Prim.Native.Nat.{_≤_, _+_, _-_}
 use borrow.Author.Needs.{needs}
+use Rattle.needs.proofs.Together.{together}
 use lib.ListN.{length}
 use Rattle.lines.proofs.part.place.Statement.{statement}
 use Rattle.lines.proofs.part.place.Tie as tie
@@ -13,19 +14,4 @@ abbrev μ-loop : tie.MeasureT-loop
 
 pub place-spec : {M : Type 1} → statement M
 place-spec =
-    tie.close
-    (tie.spec
-    Inv-loop
-    μ-loop
-    (λ c. search needs)
-    (λ c κs. search needs)
-    (λ c. search needs)
-    (λ c. search needs)
-    (λ c. search needs)
-    (λ c κs. search needs)
-    (λ c. search needs)
-    (λ c. search needs)
-    (λ c. search needs)
-    (λ c. search needs)
-    (λ c. search needs)
-    (λ c. search needs))
+    tie.close (together 12 _ (tie.spec Inv-loop μ-loop) (search needs))

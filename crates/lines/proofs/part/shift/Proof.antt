@@ -3,19 +3,14 @@ use Prim.Native.Nat.{_≤_, _-_}
 use borrow.Author.Needs.{needs}
 use mathlib.Core.Path.{_≡_}
 use lib.ListN.{length}
-use native.Mathlib.Omega.{arith}
-use lib.ListN.{length-set}
 use Rattle.lines.proofs.part.shift.Statement.{statement}
 use Rattle.lines.proofs.part.shift.Tie as tie
 
 abbrev Inv-loop : tie.InvT-loop
-Inv-loop s₀ from i₀ s i = (i ≤ length s) × (length s ≡ length s₀)
+Inv-loop s₀ from i₀ s i = (i ≤ length s₀) × (length s ≡ length s₀)
 
 abbrev μ-loop : tie.MeasureT-loop
 μ-loop s₀ from i₀ s i = length s₀ - i
-
-loop-again : tie.Need-loop-again Inv-loop μ-loop
-loop-again c = simp length-set (omega arith)
 
 pub shift-spec : {M : Type 1} → statement M
 shift-spec =
@@ -32,6 +27,6 @@ shift-spec =
     (λ c. search needs)
     (λ c. search needs)
     (λ c. search needs)
-    loop-again
+    (λ c. search needs)
     (λ c. search needs)
     (λ c. search needs))

@@ -1,6 +1,7 @@
 -- `part::word`: the place is at most one past the list, and no word is counted before its place.
 use Prim.Native.Nat.{_≤_, _+_, _-_}
 use borrow.Author.Needs.{needs}
+use Rattle.needs.proofs.Together.{together}
 use lib.ListN.{length}
 use Rattle.lines.proofs.part.word.Statement.{statement}
 use Rattle.lines.proofs.part.word.Tie as tie
@@ -13,24 +14,4 @@ abbrev μ-loop : tie.MeasureT-loop
 
 pub word-spec : {M : Type 1} → statement M
 word-spec =
-    tie.close
-    (tie.spec
-    Inv-loop
-    μ-loop
-    (λ c. search needs)
-    (λ c κs. search needs)
-    (λ c. search needs)
-    (λ c. search needs)
-    (λ c. search needs)
-    (λ c. search needs)
-    (λ c. search needs)
-    (λ c. search needs)
-    (λ c. search needs)
-    (λ c. search needs)
-    (λ c. search needs)
-    (λ c. search needs)
-    (λ c. search needs)
-    (λ c. search needs)
-    (λ c. search needs)
-    (λ c. search needs)
-    (λ c. search needs))
+    tie.close (together 5 _ (together 12 _ (tie.spec Inv-loop μ-loop) (search needs)) (search needs))

@@ -1,6 +1,7 @@
 -- `spelt::count`: the place stays within the text.
 use Prim.Native.Nat.{_≤_, _-_}
 use borrow.Author.Needs.{needs}
+use Rattle.needs.proofs.Together.{together}
 use mathlib.Core.Path.{_≡_}
 use lib.ListN.{length}
 use Rattle.lines.proofs.spelt.count.Statement.{statement}
@@ -14,20 +15,4 @@ abbrev μ-loop : tie.MeasureT-loop
 
 pub count-spec : {M : Type 1} → statement M
 count-spec =
-    tie.close
-    (tie.spec
-    Inv-loop
-    μ-loop
-    (λ c. search needs)
-    (λ c. search needs)
-    (λ c. search needs)
-    (λ c. search needs)
-    (λ c. search needs)
-    (λ c. search needs)
-    (λ c. search needs)
-    (λ c κs. search needs)
-    (λ c. search needs)
-    (λ c. search needs)
-    (λ c. search needs)
-    (λ c. search needs)
-    (λ c. search needs))
+    tie.close (together 12 _ (tie.spec Inv-loop μ-loop) (search needs) (λ c. search needs))

@@ -3,19 +3,14 @@ use Prim.Native.Nat.{_≤_, _-_}
 use borrow.Author.Needs.{needs}
 use mathlib.Core.Path.{_≡_}
 use lib.ListN.{length}
-use native.Mathlib.Omega.{arith}
-use lib.ListN.{length-set}
 use Rattle.lines.proofs.spelt.put.Statement.{statement}
 use Rattle.lines.proofs.spelt.put.Tie as tie
 
 abbrev Inv-loop : tie.InvT-loop
-Inv-loop s to₀ i₀ to i = (i ≤ length to) × (length to ≡ length to₀)
+Inv-loop s to₀ i₀ to i = (i ≤ length to₀) × (length to ≡ length to₀)
 
 abbrev μ-loop : tie.MeasureT-loop
 μ-loop s to₀ i₀ to i = length to₀ - i
-
-loop-again : tie.Need-loop-again Inv-loop μ-loop
-loop-again c = simp length-set (omega arith)
 
 pub put-spec : {M : Type 1} → statement M
 put-spec =
@@ -38,6 +33,6 @@ put-spec =
     (λ c. search needs)
     (λ c. search needs)
     (λ c. search needs)
-    loop-again
+    (λ c. search needs)
     (λ c. search needs)
     (λ c. search needs))

@@ -2,6 +2,7 @@
 use native.Mathlib.Omega.{arith}
 use lib.Seq.{append-snoc}
 use borrow.Author.Needs.{needs}
+use Rattle.needs.proofs.Together.{together}
 use Rattle.bundle.specs.Template.{markedUnits}
 use Rattle.text.proofs.Writing.{put-then}
 use Rattle.lister.proofs.Lines.{end-reserved, end-shown}
@@ -19,19 +20,4 @@ returns-2 c =
 
 pub put-end-spec : {M : Type 1} → statement M
 put-end-spec =
-    tie.close
-    (tie.spec
-    (λ c. search needs)
-    (λ c κs. search needs)
-    (λ c. search needs)
-    returns
-    (λ c κs. search needs)
-    (λ c κs. search needs)
-    (λ c. search needs)
-    (λ c. search needs)
-    (λ c. search needs)
-    (λ c. search needs)
-    (λ c. search needs)
-    (λ c κs. search needs)
-    (λ c. search needs)
-    returns-2)
+    tie.close (together 9 _ (tie.spec (λ c. search needs) (λ c κs. search needs) (λ c. search needs) returns) (search needs) returns-2)

@@ -1,6 +1,7 @@
 -- `lister::line::put_rest` meets its contract: nothing where no bytes are left, else one line. Assumes nothing.
 use native.Mathlib.Omega.{arith}
 use borrow.Author.Needs.{needs}
+use Rattle.needs.proofs.Together.{together}
 use Rattle.text.proofs.Writing.{put-none, put-then}
 use Rattle.lister.specs.Listing.{restOf}
 use Rattle.lister.proofs.Lines.{rest-some}
@@ -17,11 +18,4 @@ returns-2 c =
 
 pub put-rest-spec : {M : Type 1} → statement M
 put-rest-spec =
-    tie.close
-    (tie.spec
-    returns
-    (λ c. search needs)
-    (λ c κs. search needs)
-    (λ c κs. search needs)
-    (λ c. search needs)
-    returns-2)
+    tie.close (together 4 _ (tie.spec returns) (search needs) returns-2)

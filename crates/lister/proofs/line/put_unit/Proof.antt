@@ -3,12 +3,6 @@ use borrow.Author.Needs.{needs}
 use Rattle.lister.proofs.line.put_unit.Statement.{statement}
 use Rattle.lister.proofs.line.put_unit.Tie as tie
 
-returns : tie.Need-returns
-returns c = rw (c .before .before .before .before .before .if1 .taken) (c .before .before .put-text .ensures)
-
-returns-2 : tie.Need-returns-2
-returns-2 c = rw (c .before .before .before .before .if1 .left) (c .before .before .put-byte .ensures)
-
 pub put-unit-spec : {M : Type 1} → statement M
 put-unit-spec =
     tie.close
@@ -16,7 +10,7 @@ put-unit-spec =
     (λ c. search needs)
     (λ c κs. search needs)
     (λ c. search needs)
-    returns
+    (λ c. rw (c .before .before .before .before .before .if1 .taken) (c .before .before .put-text .ensures))
     (λ c κs. search needs)
     (λ c. search needs)
-    returns-2)
+    (λ c. rw (c .before .before .before .before .if1 .left) (c .before .before .put-byte .ensures)))

@@ -3,6 +3,7 @@ use native.Mathlib.Omega.{arith}
 use Rattle.bundle.specs.Template.{markedUnits}
 use Rattle.text.proofs.Writing.{put-then}
 use borrow.Author.Needs.{needs}
+use Rattle.needs.proofs.Together.{together}
 use Rattle.lister.proofs.line.put_units.Statement.{statement}
 use Rattle.lister.proofs.line.put_units.Tie as tie
 
@@ -14,16 +15,4 @@ returns c =
 
 pub put-units-spec : {M : Type 1} → statement M
 put-units-spec =
-    tie.close
-    (tie.spec
-    (λ c. search needs)
-    (λ c. search needs)
-    (λ c κs. search needs)
-    (λ c. search needs)
-    (λ c. search needs)
-    (λ c κs. search needs)
-    (λ c. search needs)
-    (λ c. search needs)
-    (λ c κs. search needs)
-    (λ c. search needs)
-    returns)
+    tie.close (together 10 _ tie.spec (search needs) returns)

@@ -1,10 +1,8 @@
 -- `pattern` meets its contract: a negative integer is moved up by 2 ^ 63, and its pattern by as much again. Assumes nothing.
-use mathlib.Core.Path.{_≡_, _∙_, ap}
-use mathlib.Core.Bool.{true, false}
+use mathlib.Core.Path.{_≡_, _∙_}
 use Prim.Native.Nat.{ℕ, _+_, _-_, _<_, _^_}
 use native.Mathlib.Omega.{arith}
-use lib.IntN.{ℤ, pos, negsuc, natAbs, _-ℤ_}
-use lib.Signed.{leZ}
+use lib.IntN.{ℤ, pos, negsuc, _-ℤ_}
 use mir.Syntax.{w64}
 use mir.Val.{SFits, toZ, ofZ}
 use mir.Facts.{toZ-ofZ}
@@ -37,25 +35,14 @@ module _ (c : tie.Else1) where
   number : toZ w64 (ofZ w64 (toZ w64 (ofZ w64 v) -ℤ negsuc (2 ^ 63 - 1))) ≡ pos (up .0)
   number = toZ-ofZ fits ∙ moved
 
-sub-result : tie.Need-sub-result
-unfolding v
-sub-result c = fits c
-
-cast-result-2 : tie.Need-cast-result-2
-unfolding v
-cast-result-2 c = let d = up c .2 in rw (number c) (tt, record { fits = omega arith })
-
-add-result : tie.Need-add-result
-unfolding v
-add-result c = let d = up c .2 in rw (number c) (record { fits = omega arith })
-
-returns : tie.Need-returns
-returns c = let f = c .before .fits .value in rw (toZ-ofZ f) (own-pattern (c .before .args .value) (rw (toZ-ofZ f) at (c .if1 .taken)))
-
-returns-2 : tie.Need-returns-2
-unfolding v
-returns-2 c = rw (number c) (up c .3)
-
 pub pattern-spec : {M : Type 1} → statement M
+unfolding v
 pattern-spec =
-    tie.close (tie.spec cast-result sub-result cast-result-2 add-result returns returns-2)
+    tie.close
+    (tie.spec
+    cast-result
+    (λ c. fits c)
+    (λ c. let d = up c .2 in rw (number c) (tt, record { fits = omega arith }))
+    (λ c. let d = up c .2 in rw (number c) (record { fits = omega arith }))
+    (λ c. let f = c .before .fits .value in rw (toZ-ofZ f) (own-pattern (c .before .args .value) (rw (toZ-ofZ f) at (c .if1 .taken))))
+    (λ c. rw (number c) (up c .3)))

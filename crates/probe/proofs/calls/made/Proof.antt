@@ -1,11 +1,9 @@
 mod Lts
 mod Tie
--- `made` meets its contract. Assumes nothing.
+-- `calls::made`: each part is taken within its slice. Assumes nothing.
 use borrow.Author.Needs.{needs}
 use Rattle.probe.proofs.calls.made.Statement.{statement}
 use Rattle.probe.proofs.calls.made.Proof.Tie as tie
-use Rattle.probe.proofs.Made.calls.made.Reads as reads
-use Rattle.probe.proofs.calls.made.Proof.Lts as lts
 
 pub made-spec : {M : Type 1} → statement M
 made-spec =
@@ -14,6 +12,7 @@ made-spec =
     (λ c κs. search needs)
     (λ c κs. search needs)
     (λ c κs. search needs)
+    (λ c κs. search needs)
     (λ c. search needs)
     (λ c. search needs)
     (λ c. search needs)
@@ -23,6 +22,7 @@ made-spec =
     (λ c. search needs)
     (λ c. search needs)
     (λ c. search needs)
+    (λ c κs. search needs)
     (λ c κs. search needs)
     (λ c. search needs)
     (λ c. search needs)

@@ -1,6 +1,7 @@
 -- `kept::report`: as many numbers as a report has.
 use Prim.Native.Nat.{_≤_, _-_}
 use borrow.Author.Needs.{needs}
+use Rattle.needs.proofs.Together.{together}
 use Rattle.probe.proofs.kept.report.Statement.{statement}
 use Rattle.probe.proofs.kept.report.Tie as tie
 
@@ -12,16 +13,4 @@ abbrev μ-loop : tie.MeasureT-loop
 
 pub report-spec : {M : Type 1} → statement M
 report-spec =
-    tie.close
-    (tie.spec
-    Inv-loop
-    μ-loop
-    (λ c. search needs)
-    (λ c. search needs)
-    (λ c κs. search needs)
-    (λ c. search needs)
-    (λ c. search needs)
-    (λ c. search needs)
-    (λ c. search needs)
-    (λ c. search needs)
-    (λ c. search needs))
+    tie.close (together 9 _ (tie.spec Inv-loop μ-loop) (search needs))

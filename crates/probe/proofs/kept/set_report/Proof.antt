@@ -1,6 +1,7 @@
 -- `kept::set_report`: as many numbers as a report has, and the slice keeps its length.
 use Prim.Native.Nat.{_≤_, _-_}
 use borrow.Author.Needs.{needs}
+use Rattle.needs.proofs.Together.{together}
 use mathlib.Core.Path.{_≡_}
 use lib.ListN.{length}
 use Rattle.probe.proofs.kept.set_report.Statement.{statement}
@@ -14,16 +15,4 @@ abbrev μ-loop : tie.MeasureT-loop
 
 pub set-report-spec : {M : Type 1} → statement M
 set-report-spec =
-    tie.close
-    (tie.spec
-    Inv-loop
-    μ-loop
-    (λ c. search needs)
-    (λ c. search needs)
-    (λ c κs. search needs)
-    (λ c κs. search needs)
-    (λ c. search needs)
-    (λ c. search needs)
-    (λ c. search needs)
-    (λ c. search needs)
-    (λ c. search needs))
+    tie.close (together 9 _ (tie.spec Inv-loop μ-loop) (search needs))

@@ -14,30 +14,18 @@ Inv-loop file bytes₀ at₀ bytes at = length bytes ≡ length bytes₀
 abbrev μ-loop : tie.MeasureT-loop
 μ-loop file bytes₀ at₀ bytes at = length bytes₀ - at
 
-loop-holds : tie.Need-loop-holds Inv-loop μ-loop
-loop-holds c = refl
-
-same-length : tie.Need-same-length Inv-loop μ-loop
-same-length c = omega arith
-
-loop-again : tie.Need-loop-again Inv-loop μ-loop
-loop-again c = omega arith
-
-same-length-2 : tie.Need-same-length-2 Inv-loop μ-loop
-same-length-2 c = omega arith
-
 pub read-all-spec : {M : Type 1} → statement M
 read-all-spec =
     tie.close
     (tie.spec
     Inv-loop
     μ-loop
-    loop-holds
+    (λ c. refl)
     (λ c κs. search needs)
-    same-length
+    (λ c. omega arith)
     (λ c. search needs)
     (λ c. search needs)
     (λ c. search needs)
-    loop-again
-    same-length-2
+    (λ c. omega arith)
+    (λ c. omega arith)
     (λ c. search needs))

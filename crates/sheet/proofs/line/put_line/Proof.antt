@@ -1,6 +1,7 @@
 -- `sheet::line::put_line` meets its contract: the line's three parts, one after the other. Assumes nothing.
 use native.Mathlib.Omega.{arith}
 use borrow.Author.Needs.{needs}
+use Rattle.needs.proofs.Together.{together}
 use Rattle.text.proofs.Writing.{put-then, put-length}
 use Rattle.sheet.proofs.Lines.{full-line}
 use Rattle.sheet.proofs.line.put_line.Statement.{statement}
@@ -15,14 +16,4 @@ returns c =
 
 pub put-line-spec : {M : Type 1} → statement M
 put-line-spec =
-    tie.close
-    (tie.spec
-    (λ c. search needs)
-    (λ c. search needs)
-    (λ c κs. search needs)
-    (λ c κs. search needs)
-    (λ c. search needs)
-    (λ c. search needs)
-    (λ c κs. search needs)
-    (λ c. search needs)
-    returns)
+    tie.close (together 8 _ tie.spec (search needs) returns)

@@ -1,6 +1,7 @@
 -- `sheet::line::read_line` meets its contract: a line of its kind, tested. Assumes nothing.
 use mathlib.Core.Path.{ap, _∙_}
 use borrow.Author.Needs.{needs}
+use Rattle.needs.proofs.Together.{together}
 use Rattle.sheet.specs.Load.{tested, lineAt}
 use Rattle.sheet.proofs.line.read_line.Statement.{statement}
 use Rattle.sheet.proofs.line.read_line.Tie as tie
@@ -15,13 +16,4 @@ returns-2 c = rw (c .before .before .enum-told2 .given .1) (c .test2 .ensures �
 
 pub read-line-spec : {M : Type 1} → statement M
 read-line-spec =
-    tie.close
-    (tie.spec
-    (λ c. search needs)
-    (λ c κs. search needs)
-    (λ c κs. search needs)
-    (λ c. search needs)
-    (λ c κs. search needs)
-    (λ c κs. search needs)
-    returns
-    returns-2)
+    tie.close (together 6 _ tie.spec (search needs) returns returns-2)

@@ -1,6 +1,7 @@
 -- `sheet::numbered::put_head` meets its contract: the fixed string and the count, one after the other. Assumes nothing.
 use native.Mathlib.Omega.{arith}
 use borrow.Author.Needs.{needs}
+use Rattle.needs.proofs.Together.{together}
 use Rattle.text.proofs.Writing.{put-then}
 use Rattle.sheet.proofs.numbered.put_head.Statement.{statement}
 use Rattle.sheet.proofs.numbered.put_head.Tie as tie
@@ -9,4 +10,4 @@ returns : tie.Need-returns
 returns c = let f = c .before .before in put-then (omega arith) (f .before .before .before .before .put-text .ensures) (f .put-field .ensures)
 
 pub put-head-spec : {M : Type 1} → statement M
-put-head-spec = tie.close (tie.spec (λ c. search needs) (λ c κs. search needs) (λ c κs. search needs) (λ c. search needs) returns)
+put-head-spec = tie.close (together 4 _ tie.spec (search needs) returns)

@@ -2,13 +2,14 @@
 use native.Mathlib.Omega.{arith}
 use lib.Seq.{append-snoc}
 use borrow.Author.Needs.{needs}
+use Rattle.needs.proofs.Together.{together}
 use Rattle.text.proofs.Writing.{put-then}
-use Rattle.tally.specs.Text.{labelOf, lineOf}
+use Rattle.tally.specs.Text.{labelOf, numberLine}
 use Rattle.tally.proofs.lines.put_line.Statement.{statement}
 use Rattle.tally.proofs.lines.put_line.Tie as tie
 
 returns : tie.Need-returns
-unfolding lineOf
+unfolding numberLine
 returns c =
     let label = c .before .before .before .before .before .before .before .before .before .before in
     rw (← append-snoc (labelOf (label .before .before .before .args .i)) 9 _)
@@ -16,5 +17,4 @@ returns c =
 
 pub put-line-spec : {M : Type 1} → statement M
 put-line-spec =
-    tie.close
-    (tie.spec (λ c κs. search needs) (λ c κs. search needs) (λ c κs. search needs) (λ c. search needs) returns)
+    tie.close (together 4 _ tie.spec (search needs) returns)

@@ -15,21 +15,6 @@ Inv-loop n count₀ rest₀ count rest = count + length (decimal rest) ≡ lengt
 abbrev μ-loop : tie.MeasureT-loop
 μ-loop n count₀ rest₀ count rest = rest
 
-add-count : tie.Need-add-count Inv-loop μ-loop
-add-count c = omega (arith, decimal-length 19 (c .before .before .args .n) (omega arith))
-
-loop-again : tie.Need-loop-again Inv-loop μ-loop
-loop-again c = omega (arith, length-four (c .before .loop .rest) (c .loop-test .taken))
-
-few-requires : tie.Need-few-requires Inv-loop μ-loop
-few-requires c κs = c .loop-test .left
-
-add-result : tie.Need-add-result Inv-loop μ-loop
-add-result c = omega (arith, decimal-length 19 (c .before .before .before .args .n) (omega arith), c .few .ensures)
-
-returns : tie.Need-returns Inv-loop μ-loop
-returns c = omega (arith, c .few .ensures)
-
 pub digits-spec : {M : Type 1} → statement M
 digits-spec =
     tie.close
@@ -37,9 +22,9 @@ digits-spec =
     Inv-loop
     μ-loop
     (λ c. search needs)
-    add-count
+    (λ c. omega (arith, decimal-length 19 (c .before .before .args .n) (omega arith)))
     (λ c. search needs)
-    loop-again
-    few-requires
-    add-result
-    returns)
+    (λ c. omega (arith, length-four (c .before .loop .rest) (c .loop-test .taken)))
+    (λ c κs. c .loop-test .left)
+    (λ c. omega (arith, decimal-length 19 (c .before .before .before .args .n) (omega arith), c .few .ensures))
+    (λ c. omega (arith, c .few .ensures)))

@@ -19,45 +19,6 @@ abbrev μ-loop : tie.MeasureT-loop
 four-left : (c : tie.In-loop Inv-loop μ-loop) → 4 ≤ c .before .loop .i
 four-left c = let l = c .before .loop in omega (arith, length-four (l .rest) (c .loop-test .taken))
 
-loop-holds : tie.Need-loop-holds Inv-loop μ-loop
-loop-holds c = filling-none (c .before .pre .0) (c .before .pre .1)
-
-sub-out : tie.Need-sub-out Inv-loop μ-loop
-sub-out c = omega (arith, four-left c)
-
-slice-write-out : tie.Need-slice-write-out Inv-loop μ-loop
-slice-write-out c = omega (arith, four-left c)
-
-sub-out-2 : tie.Need-sub-out-2 Inv-loop μ-loop
-sub-out-2 c = omega (arith, four-left c)
-
-slice-write-out-2 : tie.Need-slice-write-out-2 Inv-loop μ-loop
-slice-write-out-2 c = simp length-set (omega (arith, four-left c))
-
-sub-out-3 : tie.Need-sub-out-3 Inv-loop μ-loop
-sub-out-3 c = omega (arith, four-left c)
-
-slice-write-out-3 : tie.Need-slice-write-out-3 Inv-loop μ-loop
-slice-write-out-3 c = simp length-set (omega (arith, four-left c))
-
-sub-out-4 : tie.Need-sub-out-4 Inv-loop μ-loop
-sub-out-4 c = omega (arith, four-left c)
-
-slice-write-out-4 : tie.Need-slice-write-out-4 Inv-loop μ-loop
-slice-write-out-4 c = simp length-set (omega (arith, four-left c))
-
-sub-i : tie.Need-sub-i Inv-loop μ-loop
-sub-i c = omega (arith, four-left c)
-
-loop-again : tie.Need-loop-again Inv-loop μ-loop
-loop-again c = filling-four (c .before .loop .inv) (c .loop-test .taken)
-
-fill-few-requires : tie.Need-fill-few-requires Inv-loop μ-loop
-fill-few-requires c κs = let f = c .before .before .loop .inv in (f .place, omega arith)
-
-same-length : tie.Need-same-length Inv-loop μ-loop
-same-length c = ap length (c .before .before .fill-few .ensures) ∙ simp length-sets (c .before .before .before .before .before .loop .inv .size)
-
 returns : tie.Need-returns Inv-loop μ-loop
 returns c =
     let l = c .before .before .before .before .before .loop in
@@ -70,26 +31,26 @@ fill-spec =
     (tie.spec
     Inv-loop
     μ-loop
-    loop-holds
+    (λ c. filling-none (c .before .pre .0) (c .before .pre .1))
     (λ c. search needs)
     (λ c. search needs)
-    sub-out
-    slice-write-out
+    (λ c. omega (arith, four-left c))
+    (λ c. omega (arith, four-left c))
     (λ c. search needs)
     (λ c. search needs)
-    sub-out-2
-    slice-write-out-2
+    (λ c. omega (arith, four-left c))
+    (λ c. simp length-set (omega (arith, four-left c)))
     (λ c. search needs)
     (λ c. search needs)
-    sub-out-3
-    slice-write-out-3
+    (λ c. omega (arith, four-left c))
+    (λ c. simp length-set (omega (arith, four-left c)))
     (λ c. search needs)
     (λ c. search needs)
-    sub-out-4
-    slice-write-out-4
-    sub-i
+    (λ c. omega (arith, four-left c))
+    (λ c. simp length-set (omega (arith, four-left c)))
+    (λ c. omega (arith, four-left c))
     (λ c. search needs)
-    loop-again
-    fill-few-requires
-    same-length
+    (λ c. filling-four (c .before .loop .inv) (c .loop-test .taken))
+    (λ c κs. let f = c .before .before .loop .inv in (f .place, omega arith))
+    (λ c. ap length (c .before .before .fill-few .ensures) ∙ simp length-sets (c .before .before .before .before .before .loop .inv .size))
     returns)

@@ -1,6 +1,5 @@
 -- `text::decimal::fill_few` meets its contract. The loop's invariant: the digits after those of `rest` stand from `i` on. Assumes nothing.
 use mathlib.Core.Path.{_≡_, refl, ap, _∙_}
-use mathlib.Core.List.{[], _∷_}
 use Prim.Native.Nat.{_+_, _-_, _/_, _%_}
 use native.Mathlib.Omega.{arith}
 use lib.ListN.{length, set, length-set}
@@ -25,42 +24,21 @@ more c = length-more (c .before .loop .rest) (omega arith)
 last : (c : tie.After-loop Inv-loop μ-loop) → let l = c .before .loop in let a = c .before .before .args in set (l .out) (a .at) (48 + l .rest) ≡ written (l .out) (a .at) (decimal (l .rest))
 last c = rw (decimal-one (c .before .loop .rest) (omega arith))
 
-loop-holds : tie.Need-loop-holds Inv-loop μ-loop
-loop-holds c = filling-none (c .pre .0) (c .pre .1)
-
-sub-i : tie.Need-sub-i Inv-loop μ-loop
-sub-i c = omega (arith, more c)
-
-slice-write-out : tie.Need-slice-write-out Inv-loop μ-loop
-slice-write-out c = omega (arith, more c)
-
-loop-again : tie.Need-loop-again Inv-loop μ-loop
-loop-again c = filling-one (c .before .loop .inv) (c .before .loop .i - 1) (48 + c .before .loop .rest % 10) (omega (arith, more c)) (omega arith) refl
-
-slice-write-out-2 : tie.Need-slice-write-out-2 Inv-loop μ-loop
-slice-write-out-2 c = omega (arith, ap length (decimal-one (c .before .loop .rest) (omega arith)))
-
-same-length : tie.Need-same-length Inv-loop μ-loop
-same-length c = simp length-set (c .before .loop .inv .size)
-
-returns : tie.Need-returns Inv-loop μ-loop
-returns c = last c ∙ filling-rest (c .before .loop .inv) (c .before .before .pre .0) (c .before .before .pre .1)
-
 pub fill-few-spec : {M : Type 1} → statement M
 fill-few-spec =
     tie.close
     (tie.spec
     Inv-loop
     μ-loop
-    loop-holds
-    sub-i
+    (λ c. filling-none (c .pre .0) (c .pre .1))
+    (λ c. omega (arith, more c))
     (λ c. search needs)
     (λ c. search needs)
-    slice-write-out
+    (λ c. omega (arith, more c))
     (λ c. search needs)
-    loop-again
+    (λ c. filling-one (c .before .loop .inv) (c .before .loop .i - 1) (48 + c .before .loop .rest % 10) (omega (arith, more c)) (omega arith) refl)
     (λ c. search needs)
     (λ c. search needs)
-    slice-write-out-2
-    same-length
-    returns)
+    (λ c. omega (arith, ap length (decimal-one (c .before .loop .rest) (omega arith))))
+    (λ c. simp length-set (c .before .loop .inv .size))
+    (λ c. last c ∙ filling-rest (c .before .loop .inv) (c .before .before .pre .0) (c .before .before .pre .1)))

@@ -10,11 +10,5 @@ use Rattle.text.proofs.fields.begins.Tie as tie
 returns : tie.Need-returns
 returns c = let a = c .before .before .before .args in starts-short (a .start .now) (a .text .now) (c .if1 .taken)
 
-slice-aggregate-same : tie.Need-slice-aggregate-same
-slice-aggregate-same c = sym (length-take-le _ _ (omega arith))
-
-returns-2 : tie.Need-returns-2
-returns-2 c = same-as _ _ _ (c .same .ensures .0) (c .same .ensures .1)
-
 pub begins-spec : {M : Type 1} → statement M
-begins-spec = tie.close (tie.spec returns slice-aggregate-same (λ c κs. search needs) returns-2)
+begins-spec = tie.close (tie.spec returns (λ c. sym (length-take-le _ _ (omega arith))) (λ c κs. search needs) (λ c. same-as _ _ _ (c .same .ensures .0) (c .same .ensures .1)))

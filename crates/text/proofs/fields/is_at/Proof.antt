@@ -4,11 +4,8 @@ use Rattle.text.proofs.RoundTrip.{stands-past, stands-there}
 use Rattle.text.proofs.fields.is_at.Statement.{statement}
 use Rattle.text.proofs.fields.is_at.Tie as tie
 
-returns : tie.Need-returns
-returns c = let a = c .before .args in stands-past (a .text .now) (a .at) (a .byte) (c .if1 .taken)
-
 returns-2 : tie.Need-returns-2
 returns-2 c = let a = c .before .before .args in stands-there (a .text .now) (a .at) (a .byte) (c .before .if1 .left)
 
 pub is-at-spec : {M : Type 1} → statement M
-is-at-spec = tie.close (tie.spec returns (λ c. search needs) returns-2)
+is-at-spec = tie.close (tie.spec (λ c. let a = c .before .args in stands-past (a .text .now) (a .at) (a .byte) (c .if1 .taken)) (λ c. search needs) returns-2)

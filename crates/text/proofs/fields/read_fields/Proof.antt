@@ -1,14 +1,16 @@
 -- `text::fields::read_fields` meets its contract. The loop's invariant: reading comes to what the fields left come to, after the numbers so far.
 -- Assumes nothing.
-use mathlib.Core.Path.{_≡_, refl, sym, ap, _∙_}
+use mathlib.Core.Path.{_≡_, refl, sym, _∙_}
 use mathlib.Core.Logic.{⊎-elim}
-use Prim.Native.Nat.{_-_, _≤_}
+use Prim.Native.Nat.{ℕ, _-_, _≤_}
+use native.Mathlib.Numerals.{add-one}
 use native.Mathlib.Omega.{arith}
-use lib.ListN.{length, drop, set, length-set}
-use lib.Seq.{set-out}
+use lib.ListN.{length, drop, set, length-set, drop-of-length-le}
+use lib.Seq.{set-out, drop-cons}
 use borrow.Author.Needs.{needs}
+use Rattle.needs.proofs.Together.{together}
 use Rattle.text.specs.Fields.{fieldsAt, readTo, fieldsOf}
-use Rattle.text.proofs.RoundTrip.{fields-done, fields-none, fields-more}
+use Rattle.text.proofs.RoundTrip.{read-more}
 use Rattle.text.proofs.fields.read_fields.Statement.{statement}
 use Rattle.text.proofs.fields.read_fields.Tie as tie
 
@@ -27,44 +29,25 @@ unfolding fieldsOf
 loop-holds c = (omega arith, refl, refl)
 
 returns : tie.Need-returns Inv-loop μ-loop
+unfolding fieldsAt
 returns c =
-    let a = c .before .before .before .before .before .before .before .before .args in
     let l = c .before .before .before .before .before .loop in
-    fields-none (a .text .now) (l .of) (a .ends .now) (l .next) (l .i) (c .before .before .before .before .loop-test .taken) (sym (c .before .before .read-field .ensures) ∙ c .enum-told .given .1)
-    ∙ sym (l .inv .2)
+    rw (l .inv .2, drop-cons {A = ℕ} _ (l .i) 0 (c .before .before .before .before .loop-test .taken), sym (c .before .before .read-field .ensures) ∙ c .enum-told .given .1)
 
 loop-again : tie.Need-loop-again Inv-loop μ-loop
+unfolding fieldsAt
 loop-again c =
-    let a = c .before .before .before .before .before .before .before .before .before .before .args in
+    let ends = c .before .before .before .before .before .before .before .before .before .before .args .ends .now in
     let l = c .before .before .before .before .before .before .before .loop in (
       omega arith,
-      ap length (stored c) ∙ length-set (l .of) (l .i) _ ∙ l .inv .1,
-      l .inv .2
-          ∙ fields-more (a .text .now) (l .of) (a .ends .now) (l .next) (l .i) (c .before .before .before .before .before .before .loop-test .taken) _ _ (sym (c .before .before .before .before .read-field .ensures) ∙ c .before .before .field .given .1)
-          ∙ rw (stored c),
+      rw (stored c, length-set) (l .inv .1),
+      rw (l .inv .2, drop-cons ends (l .i) 0 (c .before .before .before .before .before .before .loop-test .taken), sym (c .before .before .before .before .read-field .ensures) ∙ c .before .before .field .given .1, read-more, stored c, add-one),
     )
 
 returns-2 : tie.Need-returns-2 Inv-loop μ-loop
-returns-2 c =
-    let a = c .before .before .before .before .args in
-    let l = c .before .loop in
-    fields-done (a .text .now) (l .of) (a .ends .now) (l .next) (l .i) (c .loop-test .left) ∙ sym (l .inv .2)
+unfolding fieldsAt
+returns-2 c = rw (c .before .loop .inv .2, drop-of-length-le _ (c .loop-test .left))
 
 pub read-fields-spec : {M : Type 1} → statement M
 read-fields-spec =
-    tie.close
-    (tie.spec
-    Inv-loop
-    μ-loop
-    loop-holds
-    (λ c. search needs)
-    (λ c κs. search needs)
-    (λ c. search needs)
-    (λ c. search needs)
-    returns
-    (λ c. search needs)
-    (λ c. search needs)
-    (λ c. search needs)
-    (λ c. search needs)
-    loop-again
-    returns-2)
+    tie.close (together 4 _ (together 4 _ (tie.spec Inv-loop μ-loop loop-holds) (search needs) returns) (search needs) loop-again returns-2)

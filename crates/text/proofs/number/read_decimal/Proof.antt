@@ -45,19 +45,10 @@ small : (c : tie.Joined5 Inv-loop μ-loop) →
     l .n * 10 + (getD text (l .next) 0 - 48) < 2 ^ 64
 small c = ⊎-elim (λ w. omega (arith, ltb-false)) (λ w. omega (arith, more-digit (c .before .before))) (c .if5 .came)
 
-returns : tie.Need-returns Inv-loop μ-loop
-returns c = let a = c .before .before .args in number-none (a .text .now) (a .at) (digits-past (a .text .now) (a .at) (c .if1 .taken))
-
 returns-2 : tie.Need-returns-2 Inv-loop μ-loop
 returns-2 c =
     let a = c .before .before .before .before .before .args in
     number-none (a .text .now) (a .at) (digits-stop (a .text .now) (a .at) (c .before .before .before .if1 .left) (sym (c .before .is-digit .ensures) ∙ not-true _ (c .if2 .taken)))
-
-sub-n : tie.Need-sub-n Inv-loop μ-loop
-sub-n c = first-digit c .low
-
-cast-n : tie.Need-cast-n Inv-loop μ-loop
-cast-n c = omega (arith, first-digit c)
 
 loop-holds : tie.Need-loop-holds Inv-loop μ-loop
 loop-holds c =
@@ -71,30 +62,15 @@ returns-3 c =
     let l = c .before .before .before .before .loop in
     number-whole (a .text .now) (a .at) (l .n) (l .next) (l .inv .0) (l .inv .2) (digits-stop (a .text .now) (l .next) (c .before .before .before .loop-test .taken) (sym (c .before .is-digit2 .ensures) ∙ not-true _ (c .if3 .taken))) (l .inv .1)
 
-sub-digit : tie.Need-sub-digit Inv-loop μ-loop
-sub-digit c = more-digit c .low
-
-cast-digit : tie.Need-cast-digit Inv-loop μ-loop
-cast-digit c = omega (arith, more-digit c)
-
 returns-4 : tie.Need-returns-4 Inv-loop μ-loop
 returns-4 c =
     let a = c .before .before .before .before .before .before .before .before .before .before .before .args in
     number-zero (a .text .now) (a .at) _ _ _ (so-far (c .before)) (c .if4 .taken)
 
-sub-if6 : tie.Need-sub-if6 Inv-loop μ-loop
-sub-if6 c = omega (arith, more-digit (c .before .before))
-
 returns-5 : tie.Need-returns-5 Inv-loop μ-loop
 returns-5 c =
     let a = c .before .before .before .before .before .before .before .before .before .before .before .before .before .args in
     number-long (a .text .now) (a .at) _ _ _ (so-far (c .before .before .before)) (omega (arith, ltb-true))
-
-mul-n : tie.Need-mul-n Inv-loop μ-loop
-mul-n c = omega (arith, small c)
-
-add-n : tie.Need-add-n Inv-loop μ-loop
-add-n c = omega (arith, small c)
 
 loop-again : tie.Need-loop-again Inv-loop μ-loop
 loop-again c =
@@ -114,24 +90,24 @@ read-decimal-spec =
     (tie.spec
     Inv-loop
     μ-loop
-    returns
+    (λ c. let a = c .before .before .args in number-none (a .text .now) (a .at) (digits-past (a .text .now) (a .at) (c .if1 .taken)))
     (λ c. search needs)
     (λ c κs. search needs)
     returns-2
-    sub-n
-    cast-n
+    (λ c. first-digit c .low)
+    (λ c. omega (arith, first-digit c))
     (λ c. search needs)
     loop-holds
     (λ c. search needs)
     (λ c κs. search needs)
     returns-3
-    sub-digit
-    cast-digit
+    (λ c. more-digit c .low)
+    (λ c. omega (arith, more-digit c))
     returns-4
-    sub-if6
+    (λ c. omega (arith, more-digit (c .before .before)))
     returns-5
-    mul-n
-    add-n
+    (λ c. omega (arith, small c))
+    (λ c. omega (arith, small c))
     (λ c. search needs)
     (λ c. search needs)
     loop-again

@@ -10,11 +10,11 @@ use Rattle.text.proofs.put.put_byte.Tie as tie
 stored : (c : tie.Joined1) → let a = c .before .before .args in c .if1 .out ≡ set (a .out .now) (a .at) (a .byte)
 stored c = ⊎-elim (λ w. w .1) (λ w. w .1 ∙ sym (set-out _ _ _ (w .0 .left))) (c .if1 .came)
 
-same-length : tie.Need-same-length
-same-length c = ap length (stored (c .before)) ∙ simp length-set
-
-returns : tie.Need-returns
-returns c = record { bytes = stored (c .before); place = c .place .ensures }
-
 pub put-byte-spec : {M : Type 1} → statement M
-put-byte-spec = tie.close (tie.spec (λ c. search needs) (λ c κs. search needs) same-length returns)
+put-byte-spec =
+    tie.close
+    (tie.spec
+    (λ c. search needs)
+    (λ c κs. search needs)
+    (λ c. ap length (stored (c .before)) ∙ simp length-set)
+    (λ c. record { bytes = stored (c .before); place = c .place .ensures }))

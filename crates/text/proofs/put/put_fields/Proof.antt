@@ -4,6 +4,7 @@ use native.Mathlib.Numerals.{add-one}
 use native.Mathlib.Omega.{arith}
 use lib.ListN.{length, take}
 use borrow.Author.Needs.{needs}
+use Rattle.needs.proofs.Together.{together}
 use Rattle.text.specs.Fields.{fields}
 use Rattle.text.specs.Put.{Put}
 use Rattle.text.proofs.Writing.{put-none, put-then, put-length, fields-next, fields-all}
@@ -15,12 +16,6 @@ Inv-loop out₀ at of ends next₀ i₀ out next i = (i ≤ length of) × Put ou
 
 abbrev μ-loop : tie.MeasureT-loop
 μ-loop out₀ at of ends next₀ i₀ out next i = length of - i
-
-loop-holds : tie.Need-loop-holds Inv-loop μ-loop
-loop-holds c = (omega arith, put-none (omega arith))
-
-same-length : tie.Need-same-length Inv-loop μ-loop
-same-length c = put-length (c .before .before .loop .inv .1)
 
 returns : tie.Need-returns Inv-loop μ-loop
 returns c =
@@ -34,9 +29,6 @@ loop-again c =
     let l = c .before .before .before .before .before .before .before .before .loop in
     (omega arith, rw (add-one, fields-next (l .i) (a .of .now) (a .ends .now) (omega arith) (omega arith)) (put-then (omega arith) (l .inv .1) (c .before .before .put-field .ensures)))
 
-same-length-2 : tie.Need-same-length-2 Inv-loop μ-loop
-same-length-2 c = put-length (c .before .loop .inv .1)
-
 returns-2 : tie.Need-returns-2 Inv-loop μ-loop
 returns-2 c =
     let a = c .before .before .before .before .before .args in
@@ -46,18 +38,7 @@ returns-2 c =
 pub put-fields-spec : {M : Type 1} → statement M
 put-fields-spec =
     tie.close
-    (tie.spec
-    Inv-loop
-    μ-loop
-    loop-holds
-    same-length
-    returns
-    (λ c. search needs)
-    (λ c. search needs)
-    (λ c. search needs)
-    (λ c κs. search needs)
-    (λ c. search needs)
-    (λ c. search needs)
+    (together 6 _ (tie.spec Inv-loop μ-loop (λ c. (omega arith, put-none (omega arith))) (λ c. put-length (c .before .before .loop .inv .1)) returns) (search needs)
     loop-again
-    same-length-2
+    (λ c. put-length (c .before .loop .inv .1))
     returns-2)

@@ -1,5 +1,5 @@
 -- `text::put::put_front` meets its contract: the text is copied, or as much of it as there is room for. Assumes nothing.
-use mathlib.Core.Path.{_≡_, sym, _∙_}
+use mathlib.Core.Path.{sym, _∙_}
 use native.Mathlib.Omega.{arith}
 use lib.ListN.{length, take, length-take}
 use lib.Seq.{length-take-le}
@@ -7,12 +7,6 @@ use borrow.Author.Needs.{needs}
 use Rattle.text.proofs.Writing.{copied, written-cut}
 use Rattle.text.proofs.put.put_front.Statement.{statement}
 use Rattle.text.proofs.put.put_front.Tie as tie
-
-slice-aggregate-copy : tie.Need-slice-aggregate-copy
-slice-aggregate-copy c = sym (length-take-le _ _ (omega arith))
-
-copy-requires : tie.Need-copy-requires
-copy-requires c κs = simp length-take (omega arith)
 
 returns : tie.Need-returns
 returns c =
@@ -30,8 +24,8 @@ pub put-front-spec : {M : Type 1} → statement M
 put-front-spec =
     tie.close
     (tie.spec
-    slice-aggregate-copy
-    copy-requires
+    (λ c. sym (length-take-le _ _ (omega arith)))
+    (λ c κs. simp length-take (omega arith))
     (λ c. search needs)
     returns
     (λ c κs. search needs)

@@ -5,6 +5,7 @@ use native.Mathlib.Omega.{arith}
 use lib.ListN.{length}
 use lib.Seq.{length-sets}
 use borrow.Author.Needs.{needs}
+use Rattle.needs.proofs.Together.{together}
 use Rattle.text.specs.Put.{written}
 use Rattle.text.proofs.Writing.{written-from, written-lost}
 use Rattle.text.proofs.put.put_text.Statement.{statement}
@@ -15,20 +16,6 @@ stored c =
     let a = c .before .before .before .args in
     ⊎-elim (λ w. w .5 ∙ written-from (a .out .now) (a .at) (a .text .now) _ (omega arith) (w .2 .ensures)) (λ w. w .1 ∙ sym (written-lost (a .out .now) (a .at) (a .text .now) (w .0 .left))) (c .if1 .came)
 
-same-length : tie.Need-same-length
-same-length c = ap length (stored (c .before)) ∙ simp length-sets
-
-returns : tie.Need-returns
-returns c = record { bytes = stored (c .before); place = c .place .ensures }
-
 pub put-text-spec : {M : Type 1} → statement M
 put-text-spec =
-    tie.close
-    (tie.spec
-    (λ c. search needs)
-    (λ c. search needs)
-    (λ c. search needs)
-    (λ c κs. search needs)
-    (λ c κs. search needs)
-    same-length
-    returns)
+    tie.close (together 5 _ tie.spec (search needs) (λ c. ap length (stored (c .before)) ∙ simp length-sets) (λ c. record { bytes = stored (c .before); place = c .place .ensures }))

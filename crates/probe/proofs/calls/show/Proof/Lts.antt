@@ -3,6 +3,8 @@ use denote.Memory as Memory·
 use Prim.Native.Nat
 use Rattle.record.proofs.Record
 use Rattle.record.proofs.Record.Laws
+use Rattle.text.proofs.whole.Written
+use Rattle.text.proofs.whole.Written.Laws as Laws'
 use borrow.Author.Called
 use borrow.Author.Tests
 use borrow.Fn.Any
@@ -16,6 +18,7 @@ use borrow.Kind.MutSlice
 use borrow.Kind.Num
 use borrow.Kind.ShrSlice
 use borrow.Kind.Value
+use borrow.Rule.AtSlots
 use borrow.Rule.Lifetime
 use borrow.Rule.Local
 use borrow.Rule.Scalar
@@ -24,7 +27,10 @@ use borrow.Rule.Slice.Mut
 use borrow.Rule.Slice.Relend
 use borrow.Rule.Slice.Shared
 use borrow.Rule.Yields
+use borrow.Struct.Apart
+use borrow.Struct.Make
 use borrow.Table.Copies
+use borrow.Table.Own
 use borrow.Table.Reads
 use borrow.Table.Referent
 use borrow.Table.Row
@@ -34,7 +40,7 @@ use contract.Lifetimes
 use denote.Array
 use denote.Exit
 use denote.Struct.Declared
-use denote.Struct.Laws as Laws'
+use denote.Struct.Laws as Laws''
 use denote.Triple.Clauses
 use denote.Triple.Statement
 use ghost.Atoms
@@ -52,102 +58,128 @@ ty0·0 = (Syntax.tyStruct (List._∷_ 102 (List._∷_ 111 (List._∷_ 114 (List.
     (List._∷_ 109 List.[])))))))))) (Syntax.tcons (Syntax.tyInt Syntax.w64) (Syntax.tcons (Syntax.tyInt Syntax.w64) Syntax.tnil)))
 
 abbrev ty0·1 : Syntax.Ty
-ty0·1 = (Syntax.tyStruct (List._∷_ 98 (List._∷_ 117 (List._∷_ 110 (List._∷_ 100 (List._∷_ 108 (List._∷_ 101 (List._∷_ 58 (List._∷_ 58 (List._∷_ 104
+ty0·1 = (Syntax.tyStruct (List._∷_ 116 (List._∷_ 101 (List._∷_ 120 (List._∷_ 116 (List._∷_ 58 (List._∷_ 58 (List._∷_ 119 (List._∷_ 104 (List._∷_ 111
+    (List._∷_ 108 (List._∷_ 101 (List._∷_ 58 (List._∷_ 58 (List._∷_ 87 (List._∷_ 114 (List._∷_ 105 (List._∷_ 116 (List._∷_ 116 (List._∷_ 101 (List._∷_
+    110 List.[])))))))))))))))))))) (Syntax.tcons (Syntax.tyInt Syntax.w8) (Syntax.tcons (Syntax.tyInt Syntax.w64) Syntax.tnil)))
+
+abbrev ty0·2 : Syntax.Ty
+ty0·2 = (Syntax.tyStruct (List._∷_ 98 (List._∷_ 117 (List._∷_ 110 (List._∷_ 100 (List._∷_ 108 (List._∷_ 101 (List._∷_ 58 (List._∷_ 58 (List._∷_ 104
     (List._∷_ 97 (List._∷_ 108 (List._∷_ 102 (List._∷_ 58 (List._∷_ 58 (List._∷_ 72 (List._∷_ 97 (List._∷_ 108 (List._∷_ 118 (List._∷_ 101 (List._∷_
     115 List.[])))))))))))))))))))) (Syntax.tcons (Syntax.tyInt Syntax.w64) (Syntax.tcons (Syntax.tyInt Syntax.w64) Syntax.tnil)))
 
-abbrev ty0·2 : Syntax.Ty
-ty0·2 = (Syntax.tyStruct (List._∷_ 38 (List._∷_ 91 (List._∷_ 93 List.[]))) (Syntax.tcons (Syntax.tyRef Syntax.erased Syntax.mut (Syntax.tyInt
+abbrev ty0·3 : Syntax.Ty
+ty0·3 = (Syntax.tyStruct (List._∷_ 38 (List._∷_ 91 (List._∷_ 93 List.[]))) (Syntax.tcons (Syntax.tyRef Syntax.erased Syntax.mut (Syntax.tyInt
     Syntax.w8)) (Syntax.tcons (Syntax.tyInt Syntax.w64) Syntax.tnil)))
 
 abbrev ty1·0 : Syntax.Ty
 ty1·0 = (Syntax.tyStruct (List._∷_ 114 (List._∷_ 101 (List._∷_ 99 (List._∷_ 111 (List._∷_ 114 (List._∷_ 100 (List._∷_ 58 (List._∷_ 58 (List._∷_ 82
     (List._∷_ 101 (List._∷_ 99 (List._∷_ 111 (List._∷_ 114 (List._∷_ 100 List.[])))))))))))))) (Syntax.tcons (Syntax.tyInt Syntax.w64) (Syntax.tcons
-    (Syntax.tyInt Syntax.w64) (Syntax.tcons (Syntax.tyInt Syntax.w64) (Syntax.tcons ty0·0 (Syntax.tcons (Syntax.tyInt Syntax.w64) (Syntax.tcons ty0·1
-    (Syntax.tcons ty0·1 Syntax.tnil))))))))
+    (Syntax.tyInt Syntax.w64) (Syntax.tcons (Syntax.tyInt Syntax.w64) (Syntax.tcons ty0·0 (Syntax.tcons (Syntax.tyInt Syntax.w64) (Syntax.tcons ty0·2
+    (Syntax.tcons ty0·2 Syntax.tnil))))))))
 
 abbrev row·0 : Row.Entry
-row·0 = (1, Rows.sslice (Record.the-row) (Syntax.tyRef (Syntax.named 0) Syntax.imm (Memory·.pointee (Record.the-row .written))) 0)
+row·0 = (0, Rows.any-gone ty0·1)
 
 abbrev row·1 : Row.Entry
-row·1 = (10, Mut.msleft (Referent.rtF (Referent.fInt Syntax.w8)) (Syntax.tyRef Syntax.erased Syntax.mut (Syntax.tyInt Syntax.w8)))
+row·1 = (1, Rows.sslice (Record.the-row) (Syntax.tyRef (Syntax.named 0) Syntax.imm (Memory·.pointee (Record.the-row .written))) 0)
 
 abbrev row·2 : Row.Entry
-row·2 = (10, Mut.mslice (Referent.rtF (Referent.fInt Syntax.w8)) (Syntax.tyRef Syntax.erased Syntax.mut (Syntax.tyInt Syntax.w8)) 2)
+row·2 = (10, Mut.msleft (Referent.rtF (Referent.fInt Syntax.w8)) (Syntax.tyRef Syntax.erased Syntax.mut (Syntax.tyInt Syntax.w8)))
 
 abbrev row·3 : Row.Entry
-row·3 = (10, Rows.any-gone ty0·2)
+row·3 = (10, Mut.mslice (Referent.rtF (Referent.fInt Syntax.w8)) (Syntax.tyRef Syntax.erased Syntax.mut (Syntax.tyInt Syntax.w8)) 2)
 
 abbrev row·4 : Row.Entry
-row·4 = (4, Rows.sc-here (Row.sInt Syntax.w64))
+row·4 = (10, Rows.any-gone ty0·3)
 
 abbrev row·5 : Row.Entry
-row·5 = (6, Rows.any-gone (Syntax.tyInt Syntax.w64))
+row·5 = (4, Rows.sc-here (Row.sInt Syntax.w64))
 
 abbrev row·6 : Row.Entry
-row·6 = (8, Rows.any-gone ty1·0)
+row·6 = (6, Rows.any-gone (Syntax.tyInt Syntax.w64))
 
 abbrev row·7 : Row.Entry
-row·7 = (8, Rows.whole (Declared.row Record.the-type))
+row·7 = (8, Rows.any-gone ty1·0)
 
 abbrev row·8 : Row.Entry
-row·8 = (9, Relend.msptr (Referent.rtF (Referent.fInt Syntax.w8)) (Syntax.tyRef Syntax.erased Syntax.mut (Syntax.tyInt Syntax.w8)) 2)
+row·8 = (8, Rows.whole (Declared.row Record.the-type))
 
 abbrev row·9 : Row.Entry
-row·9 = (9, Rows.any-gone (Syntax.tyRef Syntax.erased Syntax.mut (Syntax.tyInt Syntax.w8)))
+row·9 = (9, Relend.msptr (Referent.rtF (Referent.fInt Syntax.w8)) (Syntax.tyRef Syntax.erased Syntax.mut (Syntax.tyInt Syntax.w8)) 2)
 
 abbrev row·10 : Row.Entry
-row·10 = (2, Mut.mslice (Referent.rtF (Referent.fInt Syntax.w8)) (Syntax.tyRef (Syntax.named 1) Syntax.mut (Syntax.tyInt Syntax.w8)) 1)
+row·10 = (9, Rows.any-gone (Syntax.tyRef Syntax.erased Syntax.mut (Syntax.tyInt Syntax.w8)))
 
 abbrev row·11 : Row.Entry
-row·11 = (
+row·11 = (2, Mut.mslice (Referent.rtF (Referent.fInt Syntax.w8)) (Syntax.tyRef (Syntax.named 1) Syntax.mut (Syntax.tyInt Syntax.w8)) 1)
+
+abbrev row·12 : Row.Entry
+row·12 = (
   2,
   Relend.mslice-owed (Referent.rtF (Referent.fInt Syntax.w8)) (Syntax.tyRef (Syntax.named 1) Syntax.mut (Syntax.tyInt Syntax.w8)) 1 2
       Row.off,
 )
 
-abbrev row·12 : Row.Entry
-row·12 = (4, Rows.any-gone (Syntax.tyInt Syntax.w64))
-
 abbrev row·13 : Row.Entry
-row·13 = (6, Rows.sc-here (Row.sInt Syntax.w64))
+row·13 = (4, Rows.any-gone (Syntax.tyInt Syntax.w64))
 
 abbrev row·14 : Row.Entry
-row·14 = (0, Rows.any-gone (Syntax.tyInt Syntax.w64))
+row·14 = (6, Rows.sc-here (Row.sInt Syntax.w64))
 
 abbrev row·15 : Row.Entry
-row·15 = (0, Rows.sc-here (Row.sInt Syntax.w64))
+row·15 = (0, Rows.whole (Declared.row (Apart.apartT Written.the-type)))
 
 abbrev row·16 : Row.Entry
-row·16 = (3, Rows.any-gone (Syntax.tyInt Syntax.w64))
+row·16 = (0, Rows.whole (Declared.row Written.the-type))
 
 abbrev row·17 : Row.Entry
-row·17 = (3, Rows.sc-here (Row.sInt Syntax.w64))
+row·17 = (3, Rows.any-gone (Syntax.tyInt Syntax.w64))
 
 abbrev row·18 : Row.Entry
-row·18 = (5, Rows.any-gone (Syntax.tyInt Syntax.w64))
+row·18 = (3, Rows.sc-here (Row.sInt Syntax.w64))
 
 abbrev row·19 : Row.Entry
-row·19 = (5, Rows.sc-here (Row.sInt Syntax.w64))
+row·19 = (5, Rows.any-gone (Syntax.tyInt Syntax.w64))
 
 abbrev row·20 : Row.Entry
-row·20 = (7, Rows.any-gone Syntax.tyBool)
+row·20 = (5, Rows.sc-here (Row.sInt Syntax.w64))
 
 abbrev row·21 : Row.Entry
-row·21 = (7, Rows.sc-here Row.sBool)
+row·21 = (7, Rows.any-gone Syntax.tyBool)
 
 abbrev row·22 : Row.Entry
-row·22 = (9, Rows.any-gone (Syntax.tyRef Syntax.erased Syntax.mut (Syntax.tyInt Syntax.w8)))
+row·22 = (7, Rows.sc-here Row.sBool)
+
+abbrev row·23 : Row.Entry
+row·23 = (9, Rows.any-gone (Syntax.tyRef Syntax.erased Syntax.mut (Syntax.tyInt Syntax.w8)))
 
 abbrev pub ps : List.List (Kinds.PK 2)
 ps = List._∷_ (ShrSlice.pShrS (Record.the-row) 0 tt) (List._∷_ (MutSlice.pMutS (Referent.rtF (Referent.fInt Syntax.w8)) 1 tt) List.[])
 
 abbrev pub r : Kinds.RK 2
-r = Num.rNum Syntax.w64
+r = Value.rVal record {
+  ty = Declared.row Written.the-type;
+  one = Path'.refl;
+  val = Laws''.val Written.the-type Laws'.the-laws;
+  tells = Laws''.tells
+      Written.the-type Laws'.the-laws;
+  still = Laws''.still Written.the-type Laws'.the-copy Exit.yes;
+  row = Rows.whole (Declared.row Written.the-type);
+  rd = λ x. x;
+  mk = λ x. x;
+} λ M 𝓤 H A W. record {
+  copies = Laws''.copy Written.the-type Laws'.the-copy 𝓤 H A W;
+  lawful = Laws''.lawful
+      Written.the-type Laws'.the-laws 𝓤 H A W;
+  makes = Laws''.makes Written.the-type Laws'.the-plain 𝓤 H A;
+  in-mem = Local.mem-whole 𝓤 H A W
+      (Declared.row Written.the-type);
+  of-mem = Local.whole-mem 𝓤 H A W (Declared.row Written.the-type);
+}
 
 abbrev pub xs : List.List Syntax.Ty
 xs = List._∷_ (Syntax.tyInt Syntax.w64) (List._∷_ (Syntax.tyInt Syntax.w64) (List._∷_ (Syntax.tyInt Syntax.w64) (List._∷_ (Syntax.tyInt Syntax.w64)
-    (List._∷_ Syntax.tyBool (List._∷_ ty1·0 (List._∷_ (Syntax.tyRef Syntax.erased Syntax.mut (Syntax.tyInt Syntax.w8)) (List._∷_ ty0·2 List.[])))))))
+    (List._∷_ Syntax.tyBool (List._∷_ ty1·0 (List._∷_ (Syntax.tyRef Syntax.erased Syntax.mut (Syntax.tyInt Syntax.w8)) (List._∷_ ty0·3 List.[])))))))
 
 abbrev pub m : Nat.ℕ
 m = 1
@@ -159,19 +191,19 @@ abbrev pub r·0 : Kinds.RK 1
 r·0 = Value.rVal record {
   ty = Declared.row Record.the-type;
   one = Path'.refl;
-  val = Laws'.val Record.the-type Laws.the-laws;
-  tells = Laws'.tells
+  val = Laws''.val Record.the-type Laws.the-laws;
+  tells = Laws''.tells
       Record.the-type Laws.the-laws;
-  still = Laws'.still Record.the-type Laws.the-copy Exit.yes;
+  still = Laws''.still Record.the-type Laws.the-copy Exit.yes;
   row = Rows.whole (Declared.row Record.the-type);
-  rd = λ
-      x. x;
+  rd =
+      λ x. x;
   mk = λ x. x;
 } λ M 𝓤 H A W. record {
-  copies = Laws'.copy Record.the-type Laws.the-copy 𝓤 H A W;
-  lawful = Laws'.lawful Record.the-type
+  copies = Laws''.copy Record.the-type Laws.the-copy 𝓤 H A W;
+  lawful = Laws''.lawful Record.the-type
       Laws.the-laws 𝓤 H A W;
-  makes = Laws'.makes Record.the-type Laws.the-plain 𝓤 H A;
+  makes = Laws''.makes Record.the-type Laws.the-plain 𝓤 H A;
   in-mem = Local.mem-whole 𝓤 H A W (Declared.row Record.the-type);
   of-mem = Local.whole-mem 𝓤 H A W (Declared.row Record.the-type);
 }
@@ -180,21 +212,19 @@ abbrev pub ps·1 : List.List (Kinds.PK 1)
 ps·1 = List._∷_ (Num.pNum Syntax.w64) (List._∷_ (Value.pVal record {
   ty = Declared.row Record.the-type;
   one = Path'.refl;
-  val = Laws'.val
+  val = Laws''.val
       Record.the-type Laws.the-laws;
-  tells = Laws'.tells Record.the-type Laws.the-laws;
-  still = Laws'.still Record.the-type Laws.the-copy Exit.yes;
-  row
-      = Rows.whole (Declared.row Record.the-type);
+  tells = Laws''.tells Record.the-type Laws.the-laws;
+  still = Laws''.still Record.the-type Laws.the-copy Exit.yes;
+  row = Rows.whole (Declared.row Record.the-type);
   rd = λ x. x;
   mk = λ x. x;
 } λ M 𝓤 H A W. record {
-  copies = Laws'.copy Record.the-type Laws.the-copy 𝓤
-      H A W;
-  lawful = Laws'.lawful Record.the-type Laws.the-laws 𝓤 H A W;
-  makes = Laws'.makes Record.the-type Laws.the-plain 𝓤 H A;
-  in-mem =
-      Local.mem-whole 𝓤 H A W (Declared.row Record.the-type);
+  copies = Laws''.copy Record.the-type
+      Laws.the-copy 𝓤 H A W;
+  lawful = Laws''.lawful Record.the-type Laws.the-laws 𝓤 H A W;
+  makes = Laws''.makes Record.the-type Laws.the-plain 𝓤 H A;
+  in-mem = Local.mem-whole 𝓤 H A W (Declared.row Record.the-type);
   of-mem = Local.whole-mem 𝓤 H A W (Declared.row Record.the-type);
 }) (List._∷_
     (MutSlice.pMutS (Referent.rtF (Referent.fInt Syntax.w8)) 0 tt) (List._∷_ (Num.pNum Syntax.w64) List.[])))
@@ -283,7 +313,8 @@ abbrev b22 : Syntax.Body
 b22 = Syntax.block b21
 
 abbrev b23 : Syntax.Body
-b23 = Syntax.assign (Syntax.place 0 List.[]) (Syntax.rvOpd (Syntax.copy (Syntax.place 3 List.[])))
+b23 = Syntax.assign (Syntax.place 0 List.[]) (Syntax.aggregate (List._∷_ (Syntax.int Syntax.w8 0) (List._∷_ (Syntax.copy (Syntax.place 3 List.[]))
+    List.[])))
 
 abbrev b24 : Syntax.Body
 b24 = Syntax.return
@@ -307,64 +338,68 @@ abbrev pub Claims : Type 1
 Claims = Kinds.In 1 ps·0 × Kinds.Out 1 ps·0 r·0 × Kinds.In 1 ps·1 × Kinds.Out 1 ps·1 r·1
 
 abbrev pub t0 : List.List Row.Entry
-t0 = List._∷_ row·14 (List._∷_ row·0 (List._∷_ row·10 (List._∷_ row·16 (List._∷_ row·12 (List._∷_ row·18 (List._∷_ row·5 (List._∷_ row·20 (List._∷_
-    row·6 (List._∷_ row·22 (List._∷_ row·3 List.[]))))))))))
+t0 = List._∷_ row·0 (List._∷_ row·1 (List._∷_ row·11 (List._∷_ row·17 (List._∷_ row·13 (List._∷_ row·19 (List._∷_ row·6 (List._∷_ row·21 (List._∷_
+    row·7 (List._∷_ row·23 (List._∷_ row·4 List.[]))))))))))
 
 abbrev pub t1 : List.List Row.Entry
-t1 = List._∷_ row·15 (List._∷_ row·0 (List._∷_ row·10 (List._∷_ row·16 (List._∷_ row·12 (List._∷_ row·18 (List._∷_ row·5 (List._∷_ row·20 (List._∷_
-    row·6 (List._∷_ row·22 (List._∷_ row·3 List.[]))))))))))
+t1 = List._∷_ row·16 (List._∷_ row·1 (List._∷_ row·11 (List._∷_ row·17 (List._∷_ row·13 (List._∷_ row·19 (List._∷_ row·6 (List._∷_ row·21 (List._∷_
+    row·7 (List._∷_ row·23 (List._∷_ row·4 List.[]))))))))))
 
 abbrev pub t2 : List.List Row.Entry
-t2 = List._∷_ row·14 (List._∷_ row·0 (List._∷_ row·10 (List._∷_ row·17 (List._∷_ row·12 (List._∷_ row·18 (List._∷_ row·5 (List._∷_ row·20 (List._∷_
-    row·6 (List._∷_ row·22 (List._∷_ row·3 List.[]))))))))))
+t2 = List._∷_ row·0 (List._∷_ row·1 (List._∷_ row·11 (List._∷_ row·18 (List._∷_ row·13 (List._∷_ row·19 (List._∷_ row·6 (List._∷_ row·21 (List._∷_
+    row·7 (List._∷_ row·23 (List._∷_ row·4 List.[]))))))))))
 
 abbrev pub t3 : List.List Row.Entry
-t3 = List._∷_ row·14 (List._∷_ row·0 (List._∷_ row·10 (List._∷_ row·17 (List._∷_ row·4 (List._∷_ row·18 (List._∷_ row·5 (List._∷_ row·20 (List._∷_
-    row·6 (List._∷_ row·22 (List._∷_ row·3 List.[]))))))))))
+t3 = List._∷_ row·0 (List._∷_ row·1 (List._∷_ row·11 (List._∷_ row·18 (List._∷_ row·5 (List._∷_ row·19 (List._∷_ row·6 (List._∷_ row·21 (List._∷_
+    row·7 (List._∷_ row·23 (List._∷_ row·4 List.[]))))))))))
 
 abbrev pub t4 : List.List Row.Entry
-t4 = List._∷_ row·14 (List._∷_ row·0 (List._∷_ row·10 (List._∷_ row·17 (List._∷_ row·4 (List._∷_ row·18 (List._∷_ row·13 (List._∷_ row·20 (List._∷_
-    row·6 (List._∷_ row·22 (List._∷_ row·3 List.[]))))))))))
+t4 = List._∷_ row·0 (List._∷_ row·1 (List._∷_ row·11 (List._∷_ row·18 (List._∷_ row·5 (List._∷_ row·19 (List._∷_ row·14 (List._∷_ row·21 (List._∷_
+    row·7 (List._∷_ row·23 (List._∷_ row·4 List.[]))))))))))
 
 abbrev pub t5 : List.List Row.Entry
-t5 = List._∷_ row·14 (List._∷_ row·0 (List._∷_ row·10 (List._∷_ row·17 (List._∷_ row·4 (List._∷_ row·18 (List._∷_ row·13 (List._∷_ row·21 (List._∷_
-    row·6 (List._∷_ row·22 (List._∷_ row·3 List.[]))))))))))
+t5 = List._∷_ row·0 (List._∷_ row·1 (List._∷_ row·11 (List._∷_ row·18 (List._∷_ row·5 (List._∷_ row·19 (List._∷_ row·14 (List._∷_ row·22 (List._∷_
+    row·7 (List._∷_ row·23 (List._∷_ row·4 List.[]))))))))))
 
 abbrev pub t6 : List.List Row.Entry
-t6 = List._∷_ row·14 (List._∷_ row·0 (List._∷_ row·10 (List._∷_ row·17 (List._∷_ row·4 (List._∷_ row·18 (List._∷_ row·5 (List._∷_ row·21 (List._∷_
-    row·6 (List._∷_ row·22 (List._∷_ row·3 List.[]))))))))))
+t6 = List._∷_ row·0 (List._∷_ row·1 (List._∷_ row·11 (List._∷_ row·18 (List._∷_ row·5 (List._∷_ row·19 (List._∷_ row·6 (List._∷_ row·22 (List._∷_
+    row·7 (List._∷_ row·23 (List._∷_ row·4 List.[]))))))))))
 
 abbrev pub t7 : List.List Row.Entry
-t7 = List._∷_ row·14 (List._∷_ row·0 (List._∷_ row·10 (List._∷_ row·17 (List._∷_ row·4 (List._∷_ row·19 (List._∷_ row·5 (List._∷_ row·20 (List._∷_
-    row·6 (List._∷_ row·22 (List._∷_ row·3 List.[]))))))))))
+t7 = List._∷_ row·0 (List._∷_ row·1 (List._∷_ row·11 (List._∷_ row·18 (List._∷_ row·5 (List._∷_ row·20 (List._∷_ row·6 (List._∷_ row·21 (List._∷_
+    row·7 (List._∷_ row·23 (List._∷_ row·4 List.[]))))))))))
 
 abbrev pub t8 : List.List Row.Entry
-t8 = List._∷_ row·14 (List._∷_ row·0 (List._∷_ row·10 (List._∷_ row·17 (List._∷_ row·4 (List._∷_ row·19 (List._∷_ row·5 (List._∷_ row·20 (List._∷_
-    row·7 (List._∷_ row·22 (List._∷_ row·3 List.[]))))))))))
+t8 = List._∷_ row·0 (List._∷_ row·1 (List._∷_ row·11 (List._∷_ row·18 (List._∷_ row·5 (List._∷_ row·20 (List._∷_ row·6 (List._∷_ row·21 (List._∷_
+    row·8 (List._∷_ row·23 (List._∷_ row·4 List.[]))))))))))
 
 abbrev pub t9 : List.List Row.Entry
-t9 = List._∷_ row·14 (List._∷_ row·0 (List._∷_ row·11 (List._∷_ row·17 (List._∷_ row·4 (List._∷_ row·19 (List._∷_ row·5 (List._∷_ row·20 (List._∷_
-    row·7 (List._∷_ row·8 (List._∷_ row·3 List.[]))))))))))
+t9 = List._∷_ row·0 (List._∷_ row·1 (List._∷_ row·12 (List._∷_ row·18 (List._∷_ row·5 (List._∷_ row·20 (List._∷_ row·6 (List._∷_ row·21 (List._∷_
+    row·8 (List._∷_ row·9 (List._∷_ row·4 List.[]))))))))))
 
 abbrev pub t10 : List.List Row.Entry
-t10 = List._∷_ row·14 (List._∷_ row·0 (List._∷_ row·11 (List._∷_ row·17 (List._∷_ row·4 (List._∷_ row·19 (List._∷_ row·5 (List._∷_ row·20 (List._∷_
-    row·7 (List._∷_ row·22 (List._∷_ row·2 List.[]))))))))))
+t10 = List._∷_ row·0 (List._∷_ row·1 (List._∷_ row·12 (List._∷_ row·18 (List._∷_ row·5 (List._∷_ row·20 (List._∷_ row·6 (List._∷_ row·21 (List._∷_
+    row·8 (List._∷_ row·23 (List._∷_ row·3 List.[]))))))))))
 
 abbrev pub t11 : List.List Row.Entry
-t11 = List._∷_ row·14 (List._∷_ row·0 (List._∷_ row·11 (List._∷_ row·17 (List._∷_ row·4 (List._∷_ row·19 (List._∷_ row·5 (List._∷_ row·20 (List._∷_
-    row·7 (List._∷_ row·22 (List._∷_ row·1 List.[]))))))))))
+t11 = List._∷_ row·0 (List._∷_ row·1 (List._∷_ row·12 (List._∷_ row·18 (List._∷_ row·5 (List._∷_ row·20 (List._∷_ row·6 (List._∷_ row·21 (List._∷_
+    row·8 (List._∷_ row·23 (List._∷_ row·2 List.[]))))))))))
 
 abbrev pub t12 : List.List Row.Entry
-t12 = List._∷_ row·14 (List._∷_ row·0 (List._∷_ row·11 (List._∷_ row·17 (List._∷_ row·4 (List._∷_ row·19 (List._∷_ row·5 (List._∷_ row·20 (List._∷_
-    row·6 (List._∷_ row·22 (List._∷_ row·1 List.[]))))))))))
+t12 = List._∷_ row·0 (List._∷_ row·1 (List._∷_ row·12 (List._∷_ row·18 (List._∷_ row·5 (List._∷_ row·20 (List._∷_ row·6 (List._∷_ row·21 (List._∷_
+    row·7 (List._∷_ row·23 (List._∷_ row·2 List.[]))))))))))
 
 abbrev pub t13 : List.List Row.Entry
-t13 = List._∷_ row·15 (List._∷_ row·0 (List._∷_ row·10 (List._∷_ row·17 (List._∷_ row·4 (List._∷_ row·18 (List._∷_ row·5 (List._∷_ row·20 (List._∷_
-    row·6 (List._∷_ row·22 (List._∷_ row·3 List.[]))))))))))
+t13 = List._∷_ row·15 (List._∷_ row·1 (List._∷_ row·11 (List._∷_ row·18 (List._∷_ row·5 (List._∷_ row·19 (List._∷_ row·6 (List._∷_ row·21 (List._∷_
+    row·7 (List._∷_ row·23 (List._∷_ row·4 List.[]))))))))))
 
 abbrev pub t14 : List.List Row.Entry
-t14 = List._∷_ row·15 (List._∷_ row·0 (List._∷_ row·10 (List._∷_ row·16 (List._∷_ row·4 (List._∷_ row·18 (List._∷_ row·5 (List._∷_ row·20 (List._∷_
-    row·6 (List._∷_ row·22 (List._∷_ row·3 List.[]))))))))))
+t14 = List._∷_ row·15 (List._∷_ row·1 (List._∷_ row·11 (List._∷_ row·17 (List._∷_ row·5 (List._∷_ row·19 (List._∷_ row·6 (List._∷_ row·21 (List._∷_
+    row·7 (List._∷_ row·23 (List._∷_ row·4 List.[]))))))))))
+
+abbrev pub t15 : List.List Row.Entry
+t15 = List._∷_ row·15 (List._∷_ row·1 (List._∷_ row·11 (List._∷_ row·17 (List._∷_ row·13 (List._∷_ row·19 (List._∷_ row·6 (List._∷_ row·21 (List._∷_
+    row·7 (List._∷_ row·23 (List._∷_ row·4 List.[]))))))))))
 
 abbrev pub T0 : Row.Cx
 T0 = record { locals = t0; slots = List.[] }
@@ -439,7 +474,10 @@ abbrev pub T26 : Row.Cx
 T26 = record { locals = t14; slots = List.[] }
 
 abbrev pub T27 : Row.Cx
-T27 = record { locals = t1; slots = List.[] }
+T27 = record { locals = t15; slots = List.[] }
+
+abbrev pub T28 : Row.Cx
+T28 = record { locals = t1; slots = List.[] }
 
 abbrev pub O0 : Typed.Outs
 O0 = record { next = Option.none; exits = List.[]; returns = Option.some T1 }
@@ -553,14 +591,16 @@ module _ (claims· : Claims) where
   s20 = Scalar.n-room T23 5 (Syntax.tyInt Syntax.w64)
 
   abbrev s21 : Typed.Mo T5 → Typed.Mo T25
-  s21 = Scalar.n-use T5 (Scalar.oAt 3 (Syntax.tyInt Syntax.w64) (Row.valS (Row.sInt Syntax.w64))) 0 (Rows.sc-here (Row.sInt Syntax.w64)) (Row.sInt
-      Syntax.w64 .of)
+  s21 = Make.n-struct-make (Apart.apartT Written.the-type) T5 0 λ m. (0, (m .1 .1 .1 .0, tt))
 
   abbrev s22 : Typed.Mo T25 → Typed.Mo T26
   s22 = Scalar.n-room T25 3 (Syntax.tyInt Syntax.w64)
 
   abbrev s23 : Typed.Mo T26 → Typed.Mo T27
   s23 = Scalar.n-room T26 4 (Syntax.tyInt Syntax.w64)
+
+  abbrev s24 : Typed.Mo T27 → Typed.Mo T28
+  s24 = AtSlots.n-as-by T27 0 (Rows.whole (Declared.row Written.the-type)) λ v. Written.struct .make v tt
 
   abbrev put0 : List.List (Referent.rtF (Referent.fInt Syntax.w8) .Denot) × Rows.sc-here (Row.sInt Syntax.w64) .Mod × Rows.sc-here (Row.sInt
       Syntax.w64) .Mod → Typed.Mo T4 → Typed.Mo T4
@@ -652,32 +692,35 @@ module _ (claims· : Claims) where
       abbrev at22 : Typed.TF T4 O1
       at22 = λ Ψ. at21 (Typed.inBlock O1 Ψ)
 
-      abbrev at23 : Typed.TF T27 O0
+      abbrev at23 : Typed.TF T28 O0
       at23 = Typed.atRet O0
 
-      abbrev at24 : Typed.TF T26 O0
-      at24 = λ Ψ. Typed.pass T26 T27 s23 (at23 Ψ)
+      abbrev at24 : Typed.TF T27 O0
+      at24 = λ Ψ. Typed.pass T27 T28 s24 (at23 Ψ)
 
-      abbrev at25 : Typed.TF T25 O0
-      at25 = λ Ψ. Typed.pass T25 T26 s22 (at24 Ψ)
+      abbrev at25 : Typed.TF T26 O0
+      at25 = λ Ψ. Typed.pass T26 T27 s23 (at24 Ψ)
 
-      abbrev at26 : Typed.TF T5 O0
-      at26 = λ Ψ. Typed.pass T5 T25 s21 (at25 Ψ)
+      abbrev at26 : Typed.TF T25 O0
+      at26 = λ Ψ. Typed.pass T25 T26 s22 (at25 Ψ)
 
-      abbrev at27 : Typed.TF T4 O0
-      at27 = λ Ψ. at22 (Typed.wantNext T5 O0 (at26 Ψ) Ψ)
+      abbrev at27 : Typed.TF T5 O0
+      at27 = λ Ψ. Typed.pass T5 T25 s21 (at26 Ψ)
 
-      abbrev at28 : Typed.TF T3 O0
-      at28 = λ Ψ. Typed.pass T3 T4 s2 (at27 Ψ)
+      abbrev at28 : Typed.TF T4 O0
+      at28 = λ Ψ. at22 (Typed.wantNext T5 O0 (at27 Ψ) Ψ)
 
-      abbrev at29 : Typed.TF T2 O0
-      at29 = λ Ψ. Typed.pass T2 T3 s1 (at28 Ψ)
+      abbrev at29 : Typed.TF T3 O0
+      at29 = λ Ψ. Typed.pass T3 T4 s2 (at28 Ψ)
 
-      abbrev at30 : Typed.TF T0 O0
-      at30 = λ Ψ. Typed.give s0 (at29 Ψ)
+      abbrev at30 : Typed.TF T2 O0
+      at30 = λ Ψ. Typed.pass T2 T3 s1 (at29 Ψ)
+
+      abbrev at31 : Typed.TF T0 O0
+      at31 = λ Ψ. Typed.give s0 (at30 Ψ)
 
       abbrev pub Φ : Typed.TF T0 O0
-      Φ = at30
+      Φ = at31
 
       module _ {M : Type 1} (𝓤 : URA.URA M) (H : Wp.Heap 𝓤) (A : Atoms.Atoms 𝓤) (W : Kit.Given 𝓤 H A) (𝓣 : Wp.Tables 𝓤 H) where
         abbrev Knowns : Type 1
@@ -686,36 +729,36 @@ module _ (claims· : Claims) where
 
       module _ (κs : Lifetimes.Lfts 2) (qs : Lifetimes.Shares 2) where
         abbrev g9 : List.List Row.Entry
-        g9 = List._∷_ row·14 (List._∷_ row·0 (List._∷_ (
+        g9 = List._∷_ row·0 (List._∷_ row·1 (List._∷_ (
           2,
           Relend.mslice-owed (Referent.rtF (Referent.fInt Syntax.w8)) (Syntax.tyRef (Syntax.named 1)
               Syntax.mut (Syntax.tyInt Syntax.w8)) 1 2 (Row.lease (κs .1 .0) (qs .1 .0)),
-        ) (List._∷_ row·17 (List._∷_ row·4 (List._∷_ row·19 (List._∷_
-            row·5 (List._∷_ row·20 (List._∷_ row·7 (List._∷_ row·8 (List._∷_ row·3 List.[]))))))))))
+        ) (List._∷_ row·18 (List._∷_ row·5 (List._∷_ row·20 (List._∷_
+            row·6 (List._∷_ row·21 (List._∷_ row·8 (List._∷_ row·9 (List._∷_ row·4 List.[]))))))))))
 
         abbrev g10 : List.List Row.Entry
-        g10 = List._∷_ row·14 (List._∷_ row·0 (List._∷_ (
+        g10 = List._∷_ row·0 (List._∷_ row·1 (List._∷_ (
           2,
-          Relend.mslice-owed (Referent.rtF (Referent.fInt Syntax.w8)) (Syntax.tyRef (Syntax.named
-              1) Syntax.mut (Syntax.tyInt Syntax.w8)) 1 2 (Row.lease (κs .1 .0) (qs .1 .0)),
-        ) (List._∷_ row·17 (List._∷_ row·4 (List._∷_ row·19
-            (List._∷_ row·5 (List._∷_ row·20 (List._∷_ row·7 (List._∷_ row·9 (List._∷_ row·2 List.[]))))))))))
+          Relend.mslice-owed (Referent.rtF (Referent.fInt Syntax.w8)) (Syntax.tyRef (Syntax.named 1)
+              Syntax.mut (Syntax.tyInt Syntax.w8)) 1 2 (Row.lease (κs .1 .0) (qs .1 .0)),
+        ) (List._∷_ row·18 (List._∷_ row·5 (List._∷_ row·20 (List._∷_
+            row·6 (List._∷_ row·21 (List._∷_ row·8 (List._∷_ row·10 (List._∷_ row·3 List.[]))))))))))
 
         abbrev g11 : List.List Row.Entry
-        g11 = List._∷_ row·14 (List._∷_ row·0 (List._∷_ (
+        g11 = List._∷_ row·0 (List._∷_ row·1 (List._∷_ (
           2,
-          Relend.mslice-owed (Referent.rtF (Referent.fInt Syntax.w8)) (Syntax.tyRef (Syntax.named
-              1) Syntax.mut (Syntax.tyInt Syntax.w8)) 1 2 (Row.lease (κs .1 .0) (qs .1 .0)),
-        ) (List._∷_ row·17 (List._∷_ row·4 (List._∷_ row·19
-            (List._∷_ row·5 (List._∷_ row·20 (List._∷_ row·7 (List._∷_ row·9 (List._∷_ row·1 List.[]))))))))))
+          Relend.mslice-owed (Referent.rtF (Referent.fInt Syntax.w8)) (Syntax.tyRef (Syntax.named 1)
+              Syntax.mut (Syntax.tyInt Syntax.w8)) 1 2 (Row.lease (κs .1 .0) (qs .1 .0)),
+        ) (List._∷_ row·18 (List._∷_ row·5 (List._∷_ row·20 (List._∷_
+            row·6 (List._∷_ row·21 (List._∷_ row·8 (List._∷_ row·10 (List._∷_ row·2 List.[]))))))))))
 
         abbrev g12 : List.List Row.Entry
-        g12 = List._∷_ row·14 (List._∷_ row·0 (List._∷_ (
+        g12 = List._∷_ row·0 (List._∷_ row·1 (List._∷_ (
           2,
-          Relend.mslice-owed (Referent.rtF (Referent.fInt Syntax.w8)) (Syntax.tyRef (Syntax.named
-              1) Syntax.mut (Syntax.tyInt Syntax.w8)) 1 2 (Row.lease (κs .1 .0) (qs .1 .0)),
-        ) (List._∷_ row·17 (List._∷_ row·4 (List._∷_ row·19
-            (List._∷_ row·5 (List._∷_ row·20 (List._∷_ row·6 (List._∷_ row·9 (List._∷_ row·1 List.[]))))))))))
+          Relend.mslice-owed (Referent.rtF (Referent.fInt Syntax.w8)) (Syntax.tyRef (Syntax.named 1)
+              Syntax.mut (Syntax.tyInt Syntax.w8)) 1 2 (Row.lease (κs .1 .0) (qs .1 .0)),
+        ) (List._∷_ row·18 (List._∷_ row·5 (List._∷_ row·20 (List._∷_
+            row·6 (List._∷_ row·21 (List._∷_ row·7 (List._∷_ row·10 (List._∷_ row·2 List.[]))))))))))
 
         abbrev G0 : Row.Cx
         G0 = record {
@@ -888,6 +931,13 @@ module _ (claims· : Claims) where
 
         abbrev G27 : Row.Cx
         G27 = record {
+          locals = t15;
+          slots = List._∷_ (Row.lease (κs .0) (qs .0)) (List._∷_ (Row.lease (κs .1 .0) (qs .1 .0)) (List._∷_ Row.off
+              List.[]));
+        }
+
+        abbrev G28 : Row.Cx
+        G28 = record {
           locals = t1;
           slots = List._∷_ (Row.lease (κs .0) (qs .0)) (List._∷_ (Row.lease (κs .1 .0) (qs .1 .0)) (List._∷_ Row.off
               List.[]));
@@ -1011,7 +1061,7 @@ module _ (claims· : Claims) where
               Syntax.w8)) 𝓣 (Relend.asMut (Referent.rtF (Referent.fInt Syntax.w8))) G15 9 10 2 (Syntax.tyRef Syntax.erased Syntax.mut (Syntax.tyInt
               Syntax.w8)) (Syntax.tyRef Syntax.erased Syntax.mut (Syntax.tyInt Syntax.w8)) (λ x. x) (Scalar.oFld 2 (List._∷_ (Syntax.field 1) List.[])
               (Syntax.tyInt Syntax.w64) 8 λ v. Shared.lenV (v .0)) (Reads.as-is 𝓤 H A (Relend.msptr (Referent.rtF (Referent.fInt Syntax.w8))
-              (Syntax.tyRef Syntax.erased Syntax.mut (Syntax.tyInt Syntax.w8)) 2)) (Reads.room-gone 𝓤 H A ty0·2) (
+              (Syntax.tyRef Syntax.erased Syntax.mut (Syntax.tyInt Syntax.w8)) 2)) (Reads.room-gone 𝓤 H A ty0·3) (
                 Relend.reads-owed-len 𝓤 H A W
                     (Referent.rtF (Referent.fInt Syntax.w8)) (Syntax.tyRef (Syntax.named 1) Syntax.mut (Syntax.tyInt Syntax.w8)) 1 2 (Row.lease (κs .1 .0)
                     (qs .1 .0)) 8 Path'.refl,
@@ -1109,46 +1159,63 @@ module _ (claims· : Claims) where
           d22 : Typed.Typed 𝓤 H A 𝓣 E G4 b22 Δ1 at22
           d22 = Typed.t-block 𝓤 H A W 𝓣 E G4 b21 Δ1 at21 d21
 
-          d23 : Typed.Typed 𝓤 H A 𝓣 E G27 b24 Δ0 at23
+          d23 : Typed.Typed 𝓤 H A 𝓣 E G28 b24 Δ0 at23
           d23 = Typed.t-return 𝓤 H A W 𝓣 E Δ0 tt
 
-          d24 : Typed.Typed 𝓤 H A 𝓣 E G26 b24 Δ0 at24
-          d24 = Typed.g-pre 𝓤 H A W 𝓣 E G26 G27 b24 Δ0 (Typed.pass T26 T27 s23) at23 (Scalar.g-room 𝓤 H A W E G26 4 (Syntax.tyInt Syntax.w64)
-              (Scalar.room-sc 𝓤 H A W (Row.sInt Syntax.w64))) d23
+          d24 : Typed.Typed 𝓤 H A 𝓣 E G27 b24 Δ0 at24
+          d24 = Typed.g-pre 𝓤 H A W 𝓣 E G27 G28 b24 Δ0 (Typed.pass T27 T28 s24) at23 (AtSlots.g-as-by 𝓤 H A W E (λ ρ. Unit) G27 0 (Rows.whole
+              (Declared.row Written.the-type)) (λ v. Written.struct .make v tt) (Own.told-none 𝓤 H A (G27 .slots)) λ ρ told v b. Apart.folds 𝓤 H A
+              Written.the-type (Written.struct .Ghost) (Written.struct .make) (λ v g. Path'.refl) ρ v tt b) d23
 
-          d25 : Typed.Typed 𝓤 H A 𝓣 E G25 b24 Δ0 at25
-          d25 = Typed.g-pre 𝓤 H A W 𝓣 E G25 G26 b24 Δ0 (Typed.pass T25 T26 s22) at24 (Scalar.g-room 𝓤 H A W E G25 3 (Syntax.tyInt Syntax.w64)
+          d25 : Typed.Typed 𝓤 H A 𝓣 E G26 b24 Δ0 at25
+          d25 = Typed.g-pre 𝓤 H A W 𝓣 E G26 G27 b24 Δ0 (Typed.pass T26 T27 s23) at24 (Scalar.g-room 𝓤 H A W E G26 4 (Syntax.tyInt Syntax.w64)
               (Scalar.room-sc 𝓤 H A W (Row.sInt Syntax.w64))) d24
 
-          d26 : Typed.Typed 𝓤 H A 𝓣 E G5 b25 Δ0 at26
-          d26 = Typed.s-seq 𝓤 H A W 𝓣 E G5 G25 b23 b24 Δ0 (Typed.pass T5 T25 s21) at25 (Scalar.t-use 𝓤 H A W E 𝓣 G5 (Scalar.oAt 3 (Syntax.tyInt
-              Syntax.w64) (Row.valS (Row.sInt Syntax.w64))) 0 (Rows.sc-here (Row.sInt Syntax.w64)) (Syntax.tyInt Syntax.w64) (Row.valS (Row.sInt
-              Syntax.w64)) (Row.sInt Syntax.w64 .of) (Scalar.reads-sc 𝓤 H A W (Row.sInt Syntax.w64), Path'.refl) (Reads.room-gone 𝓤 H A (Syntax.tyInt
-              Syntax.w64)) (Scalar.holds-sc 𝓤 H A W (Row.sInt Syntax.w64)) Path'.refl (λ u. Path'.refl) λ u. tt) d25
+          d26 : Typed.Typed 𝓤 H A 𝓣 E G25 b24 Δ0 at26
+          d26 = Typed.g-pre 𝓤 H A W 𝓣 E G25 G26 b24 Δ0 (Typed.pass T25 T26 s22) at25 (Scalar.g-room 𝓤 H A W E G25 3 (Syntax.tyInt Syntax.w64)
+              (Scalar.room-sc 𝓤 H A W (Row.sInt Syntax.w64))) d25
 
-          d27 : Typed.Typed 𝓤 H A 𝓣 E G4 b26 Δ0 at27
-          d27 = Typed.t-seq 𝓤 H A W 𝓣 E G4 G5 b22 b25 Δ0 at22 at26 d22 d26
+          d27 : Typed.Typed 𝓤 H A 𝓣 E G5 b25 Δ0 at27
+          d27 = Typed.s-seq 𝓤 H A W 𝓣 E G5 G25 b23 b24 Δ0 (Typed.pass T5 T25 s21) at26 (Make.t-struct-make 𝓤 H A W E 𝓣 (Apart.apartT Written.the-type)
+              Laws'.the-laws Laws'.the-plain G5 0 (List._∷_ (Scalar.oInt Syntax.w8 0) (List._∷_ (Scalar.oAt 3 (Syntax.tyInt Syntax.w64) (Row.valS
+              (Row.sInt Syntax.w64))) List.[])) (λ m. (0, (m .1 .1 .1 .0, tt))) (Reads.room-gone 𝓤 H A ty0·1) (
+                tt,
+                (
+                  (
+                    Scalar.reads-sc 𝓤 H A W (Row.sInt
+                        Syntax.w64),
+                    Path'.refl,
+                  ),
+                  tt,
+                ),
+              ) Path'.refl (λ u. Path'.refl) λ m. Make.is-wt (Apart.apartT Written.the-type) Laws'.the-laws (
+                Make.u8-wt,
+                (Make.u64-wt, tt),
+              ) (0, (m .1 .1 .1 .0, tt))) d26
 
-          d28 : Typed.Typed 𝓤 H A 𝓣 E G3 b27 Δ0 at28
-          d28 = Typed.s-seq 𝓤 H A W 𝓣 E G3 G4 b1 b26 Δ0 (Typed.pass T3 T4 s2) at27 (Scalar.t-use 𝓤 H A W E 𝓣 G3 (Scalar.oInt Syntax.w64 0) 4
-              (Rows.sc-here (Row.sInt Syntax.w64)) (Syntax.tyInt Syntax.w64) (Row.valS (Row.sInt Syntax.w64)) (Row.sInt Syntax.w64 .of) tt
-              (Reads.room-gone 𝓤 H A (Syntax.tyInt Syntax.w64)) (Scalar.holds-sc 𝓤 H A W (Row.sInt Syntax.w64)) Path'.refl (λ u. Path'.refl) λ u. tt)
-              d27
+          d28 : Typed.Typed 𝓤 H A 𝓣 E G4 b26 Δ0 at28
+          d28 = Typed.t-seq 𝓤 H A W 𝓣 E G4 G5 b22 b25 Δ0 at22 at27 d22 d27
 
-          d29 : Typed.Typed 𝓤 H A 𝓣 E G2 b28 Δ0 at29
-          d29 = Typed.s-seq 𝓤 H A W 𝓣 E G2 G3 b0 b27 Δ0 (Typed.pass T2 T3 s1) at28 (Scalar.t-use 𝓤 H A W E 𝓣 G2 (Scalar.oInt Syntax.w64 0) 3
+          d29 : Typed.Typed 𝓤 H A 𝓣 E G3 b27 Δ0 at29
+          d29 = Typed.s-seq 𝓤 H A W 𝓣 E G3 G4 b1 b26 Δ0 (Typed.pass T3 T4 s2) at28 (Scalar.t-use 𝓤 H A W E 𝓣 G3 (Scalar.oInt Syntax.w64 0) 4
               (Rows.sc-here (Row.sInt Syntax.w64)) (Syntax.tyInt Syntax.w64) (Row.valS (Row.sInt Syntax.w64)) (Row.sInt Syntax.w64 .of) tt
               (Reads.room-gone 𝓤 H A (Syntax.tyInt Syntax.w64)) (Scalar.holds-sc 𝓤 H A W (Row.sInt Syntax.w64)) Path'.refl (λ u. Path'.refl) λ u. tt)
               d28
 
-          d30 : Typed.Typed 𝓤 H A 𝓣 E G0 b28 Δ0 at30
-          d30 = Typed.g-pre 𝓤 H A W 𝓣 E G0 G2 b28 Δ0 (Typed.give s0) at29 (Know.g-sl-known 𝓤 H A W (Referent.fInt Syntax.w8) E G0 2 1 (Syntax.tyRef
+          d30 : Typed.Typed 𝓤 H A 𝓣 E G2 b28 Δ0 at30
+          d30 = Typed.s-seq 𝓤 H A W 𝓣 E G2 G3 b0 b27 Δ0 (Typed.pass T2 T3 s1) at29 (Scalar.t-use 𝓤 H A W E 𝓣 G2 (Scalar.oInt Syntax.w64 0) 3
+              (Rows.sc-here (Row.sInt Syntax.w64)) (Syntax.tyInt Syntax.w64) (Row.valS (Row.sInt Syntax.w64)) (Row.sInt Syntax.w64 .of) tt
+              (Reads.room-gone 𝓤 H A (Syntax.tyInt Syntax.w64)) (Scalar.holds-sc 𝓤 H A W (Row.sInt Syntax.w64)) Path'.refl (λ u. Path'.refl) λ u. tt)
+              d29
+
+          d31 : Typed.Typed 𝓤 H A 𝓣 E G0 b28 Δ0 at31
+          d31 = Typed.g-pre 𝓤 H A W 𝓣 E G0 G2 b28 Δ0 (Typed.give s0) at30 (Know.g-sl-known 𝓤 H A W (Referent.fInt Syntax.w8) E G0 2 1 (Syntax.tyRef
               (Syntax.named 1) Syntax.mut (Syntax.tyInt Syntax.w8)) (Row.lease (κs .1 .0) (qs .1 .0)) 0 (λ x. x) record { fits = Dec'.lit< tt }
               (Reads.as-is 𝓤 H A (Mut.mslice (Referent.rtF (Referent.fInt Syntax.w8)) (Syntax.tyRef (Syntax.named 1) Syntax.mut (Syntax.tyInt
-              Syntax.w8)) 1)) Path'.refl tt) d29
+              Syntax.w8)) 1)) Path'.refl tt) d30
 
           pub typed : Typed.Typed 𝓤 H A 𝓣 E (Function.Γin 2 ps r xs m κs qs) b28 (Function.Δret 2 ps r xs m κs qs) Φ
-          typed = d30
+          typed = d31
 
       module _ (κs : Lifetimes.Lfts 2) where
         pub record Args : Type 0 where
@@ -1185,7 +1252,7 @@ module _ (claims· : Claims) where
       m3 = λ before given. s2 (m2 before given)
 
       abbrev W1 : (before : Start) → (given : s0 .gives (m0 (before .κs) (before .args))) → Typed.Want O1
-      W1 = λ before given. Typed.wantNext T5 O0 (at26 (W0 (before .κs) (before .args))) (W0 (before .κs) (before .args))
+      W1 = λ before given. Typed.wantNext T5 O0 (at27 (W0 (before .κs) (before .args))) (W0 (before .κs) (before .args))
 
       abbrev W2 : (before : Start) → (given : s0 .gives (m0 (before .κs) (before .args))) → Typed.Want O2
       W2 = λ before given. Typed.inBlock O1 (W1 before given)
@@ -1206,12 +1273,12 @@ module _ (claims· : Claims) where
 
       abbrev pub m4 : (before : After-slice-known) → (out : List.List (Referent.rtF (Referent.fInt Syntax.w8) .Denot)) → (at : Rows.sc-here (Row.sInt
           Syntax.w64) .Mod) → (place : Rows.sc-here (Row.sInt Syntax.w64) .Mod) → Typed.Mo T4
-      m4 = λ before out at place. Row.set 4 (4, Rows.sc-here (Row.sInt Syntax.w64)) place (Row.setRow 3 row·17 (Row.setRow 2 (
+      m4 = λ before out at place. Row.set 4 (4, Rows.sc-here (Row.sInt Syntax.w64)) place (Row.setRow 3 row·18 (Row.setRow 2 (
         2,
         Mut.mslice
             (Referent.rtF (Referent.fInt Syntax.w8)) (Syntax.tyRef (Syntax.named 1) Syntax.mut (Syntax.tyInt Syntax.w8)) 1,
       ) (T4 .locals))) (Row.set 3
-          row·17 at (Row.setRow 2 (
+          row·18 at (Row.setRow 2 (
             2,
             Mut.mslice (Referent.rtF (Referent.fInt Syntax.w8)) (Syntax.tyRef (Syntax.named 1) Syntax.mut (Syntax.tyInt
                 Syntax.w8)) 1,
@@ -1440,25 +1507,28 @@ module _ (claims· : Claims) where
       abbrev pub m22 : (before : At-loop) → Typed.Mo T27
       m22 = λ before. s23 (m21 before)
 
+      abbrev pub m23 : (before : At-loop) → Typed.Mo T28
+      m23 = λ before. s24 (m22 before)
+
       abbrev pub Need-same-length : Type 0
-      Need-same-length = (c : After-loop) → MutSlice.SameLen (Row.get 2 (T27 .locals) (m22 (c .before))) (dens (c .before .before .before .κs) (c
+      Need-same-length = (c : After-loop) → MutSlice.SameLen (Row.get 2 (T28 .locals) (m23 (c .before))) (dens (c .before .before .before .κs) (c
           .before .before .before .args) .1 .0)
 
       abbrev pub Need-returns : Type 0
       Need-returns = (c : After-loop) → Post· (c .before .before .before .κs) (dens (c .before .before .before .κs) (c .before .before .before .args))
-          (Function.resV r (c .before .before .before .κs) (m22 (c .before) .0)) (Clauses.atExit (Kinds.endedOf 2 ps r) (c .before .before .before
+          (Function.resV r (c .before .before .before .κs) (m23 (c .before) .0)) (Clauses.atExit (Kinds.endedOf 2 ps r) (c .before .before .before
           .κs) (dens (c .before .before .before .κs) (c .before .before .before .args)) (Enter.lastsP (c .before .before .before .κs) 1 ps xs (dens (c
-          .before .before .before .κs) (c .before .before .before .args)) (m22 (c .before) .1)))
+          .before .before .before .κs) (c .before .before .before .args)) (m23 (c .before) .1)))
 
       module _ (loop-holds : Need-loop-holds) (get-requires : Need-get-requires) (show-place-requires : Need-show-place-requires) (add-place :
           Need-add-place) (loop-less : Need-loop-less) (loop-again : Need-loop-again) (same-length : Need-same-length) (returns : Need-returns) where
-        lay6 : (c : After-loop) → at26 (W0 (c .before .before .before .κs) (c .before .before .before .args)) (m9 (c .before))
+        lay6 : (c : After-loop) → at27 (W0 (c .before .before .before .κs) (c .before .before .before .args)) (m9 (c .before))
         lay6 = λ c. (
           (
             Path'.refl,
             (
-              MutSlice.fix-len (Row.get 2 (T27 .locals) (m22 (c .before)) .ptr) (Row.get 2 (T27 .locals) (m22 (c .before))
-                  .name) (Row.get 2 (T27 .locals) (m22 (c .before)) .now) (dens (c .before .before .before .κs) (c .before .before .before .args) .1 .0
+              MutSlice.fix-len (Row.get 2 (T28 .locals) (m23 (c .before)) .ptr) (Row.get 2 (T28 .locals) (m23 (c .before))
+                  .name) (Row.get 2 (T28 .locals) (m23 (c .before)) .now) (dens (c .before .before .before .κs) (c .before .before .before .args) .1 .0
                   .now) (same-length record { before = c .before; loop-test = c .loop-test }),
               tt,
             ),
@@ -1656,7 +1726,7 @@ module _ (claims· : Claims) where
             .before) (c .before .loop .out) (c .before .loop .at) (c .before .loop .place))
         lay1 = λ c. lay3 record { before = c .before; loop-test = c .loop-test }
 
-        pub laid : (c : Start) → at30 (W0 (c .κs) (c .args)) (m0 (c .κs) (c .args))
+        pub laid : (c : Start) → at31 (W0 (c .κs) (c .args)) (m0 (c .κs) (c .args))
         laid = λ c. λ g. (
           (
             (Row.get 2 (T4 .locals) (m3 c g) .now, Row.get 3 (T4 .locals) (m3 c g), Row.get 4 (T4 .locals) (m3 c g)),

@@ -1,6 +1,7 @@
 -- `operands::shown`: five operands, and the buffer keeps its length.
 use Prim.Native.Nat.{_≤_, _-_}
 use borrow.Author.Needs.{needs}
+use Rattle.needs.proofs.Together.{together}
 use mathlib.Core.Path.{_≡_}
 use lib.ListN.{length}
 use Rattle.probe.proofs.command.operands.shown.Statement.{statement}
@@ -14,16 +15,4 @@ abbrev μ-loop : tie.MeasureT-loop
 
 pub shown-spec : {M : Type 1} → statement M
 shown-spec =
-    tie.close
-    (tie.spec
-    Inv-loop
-    μ-loop
-    (λ c. search needs)
-    (λ c. search needs)
-    (λ c. search needs)
-    (λ c κs. search needs)
-    (λ c. search needs)
-    (λ c. search needs)
-    (λ c. search needs)
-    (λ c. search needs)
-    (λ c. search needs))
+    tie.close (together 9 _ (tie.spec Inv-loop μ-loop) (search needs))

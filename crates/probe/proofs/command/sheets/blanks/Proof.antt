@@ -1,6 +1,7 @@
 -- `sheets::blanks`: no more bytes are counted than were looked at. Assumes nothing.
 use Prim.Native.Nat.{_≤_, _-_}
 use borrow.Author.Needs.{needs}
+use Rattle.needs.proofs.Together.{together}
 use lib.ListN.{length}
 use Rattle.probe.proofs.command.sheets.blanks.Statement.{statement}
 use Rattle.probe.proofs.command.sheets.blanks.Tie as tie
@@ -13,15 +14,4 @@ abbrev μ-loop : tie.MeasureT-loop
 
 pub blanks-spec : {M : Type 1} → statement M
 blanks-spec =
-    tie.close
-    (tie.spec
-    Inv-loop
-    μ-loop
-    (λ c κs. search needs)
-    (λ c. search needs)
-    (λ c. search needs)
-    (λ c κs. search needs)
-    (λ c. search needs)
-    (λ c. search needs)
-    (λ c. search needs)
-    (λ c. search needs))
+    tie.close (together 8 _ (tie.spec Inv-loop μ-loop) (search needs))

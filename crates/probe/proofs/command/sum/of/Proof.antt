@@ -1,6 +1,7 @@
 -- `sum::of`: the number stays below the prime.
 use Prim.Native.Nat.{_≤_, _<_, _-_}
 use borrow.Author.Needs.{needs}
+use Rattle.needs.proofs.Together.{together}
 use lib.ListN.{length}
 use Rattle.probe.proofs.command.sum.of.Statement.{statement}
 use Rattle.probe.proofs.command.sum.of.Tie as tie
@@ -13,17 +14,4 @@ abbrev μ-loop : tie.MeasureT-loop
 
 pub of-spec : {M : Type 1} → statement M
 of-spec =
-    tie.close
-    (tie.spec
-    Inv-loop
-    μ-loop
-    (λ c. search needs)
-    (λ c. search needs)
-    (λ c. search needs)
-    (λ c κs. search needs)
-    (λ c. search needs)
-    (λ c. search needs)
-    (λ c. search needs)
-    (λ c. search needs)
-    (λ c. search needs)
-    (λ c. search needs))
+    tie.close (together 10 _ (tie.spec Inv-loop μ-loop) (search needs))

@@ -146,13 +146,18 @@ ty2·0 = (Syntax.tyStruct (List._∷_ 102 (List._∷_ 111 (List._∷_ 114 (List.
     ty1·0 Syntax.tnil)))))
 
 abbrev ty3·0 : Syntax.Ty
-ty3·0 = (Syntax.tyEnum (List._∷_ 112 (List._∷_ 114 (List._∷_ 111 (List._∷_ 98 (List._∷_ 101 (List._∷_ 58 (List._∷_ 58 (List._∷_ 99 (List._∷_ 97
+ty3·0 = (Syntax.tyEnum (List._∷_ 106 (List._∷_ 111 (List._∷_ 117 (List._∷_ 114 (List._∷_ 110 (List._∷_ 97 (List._∷_ 108 (List._∷_ 58 (List._∷_ 58
+    (List._∷_ 65 (List._∷_ 99 (List._∷_ 116 List.[])))))))))))) (Syntax.ttcons (Syntax.tcons ty2·0 Syntax.tnil) (Syntax.ttcons Syntax.tnil
+    Syntax.ttnil)))
+
+abbrev ty4·0 : Syntax.Ty
+ty4·0 = (Syntax.tyEnum (List._∷_ 112 (List._∷_ 114 (List._∷_ 111 (List._∷_ 98 (List._∷_ 101 (List._∷_ 58 (List._∷_ 58 (List._∷_ 99 (List._∷_ 97
     (List._∷_ 108 (List._∷_ 108 (List._∷_ 115 (List._∷_ 58 (List._∷_ 58 (List._∷_ 67 (List._∷_ 97 (List._∷_ 108 (List._∷_ 108
     List.[])))))))))))))))))) (Syntax.ttcons Syntax.tnil (Syntax.ttcons (Syntax.tcons ty0·8 (Syntax.tcons (Syntax.tyInt Syntax.w64) Syntax.tnil))
     (Syntax.ttcons (Syntax.tcons (Syntax.tyInt Syntax.w64) (Syntax.tcons ty1·1 Syntax.tnil)) (Syntax.ttcons Syntax.tnil (Syntax.ttcons (Syntax.tcons
-    (Syntax.tyInt Syntax.w64) (Syntax.tcons ty2·0 Syntax.tnil)) (Syntax.ttcons (Syntax.tcons (Syntax.tyInt Syntax.w64) Syntax.tnil) (Syntax.ttcons
-    (Syntax.tcons (Syntax.tyInt Syntax.w64) Syntax.tnil) (Syntax.ttcons (Syntax.tcons (Syntax.tyInt Syntax.w64) (Syntax.tcons (Syntax.tyInt
-    Syntax.w64) Syntax.tnil)) (Syntax.ttcons (Syntax.tcons (Syntax.tyInt Syntax.w64) Syntax.tnil) Syntax.ttnil))))))))))
+    (Syntax.tyInt Syntax.w64) (Syntax.tcons ty3·0 Syntax.tnil)) (Syntax.ttcons (Syntax.tcons (Syntax.tyInt Syntax.w64) Syntax.tnil) (Syntax.ttcons
+    (Syntax.tcons (Syntax.tyInt Syntax.w64) (Syntax.tcons (Syntax.tyInt Syntax.w64) Syntax.tnil)) (Syntax.ttcons (Syntax.tcons (Syntax.tyInt
+    Syntax.w64) Syntax.tnil) Syntax.ttnil)))))))))
 
 abbrev row·0 : Row.Entry
 row·0 = (1, Mut.mslice (Referent.rtF (Referent.fInt Syntax.w8)) (Syntax.tyRef (Syntax.named 0) Syntax.mut (Syntax.tyInt Syntax.w8)) 0)
@@ -218,7 +223,7 @@ abbrev row·20 : Row.Entry
 row·20 = (6, Mut.mslice (Elem.the-row) (Syntax.tyRef (Syntax.named 5) Syntax.mut (Memory·.pointee (Elem.the-row .written))) 5)
 
 abbrev row·21 : Row.Entry
-row·21 = (8, Rows.any-gone ty3·0)
+row·21 = (8, Rows.any-gone ty4·0)
 
 abbrev row·22 : Row.Entry
 row·22 = (8, Rows.whole (Declared.row Call.the-type))
@@ -496,7 +501,7 @@ abbrev pub r : Kinds.RK 6
 r = Unit'.rUnit
 
 abbrev pub xs : List.List Syntax.Ty
-xs = List._∷_ (Syntax.tyInt Syntax.w64) (List._∷_ ty3·0 (List._∷_ Syntax.tyBool (List._∷_ (Syntax.tyRef Syntax.erased Syntax.mut (Syntax.tyInt
+xs = List._∷_ (Syntax.tyInt Syntax.w64) (List._∷_ ty4·0 (List._∷_ Syntax.tyBool (List._∷_ (Syntax.tyRef Syntax.erased Syntax.mut (Syntax.tyInt
     Syntax.w8)) (List._∷_ ty0·14 (List._∷_ (Syntax.tyRef Syntax.erased Syntax.mut (Syntax.tyInt Syntax.w8)) (List._∷_ ty0·14 (List._∷_ (Syntax.tyRef
     Syntax.erased Syntax.mut (Syntax.tyInt Syntax.w8)) (List._∷_ ty0·14 (List._∷_ (Syntax.tyRef Syntax.erased Syntax.mut (Syntax.tyInt Syntax.w64))
     (List._∷_ ty0·13 (List._∷_ (Syntax.tyRef Syntax.erased Syntax.mut (Syntax.tyInt Syntax.w8)) (List._∷_ ty0·14 (List._∷_ Syntax.tyUnit (List._∷_
@@ -1480,7 +1485,7 @@ module _ (claims· : Claims) where
         ),
       ),
     ),
-  ) 8 (List._∷_ 6 (List._∷_ 7 (List._∷_ 8 (List._∷_ 9 (List._∷_ 10 List.[]))))) ty3·0
+  ) 8 (List._∷_ 6 (List._∷_ 7 (List._∷_ 8 (List._∷_ 9 (List._∷_ 10 List.[]))))) ty4·0
 
   abbrev s26 : Typed.Both T28 T30
   s26 = Relend.k-back-sl (Referent.rtF (Referent.fInt Syntax.w8)) T28 11 1 0 6 (Syntax.tyRef (Syntax.named 0) Syntax.mut (Syntax.tyInt Syntax.w8))
@@ -1584,7 +1589,7 @@ module _ (claims· : Claims) where
   ) 20 (List._∷_ 11 (List._∷_ 12 (List._∷_ 13 (List._∷_ 14 List.[])))) Syntax.tyUnit
 
   abbrev s58 : Typed.Mo T61 → Typed.Mo T62
-  s58 = Scalar.n-room T61 8 ty3·0
+  s58 = Scalar.n-room T61 8 ty4·0
 
   abbrev s59 : Typed.Mo T62 → Typed.Mo T63
   s59 = Scalar.n-room T62 20 Syntax.tyUnit
@@ -4300,8 +4305,8 @@ module _ (claims· : Claims) where
               A W Row.sUnit)) d46
 
           d48 : Typed.Typed 𝓤 H A 𝓣 E G61 b43 Δ3 at48
-          d48 = Typed.g-pre 𝓤 H A W 𝓣 E G61 G62 b43 Δ3 (Typed.pass T61 T62 s58) at47 (Scalar.g-room 𝓤 H A W E G61 8 ty3·0 (Local.room-whole 𝓤 H A W
-              (Declared.row Call.the-type) ty3·0 Path'.refl)) d47
+          d48 = Typed.g-pre 𝓤 H A W 𝓣 E G61 G62 b43 Δ3 (Typed.pass T61 T62 s58) at47 (Scalar.g-room 𝓤 H A W E G61 8 ty4·0 (Local.room-whole 𝓤 H A W
+              (Declared.row Call.the-type) ty4·0 Path'.refl)) d47
 
           d49 : Typed.Typed 𝓤 H A 𝓣 E G60 b44 Δ3 at49
           d49 = Typed.s-seq 𝓤 H A W 𝓣 E G60 G61 b24 b43 Δ3 (Typed.both s57) at48 (Plain.t-call-plain 𝓤 H A W 𝓣 4 ps·1 r·1 (claims· .2) (claims· .3)
@@ -4984,7 +4989,7 @@ module _ (claims· : Claims) where
                     ),
                   ),
                 ),
-              ) (Reads.room-gone 𝓤 H A ty3·0) (tt, (tt, (tt, (tt, (tt, tt))))) Path'.refl)
+              ) (Reads.room-gone 𝓤 H A ty4·0) (tt, (tt, (tt, (tt, (tt, tt))))) Path'.refl)
               d81
 
           d83 : Typed.Typed 𝓤 H A 𝓣 E G26 b54 Δ3 at83

@@ -1,5 +1,5 @@
--- How `edit` and `undo` go about it: a plan, decided by the code and what the journal shows, and then carried out. What they come to is
--- said in `Edit.antt`. Assumes nothing.
+-- How an act goes about it: a plan, decided by the code and what the journal shows, and then carried out. What it comes to is said in
+-- `Edit.antt`. Assumes nothing.
 use Prim.Native.Nat.{ℕ, _+_, _-_}
 use mathlib.Core.List.{List}
 use Rattle.answer.specs.Answer.{first, outcome, accepted}
@@ -8,7 +8,10 @@ use Rattle.form.specs.declared.Edit.{Edit}
 use Rattle.record.specs.Record.{noRecord}
 use Rattle.records.specs.Journal.{Journal, withRecord}
 use Rattle.journal.specs.Edit.{Outcome, rewritten, recordOf, editRefusals, undoRefusals}
+use Rattle.records.specs.declared.Own.{Own}
 use Rattle.records.specs.declared.View.{View}
+use Rattle.journal.specs.declared.Act.{Act}
+use Rattle.journal.specs.declared.Act.the-variants.{Edit as EditAct, Undo}
 use Rattle.journal.specs.declared.plan.Plan.{Plan}
 
 -- a refused plan: zeros but for its answer
@@ -30,6 +33,11 @@ undoPlanOf code view =
     outcome answer
     (record { answer = accepted; bundle = r .bundle; halves = r .old; place = view .count - 1; kept = noRecord; count = view .count - 1 })
     (refusedPlan answer)
+
+-- a party's act, by what its journal shows
+abbrev pub planOf : ℕ → List ℕ → Own → Act → Plan
+planOf party code own (EditAct e) = editPlanOf party (own .places) code (own .view) e
+planOf party code own Undo = undoPlanOf code (own .view)
 
 -- the bundle of an accepted plan written to the code, and its record kept in the journal
 unfoldable pub carriedOut : List ℕ → Journal → Plan → Outcome

@@ -8,8 +8,8 @@ use Rattle.tally.specs.Report.{sum, below, stopsAt}
 use Rattle.tally.specs.declared.Shares.{Shares}
 
 -- what a bundle of tag t adds to the reserved ones and the stops
-abbrev pub shareOf : ℕ → Shares
-shareOf t = record { reserved = cond (reserved t) 1 0; stops = stopsAt t }
+abbrev pub tagShares : ℕ → Shares
+tagShares t = record { reserved = cond (reserved t) 1 0; stops = stopsAt t }
 
 -- no tag has more bundles than a code
 abbrev pub Few : List ℕ → Type 0
@@ -19,6 +19,6 @@ Few counts = (t : ℕ) → t < 32 → getD counts t 0 ≤ 4096
 abbrev pub sharesOf : List ℕ → Shares
 sharesOf counts =
     record {
-      reserved = sum (map (λ t. getD counts t 0 * shareOf t .reserved) (below 32));
-      stops = sum (map (λ t. getD counts t 0 * shareOf t .stops) (below 32));
+      reserved = sum (map (λ t. getD counts t 0 * tagShares t .reserved) (below 32));
+      stops = sum (map (λ t. getD counts t 0 * tagShares t .stops) (below 32));
     }

@@ -4,12 +4,12 @@ use mathlib.Core.Bool.{Bool, cond}
 use lib.Dec.{T}
 use Rattle.bits.specs.Parts.{separate}
 use Rattle.parts.specs.Placed.{placed, widthOf, readable}
-use Rattle.meaning.specs.Fits.{Fitting}
+use Rattle.meaning.specs.inner.Fits.{Fitting}
 use Rattle.form.specs.declared.Form.{Form}
 use Rattle.form.specs.declared.Edit.{Edit}
 use Rattle.operand.specs.declared.Operand.the-variants.{None as NoOperand}
 use Rattle.row.specs.declared.Row.{Row}
-use Rattle.immediate.specs.Immediate.{editTold}
+use Rattle.immediate.specs.Immediate.{editByPattern}
 
 -- a row's parts lie in the bundle, no two meet, and its values are of 64 bits
 pub record Sound (slot : ℕ) (row : Row) : Type 0 where
@@ -19,5 +19,5 @@ pub record Sound (slot : ℕ) (row : Row) : Type 0 where
   pub fitting : Fitting (row .meaning) (widthOf (row .parts))
 
 -- the edit that a slot, a form and its value's pattern tell of; where the value isn't told, one with none
-abbrev pub editIfTold : ℕ → Form → Bool → ℕ → Edit
-editIfTold slot form told p = record { bundle = 0; slot = slot; form = form; value = cond told (editTold 0 slot form p .value) NoOperand }
+abbrev pub editIfPattern : ℕ → Form → Bool → ℕ → Edit
+editIfPattern slot form told p = record { bundle = 0; slot = slot; form = form; value = cond told (editByPattern 0 slot form p .value) NoOperand }
