@@ -81,7 +81,7 @@ fn line<T: PartialEq>(what: &str, calls: usize, side: &str, mut ours: impl FnMut
         let other = black_box(theirs());
         let ended = Instant::now();
         if mine != other {
-            println!("bench: {what}: the two sides differ");
+            eprintln!("bench: {what}: the two sides differ");
             std::process::exit(1);
         }
         best[0] = best[0].min((between - begun).as_secs_f64());

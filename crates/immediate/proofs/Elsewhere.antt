@@ -14,9 +14,8 @@ use Rattle.form.specs.Form.{A, X}
 use Rattle.form.specs.declared.Form.{Form}
 use Rattle.parts.specs.Placed.{placed}
 use Rattle.parts.proofs.Placed.{word, words-apart, elsewhere, other-words}
-use Rattle.row.specs.Row.{isNone, rowOf}
+use Rattle.row.specs.Row.{Row, isNone, rowOf}
 use Rattle.immediate.specs.Immediate.{fits, unitAt, withRaw}
-use Rattle.row.specs.declared.Row.{Row}
 use Rattle.immediate.proofs.Laws.{Stands}
 use Rattle.row.proofs.Rows.{good, row-good}
 use Rattle.immediate.proofs.Sound.{in-words, x-in-2, x-unit, x-beside-l}

@@ -1,5 +1,5 @@
 -- When a form's row is read or changed in a slot of a bundle: none of the refusals applies, so the row is sound there. Assumes nothing.
-use mathlib.Core.Path.{_≡_, refl, sym, ap, ap₂, _∙_}
+use mathlib.Core.Path.{_≡_, refl, sym, ap, ap₂, _∙_, subst}
 use mathlib.Core.Bool.{true, false, not}
 use mathlib.Core.List.{List, [], _∷_, _++_}
 use Prim.Native.Nat.{ℕ, _<_, _^_, suc-le-suc}
@@ -14,11 +14,13 @@ use Rattle.bundle.proofs.Laws.{or-false}
 use Rattle.form.specs.declared.Form.{Form}
 use Rattle.form.specs.declared.Edit.{Edit}
 use Rattle.operand.specs.declared.Operand.{Operand}
-use Rattle.row.specs.Row.{isNone, rowOf}
+use Rattle.parts.specs.Placed.{widthOf}
+use Rattle.row.specs.Row.{Row, isNone, rowOf}
 use Rattle.meaning.specs.Meaning.{Is}
-use Rattle.immediate.specs.inner.Sound.{Sound}
+use Rattle.row.specs.inner.Packed.{Packs}
+use Rattle.row.specs.declared.Packed.{Packed}
+use Rattle.immediate.specs.inner.Sound.{Sound, SoundIn}
 use Rattle.immediate.specs.Immediate.{fits, unitAt, readRefusals, rawFor, valueRefusals, changeRefusals, valueIn, withRaw, partsOf, changedNumber, noChange, changedOf}
-use Rattle.row.specs.declared.Row.{Row}
 use Rattle.meaning.specs.declared.Raw.{Raw}
 use Rattle.immediate.specs.declared.outcome.Changed.{Changed}
 use Rattle.row.proofs.Rows.{good, row-good}
@@ -40,6 +42,13 @@ stands n slot form row e =
 
 pub read-sound : (n slot : ℕ) (form : Form) (row : Row) → T (good (form .family) row) → first (readRefusals n slot form row) ≡ accepted → Sound slot row
 read-sound n slot form row g e = let s = stands n slot form row e in sound form row g (s .some) n slot (s .in-bundle) (s .fit)
+
+-- and so it is in numbers
+pub packed-sound : (n slot : ℕ) (form : Form) (row : Row) (p : Packed) → Packs p row → T (good (form .family) row) → first (readRefusals n slot form row) ≡ accepted
+    → SoundIn slot p
+packed-sound n slot form row p is g e =
+    let row-is = ap (λ x. x .0) is in
+    (subst (Sound slot) (sym row-is) (read-sound n slot form row g e), ap (λ x. x .1) is ∙ ap (λ (r : Row). widthOf (r .parts)) (sym row-is))
 
 -- what changing a bundle comes to, case by case
 module _ (n : ℕ) (e : Edit) where

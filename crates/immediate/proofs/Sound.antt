@@ -14,8 +14,7 @@ use Rattle.form.specs.Form.{X}
 use Rattle.bundle.specs.Bundle.{tagOf}
 use Rattle.form.specs.declared.Form.{Form}
 use Rattle.parts.specs.Placed.{inWords}
-use Rattle.row.specs.Row.{isNone}
-use Rattle.row.specs.declared.Row.{Row}
+use Rattle.row.specs.Row.{Row, isNone}
 use Rattle.row.proofs.Rows.{good, good-has, separateIn}
 use Rattle.immediate.specs.inner.Sound.{Sound}
 use Rattle.immediate.specs.Immediate.{fits, unitAt}
@@ -63,4 +62,4 @@ module _ (form : Form) (row : Row) (g : T (good (form .family) row)) (some : isN
     pub sound : Sound slot row
     sound =
         let has = good-has (form .family) row g some in
-        record { in-bundle = h; reads = has .reads; apart = apart (eqb (form .family) X) refl (has .separated); fitting = has .fitting }
+        record { in-bundle = h; reads = has .reads; ended = has .ended; apart = apart (eqb (form .family) X) refl (has .separated); fitting = has .fitting }

@@ -16,9 +16,8 @@ use Rattle.parts.proofs.Steps.{widths-placed, gathered-lt}
 use Rattle.operand.specs.declared.Operand.{Operand}
 use Rattle.meaning.specs.Meaning.{means, Is, valueOf, rawOf}
 use Rattle.immediate.specs.inner.Sound.{Sound}
-use Rattle.row.specs.Row.{isNone}
+use Rattle.row.specs.Row.{Row, isNone}
 use Rattle.immediate.specs.Immediate.{valueIn, withRaw}
-use Rattle.row.specs.declared.Row.{Row}
 use Rattle.meaning.specs.declared.Raw.{Raw}
 use Rattle.meaning.proofs.Inverse.{raw-of-value, value-of-raw}
 

@@ -17,9 +17,8 @@ use Rattle.parts.specs.Placed.{placed, widthOf}
 use Rattle.operand.specs.Pattern.{patternOf}
 use Rattle.operand.specs.declared.Operand.{Operand}
 use Rattle.operand.specs.declared.Operand.the-variants.{None as NoOperand}
-use Rattle.row.specs.Row.{isNone, rowOf, targetRowOf}
+use Rattle.row.specs.Row.{Row, isNone, rowOf, targetRowOf}
 use Rattle.meaning.specs.Meaning.{valueOf, signedOf, operandFor, rawOf}
-use Rattle.row.specs.declared.Row.{Row}
 use Rattle.meaning.specs.declared.Raw.{Raw}
 use Rattle.immediate.specs.declared.outcome.Immediate.{Immediate}
 use Rattle.immediate.specs.declared.outcome.Target.{Target}

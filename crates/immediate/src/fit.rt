@@ -2,6 +2,8 @@
 ghost use mathlib.Core.Path.{_≡_};
 ghost use Rattle.answer.specs.Answer.{first};
 ghost use Rattle.bundle.specs.Bundle.{whole};
+ghost use Rattle.row.specs.Row.{Row};
+ghost use Rattle.row.specs.inner.Packed.{Packs};
 ghost use Rattle.immediate.specs.Immediate.{readRefusals, rowRefusals, slotRefusals};
 ghost use Rattle.immediate.specs.Immediate.{fits as Immediate·fits};
 use answer::ACCEPTED;
@@ -11,27 +13,28 @@ use answer::BAD_SLOT;
 use bundle::Halves;
 use form::A;
 use form::Form;
-use row::Row;
+use row::NONE;
+use row::Packed;
 
 // What reading a form's row in a slot answers: 2, 3, then 5.
-pub fn read_answer(bundle: Halves, slot: u64, form: Form, row: Row) -> u8
-    ensures { λ r. ⌜ r ≡ first (readRefusals (whole bundle) slot form row) ⌝ }
+pub fn read_answer(bundle: Halves, slot: u64, form: Form, packed: Packed) -> u8
+    ensures { λ r. ⌜ ((row : Row) → Packs packed row → r ≡ first (readRefusals (whole bundle) slot form row)) ⌝ }
 {
     let units = bundle::units_of(bundle);
-    let answer = row_answer(units, row);
+    let answer = row_answer(units, packed);
     if answer != ACCEPTED {
         return answer;
     }
     slot_answer(units, slot, form)
 }
 
-fn row_answer(units: [u8; 3], row: Row) -> u8
-    ensures { λ r. ⌜ r ≡ first (rowRefusals units row) ⌝ }
+fn row_answer(units: [u8; 3], packed: Packed) -> u8
+    ensures { λ r. ⌜ ((row : Row) → Packs packed row → r ≡ first (rowRefusals units row)) ⌝ }
 {
     if bundle::unitless(units) {
         return BAD_BUNDLE;
     }
-    if row::is_none(row) {
+    if packed.kind == NONE {
         return BAD_FORM;
     }
     ACCEPTED

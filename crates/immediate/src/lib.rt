@@ -10,8 +10,9 @@ ghost use Prim.Native.Nat.{ℕ};
 ghost use Rattle.bundle.specs.Bundle.{whole};
 ghost use Rattle.operand.specs.Pattern.{patternOf};
 ghost use Rattle.row.specs.Row.{rowOf};
+ghost use Rattle.row.specs.inner.Packed.{unpacked, Packs};
 ghost use Rattle.immediate.specs.Immediate.{valueIn, noImmediate, immediateIn, immediateOf, noChange, changedOf, editByPattern, displacementIn, noTarget, targetIn, targetOf};
-ghost use Rattle.immediate.specs.inner.Sound.{Sound, editIfPattern};
+ghost use Rattle.immediate.specs.inner.Sound.{SoundIn, editIfPattern};
 use answer::ACCEPTED;
 use answer::BAD_VALUE;
 use bundle::Halves;
@@ -19,7 +20,7 @@ use form::Edit;
 use form::Form;
 use meaning::Meaning;
 use operand::Operand;
-use row::Row;
+use row::Packed;
 
 // The immediate of a form in a slot of a code's bundle.
 pub fn immediate(code: &[u8], bundle: u64, slot: u64, form: Form) -> Immediate
@@ -46,27 +47,23 @@ fn no_immediate(answer: u8) -> Immediate
 pub fn immediate_in(bundle: Halves, slot: u64, form: Form) -> Immediate
     ensures { λ r. ⌜ r ≡ immediateIn (whole bundle) slot form ⌝ }
 {
-    let row = row::row_of(form);
-    let answer = fit::read_answer(bundle, slot, form, row);
+    let packed = row::packed_of(form);
+    let answer = fit::read_answer(bundle, slot, form, packed);
     if answer != ACCEPTED {
         return no_immediate(answer);
     }
-    let value = value_in(row, slot as u32, bundle);
+    let value = value_in(packed, slot as u32, bundle);
     Immediate { answer, value }
 }
 
 // What a row reads in a slot of a bundle.
-fn value_in(row: Row, slot: u32, bundle: Halves) -> Operand
-    requires { ⌜ Sound slot row ⌝ }
-    ensures { λ r. ⌜ r ≡ valueIn row slot (whole bundle) ⌝ }
+fn value_in(packed: Packed, slot: u32, bundle: Halves) -> Operand
+    requires { ⌜ SoundIn slot packed ⌝ }
+    ensures { λ r. ⌜ r ≡ valueIn (unpacked packed) slot (whole bundle) ⌝ }
 {
-    let meaning = row.meaning;
-    let parts = row.parts;
-    meaning::value_of(
-        meaning,
-        row::width(parts),
-        parts::gather(bundle, slot, parts),
-    )
+    let meaning = row::meaning_of(packed.kind, packed.number);
+    let raw = parts::gather(bundle, slot, packed.low, packed.high);
+    meaning::value_of(meaning, packed.width, raw)
 }
 
 // The bundle with an edit's value in its immediate.
@@ -75,40 +72,46 @@ pub fn change(bundle: Halves, edit: Edit) -> Changed
 {
     let form = edit.form;
     let value = edit.value;
-    let row = row::row_of(form);
-    let meaning = row.meaning;
+    let packed = row::packed_of(form);
+    let meaning = row::meaning_of(packed.kind, packed.number);
     let taken = meaning::take_out(meaning, value);
     let told = taken.answer == ACCEPTED;
-    change_by(row, bundle, edit.slot, form, told, taken.pattern)
+    change_by(packed, bundle, edit.slot, form, told, taken.pattern)
 }
 
 // The same for an edit whose value is told by its 64-bit pattern; its bundle can have any number.
 pub fn change_by_pattern(bundle: Halves, slot: u64, form: Form, pattern: u64) -> Changed
     ensures { λ r. ⌜ ((k : ℕ) → r ≡ changedOf (whole bundle) (editByPattern k slot form pattern)) ⌝ }
 {
-    change_by(row::row_of(form), bundle, slot, form, true, pattern)
+    change_by(row::packed_of(form), bundle, slot, form, true, pattern)
 }
 
-// The same by the form's row. A value that isn't told, being of another kind, is refused.
-fn change_by(row: Row, bundle: Halves, slot: u64, form: Form, told: bool, pattern: u64) -> Changed
-    requires { ⌜ row ≡ rowOf form ⌝ }
+// The same by the form's row in numbers. A value that isn't told, being of another kind, is refused.
+fn change_by(
+    packed: Packed,
+    bundle: Halves,
+    slot: u64,
+    form: Form,
+    told: bool,
+    pattern: u64,
+) -> Changed
+    requires { ⌜ Packs packed (rowOf form) ⌝ }
     ensures { λ r. ⌜ r ≡ changedOf (whole bundle) (editIfPattern slot form told pattern) ⌝ }
 {
-    let answer = fit::read_answer(bundle, slot, form, row);
+    let answer = fit::read_answer(bundle, slot, form, packed);
     if answer != ACCEPTED {
         return unchanged(answer);
     }
     if !told {
         return unchanged(BAD_VALUE);
     }
-    let meaning = row.meaning;
-    let parts = row.parts;
-    let raw = meaning::raw_of(meaning, row::width(parts), pattern);
+    let meaning = row::meaning_of(packed.kind, packed.number);
+    let raw = meaning::raw_of(meaning, packed.width, pattern);
     let refusal = raw.answer;
     if refusal != ACCEPTED {
         return unchanged(refusal);
     }
-    let changed = parts::scatter(bundle, slot as u32, parts, raw.raw);
+    let changed = parts::scatter(bundle, slot as u32, packed.low, packed.high, raw.raw);
     Changed {
         answer,
         bundle: changed,
@@ -144,15 +147,15 @@ fn no_target(answer: u8) -> Target
 fn target_in(bundle: Halves, slot: u64, form: Form, address: u64) -> Target
     ensures { λ r. ⌜ r ≡ targetIn (whole bundle) slot form address ⌝ }
 {
-    let row = row::only_times16(row::row_of(form));
-    let answer = fit::read_answer(bundle, slot, form, row);
+    let packed = row::packed_target_of(form);
+    let answer = fit::read_answer(bundle, slot, form, packed);
     if answer != ACCEPTED {
         return no_target(answer);
     }
     if address % 16 != 0 {
         return no_target(BAD_VALUE);
     }
-    let displacement = displacement_in(row, slot as u32, bundle);
+    let displacement = displacement_in(packed, slot as u32, bundle);
     Target {
         answer,
         address: std::num::wrapping_add_u64(address, displacement),
@@ -160,10 +163,10 @@ fn target_in(bundle: Halves, slot: u64, form: Form, address: u64) -> Target
 }
 
 // The pattern of the displacement that a row reads in a slot of a bundle.
-fn displacement_in(row: Row, slot: u32, bundle: Halves) -> u64
-    requires { ⌜ Sound slot row × (row .meaning ≡ Meaning.Signed 16) ⌝ }
-    ensures { λ r. ⌜ r ≡ patternOf (displacementIn row slot (whole bundle)) ⌝ }
+fn displacement_in(packed: Packed, slot: u32, bundle: Halves) -> u64
+    requires { ⌜ SoundIn slot packed × (unpacked packed .meaning ≡ Meaning.Signed 16) ⌝ }
+    ensures { λ r. ⌜ r ≡ patternOf (displacementIn (unpacked packed) slot (whole bundle)) ⌝ }
 {
-    let parts = row.parts;
-    meaning::displacement(16, row::width(parts), parts::gather(bundle, slot, parts))
+    let raw = parts::gather(bundle, slot, packed.low, packed.high);
+    meaning::displacement(16, packed.width, raw)
 }

@@ -5,6 +5,7 @@ ghost use Prim.Native.Nat.{_≤_, _<_, _^_};
 ghost use Rattle.operand.specs.Pattern.{patternOf, integerOf};
 ghost use Rattle.meaning.specs.Meaning.{signedOf, valueOf, entry, entryValue, patterned, hasSign, operandFor, takenBy, takenOf, entryOf, placeIn, rawUp, rawDown, rawSigned, rawAbove, rawOf};
 ghost use Rattle.meaning.specs.inner.Fits.{SignedFits, ChosenFits, Fitting};
+ghost use Rattle.meaning.specs.inner.Lists.{increments, shifts, foundAt};
 use answer::ACCEPTED;
 use answer::BAD_VALUE;
 use operand::Operand;
@@ -20,6 +21,11 @@ pub enum Meaning {
 }
 
 const HALF: u64 = 0x8000_0000_0000_0000;
+
+// The lists that the table of rows has: 16, 8, 4, 1, -16, -8, -4, -1, and 0, 7, 15, 16, from the lowest byte on.
+pub const INCREMENTS: u64 = 0xFFFC_F8F0_0104_0810;
+
+pub const SHIFTS: u64 = 0x100F_0700;
 
 // The value of a raw number of `width` bits.
 pub fn value_of(meaning: Meaning, width: u32, raw: u64) -> Operand
@@ -236,7 +242,7 @@ fn raw_chosen(signed: bool, list: u64, width: u32, pattern: u64) -> Raw
     if entry.answer != ACCEPTED {
         return BAD;
     }
-    place_in(list, 1 << width, entry.raw)
+    place_among(list, 1 << width, entry.raw)
 }
 
 // The number of 8 bits of the value with a pattern.
@@ -250,7 +256,68 @@ fn entry_of(signed: bool, pattern: u64) -> Raw
     }
 }
 
-// The place of a number among the first `count` of a list.
+// The place of a number among the first `count` of a list. In the lists that the table has it is looked up.
+fn place_among(list: u64, count: u64, entry: u64) -> Raw
+    requires { ⌜ count ≤ 8 ⌝ }
+    ensures { λ r. ⌜ r ≡ placeIn list count entry ⌝ }
+{
+    if list == INCREMENTS {
+        if count == 8 {
+            return found(in_increments(entry));
+        }
+    }
+    if list == SHIFTS {
+        if count == 4 {
+            return found(in_shifts(entry));
+        }
+    }
+    place_in(list, count, entry)
+}
+
+// The place of a number among the increments, 8 where they haven't it.
+fn in_increments(entry: u64) -> u64
+    ensures { λ r. ⌜ foundAt r ≡ placeIn increments 8 entry ⌝ }
+{
+    match entry {
+        16 => 0,
+        8 => 1,
+        4 => 2,
+        1 => 3,
+        0xF0 => 4,
+        0xF8 => 5,
+        0xFC => 6,
+        0xFF => 7,
+        _ => 8,
+    }
+}
+
+// The same among the shifts.
+fn in_shifts(entry: u64) -> u64
+    ensures { λ r. ⌜ foundAt r ≡ placeIn shifts 4 entry ⌝ }
+{
+    match entry {
+        0 => 0,
+        7 => 1,
+        15 => 2,
+        16 => 3,
+        _ => 8,
+    }
+}
+
+fn found(place: u64) -> Raw
+    ensures { λ r. ⌜ r ≡ foundAt place ⌝ }
+{
+    if place == 8 {
+        BAD
+    } else {
+        Raw {
+            answer: ACCEPTED,
+            raw: place,
+        }
+    }
+}
+
+// The place of a number among the first `count` of any list, sought from the last on.
 fn place_in(list: u64, count: u64, entry: u64) -> Raw
     requires { ⌜ count ≤ 8 ⌝ }
     ensures { λ r. ⌜ r ≡ placeIn list count entry ⌝ }

@@ -6,13 +6,15 @@ ghost use lib.Dec.{T, leb};
 ghost use Rattle.answer.specs.Answer.{first, accepted};
 ghost use Rattle.bits.specs.Parts.{apartFrom, meetNot};
 ghost use Rattle.parts.specs.Placed.{placed, readable};
+ghost use Rattle.row.specs.inner.Packed.{unpacked};
 ghost use Rattle.immediate.specs.Immediate.{partsOf};
 ghost use Rattle.meet.specs.Meet.{bitsRefusals, noMeeting, meetOf};
 use answer::ACCEPTED;
 use answer::BAD_FORM;
 use answer::BAD_SLOT;
 use form::Edit;
-use parts::Part;
+use row::NONE;
+use row::Packed;
 
 // Whether two edits meet: `false` where the answer is a refusal.
 pub struct Met {
@@ -50,7 +52,8 @@ fn bits_answer(edit: Edit) -> u8
     ensures { λ r. ⌜ r ≡ first (bitsRefusals edit) ⌝ }
 {
     let form = edit.form;
-    if row::is_none(row::row_of(form)) {
+    let packed = row::packed_of(form);
+    if packed.kind == NONE {
         return BAD_FORM;
     }
     if 2 < edit.slot {
@@ -65,23 +68,24 @@ fn bits_apart(one: Edit, other: Edit) -> bool
     ensures { λ r. ⌜ r ≡ meetNot (partsOf one) (partsOf other) ⌝ }
 {
     let form = one.form;
-    let row = row::row_of(form);
-    let parts = row.parts;
+    let packed = row::packed_of(form);
     let other_form = other.form;
-    let other_row = row::row_of(other_form);
-    let others = other_row.parts;
-    parts_apart(one.slot as u32, parts, other.slot as u32, others)
+    let others = row::packed_of(other_form);
+    parts_apart(one.slot as u32, packed, other.slot as u32, others)
 }
 
 // Whether no part of a slot has a bit in common with a part of another.
-fn parts_apart(slot: u32, parts: [Part; 6], other: u32, others: [Part; 6]) -> bool
-    requires { ⌜ (slot < 3) × T (readable parts) × (other < 3) × T (readable others) ⌝ }
-    ensures { λ r. ⌜ r ≡ meetNot (placed slot parts) (placed other others) ⌝ }
+fn parts_apart(slot: u32, packed: Packed, other: u32, others: Packed) -> bool
+    requires { ⌜ (slot < 3) × T (readable (unpacked packed .parts)) × (other < 3) × T (readable (unpacked others .parts)) ⌝ }
+    ensures { λ r. ⌜ r ≡ meetNot (placed slot (unpacked packed .parts)) (placed other (unpacked others .parts)) ⌝ }
 {
     let mut i = 0;
     while i < 6 {
-        let at = parts::stands_at(slot, parts[i].place);
-        if !part_apart(at, parts[i].width as u32, other, others) {
+        let part = parts::part_at(packed.low, packed.high, i);
+        let width = part.width as u32;
+        let place = part.place;
+        let at = parts::stands_at(slot, place);
+        if !part_apart(at, width, other, others) {
             return false;
         }
         i += 1;
@@ -90,15 +94,18 @@ fn parts_apart(slot: u32, parts: [Part; 6], other: u32, others: [Part; 6]) -> bo
 }
 
 // Whether some bits of a bundle have none in common with a slot's parts.
-fn part_apart(at: u32, width: u32, slot: u32, parts: [Part; 6]) -> bool
-    requires { ⌜ (at + width ≤ 128) × (slot < 3) × T (readable parts) ⌝ }
-    ensures { λ r. ⌜ r ≡ apartFrom (at, width) (placed slot parts) ⌝ }
+fn part_apart(at: u32, width: u32, slot: u32, packed: Packed) -> bool
+    requires { ⌜ (at + width ≤ 128) × (slot < 3) × T (readable (unpacked packed .parts)) ⌝ }
+    ensures { λ r. ⌜ r ≡ apartFrom (at, width) (placed slot (unpacked packed .parts)) ⌝ }
 {
     let end = at + width;
     let mut j = 0;
     while j < 6 {
-        let from = parts::stands_at(slot, parts[j].place);
-        let to = from + parts[j].width as u32;
+        let part = parts::part_at(packed.low, packed.high, j);
+        let width = part.width as u32;
+        let place = part.place;
+        let from = parts::stands_at(slot, place);
+        let to = from + width;
         if !apart(at, end, from, to) {
             return false;
         }

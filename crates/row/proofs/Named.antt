@@ -8,8 +8,8 @@ use lib.Dec.{T, eqb}
 use Rattle.form.specs.declared.Form.{Form}
 use Rattle.table.specs.Table.{select}
 use Rattle.table.proofs.Match.{Rest, covers, otherwise}
-use Rattle.row.specs.Row.{Line, lines, among, rowIn, rowOf, noRow}
-use Rattle.row.specs.declared.Row.{Row}
+use Rattle.row.specs.Row.{Row, Line, lines, among, rowIn, rowOf, noRow}
+use Rattle.row.specs.inner.Packed.{shown}
 
 -- a family's numbers among some forms, each with the row
 abbrev numbered : ℕ → List Form → Row → List (ℕ × Row) → List (ℕ × Row)
@@ -40,6 +40,6 @@ row-select : (form : Form) (ls : List Line) → select (form .number) (ofFamily 
 row-select form [] = refl
 row-select form (l ∷ ls) = select-numbered form (l .0) (l .1) (ofFamily (form .family) ls) ∙ ap (cond (among form (l .0)) (l .1)) (row-select form ls)
 
-pub not-named : (arms : List (List ℕ)) (form : Form) → T (covers arms (ofFamily (form .family) lines)) → Rest (form .number) arms → noRow ≡ rowOf form
+pub not-named : (arms : List (List ℕ)) (form : Form) → T (covers arms (ofFamily (form .family) lines)) → Rest (form .number) arms → shown noRow ≡ shown (rowOf form)
 unfolding rowOf
-not-named arms form t rest = otherwise arms (form .number) (ofFamily (form .family) lines) noRow t rest ∙ row-select form lines
+not-named arms form t rest = ap shown (otherwise arms (form .number) (ofFamily (form .family) lines) noRow t rest ∙ row-select form lines)

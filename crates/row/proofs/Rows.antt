@@ -7,20 +7,21 @@ use mathlib.Core.List.{List, [], _∷_}
 use Prim.Native.Nat.{ℕ, _+_, _-_, _*_, _<_, _^_}
 use borrow.Author.Tests.{eqb-true, eq-eqb}
 use lib.Dec.{T, eqb, leb, ltb, leb→le, ltb→lt, eqb→eq}
-use lib.ListN.{length}
+use lib.ListN.{length, getD, drop}
 use lib.Ieee.Fits.{and-l, and-r}
 use mir.Facts.{and-yes}
 use Rattle.bits.specs.Parts.{separate}
 use Rattle.form.specs.Form.{X, sameForm}
 use Rattle.form.specs.declared.Form.{Form}
-use Rattle.parts.specs.Placed.{placed, widthOf, inWords, readable}
-use Rattle.row.specs.Row.{Line, lines, among, rowIn, rowOf, noRow, isNone, onlyTimes16, targetRowOf}
+use Rattle.parts.specs.Placed.{noPart, placed, widthOf, inWords, readable}
+use Rattle.parts.specs.inner.Numbers.{Ended}
+use Rattle.parts.specs.declared.Part.{Part}
+use Rattle.row.specs.Row.{Row, Line, lines, among, rowIn, rowOf, noRow, isNone, onlyTimes16, targetRowOf}
 use Rattle.table.proofs.Check.{below, checked}
 use Rattle.meaning.specs.inner.Fits.{Fitting}
 use Rattle.meaning.specs.Meaning.{entry}
 use Rattle.meaning.specs.declared.Meaning.{Meaning}
 use Rattle.meaning.specs.declared.Meaning.the-variants.{None, Unsigned, Signed, Chosen, Complement}
-use Rattle.row.specs.declared.Row.{Row}
 
 -- no two of the first n numbers of a list are the same
 abbrev differ : ℕ → ℕ → Bool
@@ -44,6 +45,13 @@ fits (Signed unit) w t = search (and-l, and-r, leb→le, ltb→lt)
 fits (Chosen signed list) w t = let a = and-yes (leb w 3) (differ list (2 ^ w)) t in (leb→le _ _ (a .0), differing list (2 ^ w) (a .1))
 fits (Complement top) w t = search (and-l, and-r, leb→le, ltb→lt)
 
+-- after a part of no width none has one
+abbrev endedAt : List Part → ℕ → Bool
+endedAt ps i = cond (eqb (getD ps i noPart .width) 0) (eqb (widthOf (drop i ps)) 0) true
+
+ends : (ps : List Part) → T (below (endedAt ps) 6) → Ended ps
+ends ps t i h none = eqb→eq _ _ (rw (eq-eqb _ 0 none) at (checked (endedAt ps) 6 t i h))
+
 -- no two of its parts meet, in any slot that it can stand in: an X form's in slot 2 alone
 abbrev pub separateIn : ℕ → Row → Bool
 separateIn slot row = separate (placed slot (row .parts))
@@ -54,7 +62,8 @@ apart family row = cond (eqb family X) (separateIn 2 row) (separateIn 0 row && (
 -- all that is asked of a row
 abbrev whole : ℕ → Row → Bool
 whole family row =
-    readable (row .parts) && (meant (row .meaning) (widthOf (row .parts)) && (apart family row && inWords (eqb family X) (row .parts)))
+    readable (row .parts)
+    && (below (endedAt (row .parts)) 6 && (meant (row .meaning) (widthOf (row .parts)) && (apart family row && inWords (eqb family X) (row .parts))))
 
 abbrev pub good : ℕ → Row → Bool
 good family row = cond (isNone row) true (whole family row)
@@ -62,6 +71,7 @@ good family row = cond (isNone row) true (whole family row)
 -- what a good row has
 pub record Good (family : ℕ) (row : Row) : Type 0 where
   pub reads : T (readable (row .parts))
+  pub ended : Ended (row .parts)
   pub fitting : Fitting (row .meaning) (widthOf (row .parts))
   pub separated : T (cond (eqb family X) (separateIn 2 row) (separateIn 0 row && (separateIn 1 row && separateIn 2 row)))
   pub in-words : T (inWords (eqb family X) (row .parts))
@@ -71,6 +81,7 @@ good-has family row g some =
     let t : T (whole family row) = subst (λ (b : Bool). T (cond b true (whole family row))) some g in
     record {
       reads = search (and-l, and-r);
+      ended = ends (row .parts) (search (and-l, and-r));
       fitting = fits (row .meaning) (widthOf (row .parts)) (search (and-l, and-r));
       separated = search (and-l, and-r);
       in-words = search (and-l, and-r);

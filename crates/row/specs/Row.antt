@@ -11,7 +11,11 @@ use Rattle.parts.specs.declared.Part.{Part}
 use Rattle.meaning.specs.Meaning.{means}
 use Rattle.meaning.specs.declared.Meaning.{Meaning}
 use Rattle.meaning.specs.declared.Meaning.the-variants.{None, Unsigned, Signed, Chosen, Complement}
-use Rattle.row.specs.declared.Row.{Row}
+
+-- what a form's immediate means, and its parts, lowest first
+pub record Row : Type 0 where
+  pub meaning : Meaning
+  pub parts : List Part
 
 infix 80 _wide_
 abbrev pub _wide_ : ℕ → ℕ → Part

@@ -1,305 +1,341 @@
 // The rows of document 01's table: where a form's immediate stands, and what its number means.
 ghost use mathlib.Core.Path.{_≡_};
-ghost use lib.Dec.{T};
 ghost use Rattle.form.specs.Form.{a, b, f, i, m, x};
-ghost use Rattle.parts.specs.Placed.{widthOf, readable};
-ghost use Rattle.row.specs.Row.{isNone, onlyTimes16, rowOf};
+ghost use Rattle.row.specs.Row.{rowOf, targetRowOf};
+ghost use Rattle.row.specs.inner.Packed.{meaningOf, Packs};
 use form::A;
 use form::B;
 use form::F;
 use form::Form;
 use form::M;
 use form::X;
+use meaning::INCREMENTS;
 use meaning::Meaning;
+use meaning::SHIFTS;
 use parts::L;
-use parts::Part;
 
-// Its parts stand lowest first, and the last have no width.
-pub struct Row {
-    pub meaning: Meaning,
-    pub parts: [Part; 6],
+// A row, in numbers, so that the compiler has a family's rows in tables: the kind of the meaning and its own number, how many bits the parts
+// have, and the parts, lowest first, 16 bits each, the place below the width; four in `low` and two in `high`. The last have no width.
+pub struct Packed {
+    pub kind: u64,
+    pub number: u64,
+    pub width: u32,
+    pub low: u64,
+    pub high: u64,
 }
 
-const NO: Part = Part { place: 0, width: 0 };
+const WIDTH: u64 = 8;
+
+const SECOND: u64 = 16;
+
+const THIRD: u64 = 32;
+
+const FOURTH: u64 = 48;
+
+// The kinds of meanings; of the two that choose, the second has a sign.
+pub const NONE: u64 = 0;
+
+const UNSIGNED: u64 = 1;
+
+const SIGNED: u64 = 2;
+
+const CHOSEN: u64 = 3;
+
+const COMPLEMENT: u64 = 4;
+
+const CHOSEN_SIGNED: u64 = 5;
+
+const NO_PACKED: Packed = Packed {
+    kind: NONE,
+    number: 0,
+    width: 0,
+    low: 0,
+    high: 0,
+};
 
 // The manual's names of the parts: S is its s, or i where the number has no sign.
-const CT2D: Part = Part {
-    place: 27,
-    width: 2,
-};
+const CT2D: u64 = 27 + (2 << WIDTH);
 
 // I1's.
-const CT2D_30: Part = Part {
-    place: 30,
-    width: 2,
-};
+const CT2D_30: u64 = 30 + (2 << WIDTH);
 
-const IMM7A: Part = Part { place: 6, width: 7 };
+const IMM7A: u64 = 6 + (7 << WIDTH);
 
-const IMM7B: Part = Part {
-    place: 13,
-    width: 7,
-};
+const IMM7B: u64 = 13 + (7 << WIDTH);
 
-const IMM6D: Part = Part {
-    place: 27,
-    width: 6,
-};
+const IMM6D: u64 = 27 + (6 << WIDTH);
 
-const COUNT5B: Part = Part {
-    place: 14,
-    width: 5,
-};
+const COUNT5B: u64 = 14 + (5 << WIDTH);
 
-const CCOUNT5C: Part = Part {
-    place: 20,
-    width: 5,
-};
+const CCOUNT5C: u64 = 20 + (5 << WIDTH);
 
-const POS6B: Part = Part {
-    place: 14,
-    width: 6,
-};
+const POS6B: u64 = 14 + (6 << WIDTH);
 
-const TIMM9C: Part = Part {
-    place: 24,
-    width: 9,
-};
+const TIMM9C: u64 = 24 + (9 << WIDTH);
 
-const MASK8C: Part = Part {
-    place: 24,
-    width: 8,
-};
+const MASK8C: u64 = 24 + (8 << WIDTH);
 
-const IMM27A: Part = Part {
-    place: 6,
-    width: 27,
-};
+const IMM27A: u64 = 6 + (27 << WIDTH);
 
-const IMM9D: Part = Part {
-    place: 27,
-    width: 9,
-};
+const IMM9D: u64 = 27 + (9 << WIDTH);
 
-const IMM5C: Part = Part {
-    place: 22,
-    width: 5,
-};
+const IMM5C: u64 = 22 + (5 << WIDTH);
 
-const IMM13C: Part = Part {
-    place: 20,
-    width: 13,
-};
+const IMM13C: u64 = 20 + (13 << WIDTH);
 
-const IMM20A: Part = Part {
-    place: 6,
-    width: 20,
-};
+const IMM20A: u64 = 6 + (20 << WIDTH);
 
-const IMM20B: Part = Part {
-    place: 13,
-    width: 20,
-};
+const IMM20B: u64 = 13 + (20 << WIDTH);
 
-const IMM21A: Part = Part {
-    place: 6,
-    width: 21,
-};
+const IMM21A: u64 = 6 + (21 << WIDTH);
 
-const I2D: Part = Part {
-    place: 31,
-    width: 2,
-};
+const I2D: u64 = 31 + (2 << WIDTH);
 
 // i2b, and above it M17's own s.
-const I2B_S: Part = Part {
-    place: 13,
-    width: 3,
-};
+const I2B_S: u64 = 13 + (3 << WIDTH);
 
-const I: Part = Part {
-    place: 27,
-    width: 1,
-};
+const I: u64 = 27 + (1 << WIDTH);
 
-const IC: Part = Part {
-    place: 21,
-    width: 1,
-};
+const IC: u64 = 21 + (1 << WIDTH);
 
-const S: Part = Part {
-    place: 36,
-    width: 1,
-};
+const S: u64 = 36 + (1 << WIDTH);
 
-const IMM41: Part = Part {
-    place: L,
-    width: 41,
-};
+const IMM41: u64 = L as u64 + (41 << WIDTH);
 
-const IMM39: Part = Part {
-    place: L + 2,
-    width: 39,
-};
-
-const NO_ROW: Row = Row {
-    meaning: Meaning::None,
-    parts: [NO; 6],
-};
+const IMM39: u64 = L as u64 + 2 + (39 << WIDTH);
 
 // A2, A10
-const COUNT2: Row = Row {
-    meaning: Meaning::Unsigned(1),
-    parts: [CT2D, NO, NO, NO, NO, NO],
+const COUNT2: Packed = Packed {
+    kind: UNSIGNED,
+    number: 1,
+    width: 2,
+    low: CT2D,
+    high: 0,
 };
 
 // A3, A8, M30, I27
-const IMM8: Row = Row {
-    meaning: Meaning::Signed(1),
-    parts: [IMM7B, S, NO, NO, NO, NO],
+const IMM8: Packed = Packed {
+    kind: SIGNED,
+    number: 1,
+    width: 8,
+    low: IMM7B + (S << SECOND),
+    high: 0,
 };
 
 // A4
-const IMM14: Row = Row {
-    meaning: Meaning::Signed(1),
-    parts: [IMM7B, IMM6D, S, NO, NO, NO],
+const IMM14: Packed = Packed {
+    kind: SIGNED,
+    number: 1,
+    width: 14,
+    low: IMM7B + (IMM6D << SECOND) + (S << THIRD),
+    high: 0,
 };
 
 // A5
-const IMM22: Row = Row {
-    meaning: Meaning::Signed(1),
-    parts: [IMM7B, IMM9D, IMM5C, S, NO, NO],
+const IMM22: Packed = Packed {
+    kind: SIGNED,
+    number: 1,
+    width: 22,
+    low: IMM7B + (IMM9D << SECOND) + (IMM5C << THIRD) + (S << FOURTH),
+    high: 0,
 };
 
 // M3, M8, M15
-const IMM9B: Row = Row {
-    meaning: Meaning::Signed(1),
-    parts: [IMM7B, I, S, NO, NO, NO],
+const IMM9B: Packed = Packed {
+    kind: SIGNED,
+    number: 1,
+    width: 9,
+    low: IMM7B + (I << SECOND) + (S << THIRD),
+    high: 0,
 };
 
 // M5, M10
-const IMM9A: Row = Row {
-    meaning: Meaning::Signed(1),
-    parts: [IMM7A, I, S, NO, NO, NO],
+const IMM9A: Packed = Packed {
+    kind: SIGNED,
+    number: 1,
+    width: 9,
+    low: IMM7A + (I << SECOND) + (S << THIRD),
+    high: 0,
 };
 
-// 16, 8, 4, 1, -16, -8, -4, -1, from the lowest byte on.
-const INCREMENTS: u64 = 0xFFFC_F8F0_0104_0810;
-
 // M17
-const INCREMENT: Row = Row {
-    meaning: Meaning::Chosen(true, INCREMENTS),
-    parts: [I2B_S, NO, NO, NO, NO, NO],
+const INCREMENT: Packed = Packed {
+    kind: CHOSEN_SIGNED,
+    number: INCREMENTS,
+    width: 3,
+    low: I2B_S,
+    high: 0,
 };
 
 // M20, M21, I20
-const TARGET25B: Row = Row {
-    meaning: Meaning::Signed(16),
-    parts: [IMM7A, IMM13C, S, NO, NO, NO],
+const TARGET25B: Packed = Packed {
+    kind: SIGNED,
+    number: 16,
+    width: 21,
+    low: IMM7A + (IMM13C << SECOND) + (S << THIRD),
+    high: 0,
 };
 
 // M22, M23, B1, B2, B3
-const TARGET25C: Row = Row {
-    meaning: Meaning::Signed(16),
-    parts: [IMM20B, S, NO, NO, NO, NO],
+const TARGET25C: Packed = Packed {
+    kind: SIGNED,
+    number: 16,
+    width: 21,
+    low: IMM20B + (S << SECOND),
+    high: 0,
 };
 
 // F14
-const TARGET25: Row = Row {
-    meaning: Meaning::Signed(16),
-    parts: [IMM20A, S, NO, NO, NO, NO],
+const TARGET25: Packed = Packed {
+    kind: SIGNED,
+    number: 16,
+    width: 21,
+    low: IMM20A + (S << SECOND),
+    high: 0,
 };
 
 // M37, M48, F15, F16, B9, I18, I19
-const IMM21: Row = Row {
-    meaning: Meaning::Unsigned(0),
-    parts: [IMM20A, S, NO, NO, NO, NO],
+const IMM21: Packed = Packed {
+    kind: UNSIGNED,
+    number: 0,
+    width: 21,
+    low: IMM20A + (S << SECOND),
+    high: 0,
 };
 
 // M44
-const IMM24: Row = Row {
-    meaning: Meaning::Unsigned(0),
-    parts: [IMM21A, I2D, S, NO, NO, NO],
+const IMM24: Packed = Packed {
+    kind: UNSIGNED,
+    number: 0,
+    width: 24,
+    low: IMM21A + (I2D << SECOND) + (S << THIRD),
+    high: 0,
 };
 
 // X1, X5
-const IMM62: Row = Row {
-    meaning: Meaning::Unsigned(0),
-    parts: [IMM20A, S, IMM41, NO, NO, NO],
+const IMM62: Packed = Packed {
+    kind: UNSIGNED,
+    number: 0,
+    width: 62,
+    low: IMM20A + (S << SECOND) + (IMM41 << THIRD),
+    high: 0,
 };
 
 // X2
-const IMM64: Row = Row {
-    meaning: Meaning::Unsigned(0),
-    parts: [IMM7B, IMM9D, IMM5C, IC, IMM41, S],
+const IMM64: Packed = Packed {
+    kind: UNSIGNED,
+    number: 0,
+    width: 64,
+    low: IMM7B + (IMM9D << SECOND) + (IMM5C << THIRD) + (IC << FOURTH),
+    high: IMM41 + (S << SECOND),
 };
 
 // X3, X4
-const TARGET64: Row = Row {
-    meaning: Meaning::Signed(16),
-    parts: [IMM20B, IMM39, S, NO, NO, NO],
+const TARGET64: Packed = Packed {
+    kind: SIGNED,
+    number: 16,
+    width: 60,
+    low: IMM20B + (IMM39 << SECOND) + (S << THIRD),
+    high: 0,
 };
 
-// 0, 7, 15, 16, from the lowest byte on.
-const SHIFTS: u64 = 0x100F_0700;
-
 // I1
-const SHIFT: Row = Row {
-    meaning: Meaning::Chosen(false, SHIFTS),
-    parts: [CT2D_30, NO, NO, NO, NO, NO],
+const SHIFT: Packed = Packed {
+    kind: CHOSEN,
+    number: SHIFTS,
+    width: 2,
+    low: CT2D_30,
+    high: 0,
 };
 
 // I6
-const COUNT5: Row = Row {
-    meaning: Meaning::Unsigned(0),
-    parts: [COUNT5B, NO, NO, NO, NO, NO],
+const COUNT5: Packed = Packed {
+    kind: UNSIGNED,
+    number: 0,
+    width: 5,
+    low: COUNT5B,
+    high: 0,
 };
 
 // I8
-const CCOUNT5: Row = Row {
-    meaning: Meaning::Complement(31),
-    parts: [CCOUNT5C, NO, NO, NO, NO, NO],
+const CCOUNT5: Packed = Packed {
+    kind: COMPLEMENT,
+    number: 31,
+    width: 5,
+    low: CCOUNT5C,
+    high: 0,
 };
 
 // I10, whose count6d stands where imm6d does
-const COUNT6: Row = Row {
-    meaning: Meaning::Unsigned(0),
-    parts: [IMM6D, NO, NO, NO, NO, NO],
+const COUNT6: Packed = Packed {
+    kind: UNSIGNED,
+    number: 0,
+    width: 6,
+    low: IMM6D,
+    high: 0,
 };
 
 // I16
-const POS6: Row = Row {
-    meaning: Meaning::Unsigned(0),
-    parts: [POS6B, NO, NO, NO, NO, NO],
+const POS6: Packed = Packed {
+    kind: UNSIGNED,
+    number: 0,
+    width: 6,
+    low: POS6B,
+    high: 0,
 };
 
 // I21
-const TAG13: Row = Row {
-    meaning: Meaning::Signed(16),
-    parts: [TIMM9C, NO, NO, NO, NO, NO],
+const TAG13: Packed = Packed {
+    kind: SIGNED,
+    number: 16,
+    width: 9,
+    low: TIMM9C,
+    high: 0,
 };
 
 // I23, whose mask7a stands where imm7a does
-const MASK17: Row = Row {
-    meaning: Meaning::Signed(2),
-    parts: [IMM7A, MASK8C, S, NO, NO, NO],
+const MASK17: Packed = Packed {
+    kind: SIGNED,
+    number: 2,
+    width: 16,
+    low: IMM7A + (MASK8C << SECOND) + (S << THIRD),
+    high: 0,
 };
 
 // I24
-const IMM44: Row = Row {
-    meaning: Meaning::Signed(65536),
-    parts: [IMM27A, S, NO, NO, NO, NO],
+const IMM44: Packed = Packed {
+    kind: SIGNED,
+    number: 65536,
+    width: 28,
+    low: IMM27A + (S << SECOND),
+    high: 0,
 };
 
 // I30, whose imm5b stands where count5b does
-const IMM5: Row = Row {
-    meaning: Meaning::Unsigned(32),
-    parts: [COUNT5B, NO, NO, NO, NO, NO],
+const IMM5: Packed = Packed {
+    kind: UNSIGNED,
+    number: 32,
+    width: 5,
+    low: COUNT5B,
+    high: 0,
 };
 
-// The row of a form; no row where it has none.
-pub fn row_of(form: Form) -> Row
-    ensures { λ r. ⌜ r ≡ rowOf form ⌝ }
+pub fn meaning_of(kind: u64, number: u64) -> Meaning
+    ensures { λ r. ⌜ r ≡ meaningOf kind number ⌝ }
+{
+    match kind {
+        UNSIGNED => Meaning::Unsigned(number),
+        SIGNED => Meaning::Signed(number),
+        CHOSEN => Meaning::Chosen(false, number),
+        COMPLEMENT => Meaning::Complement(number),
+        CHOSEN_SIGNED => Meaning::Chosen(true, number),
+        _ => Meaning::None,
+    }
+}
+
+// A form's row; no row where it has none.
+pub fn packed_of(form: Form) -> Packed
+    ensures { λ r. ⌜ Packs r (rowOf form) ⌝ }
 {
     let family = form.family;
     let number = form.number;
@@ -310,47 +346,26 @@ pub fn row_of(form: Form) -> Row
         form::I => row_i(number),
         M => row_m(number),
         X => row_x(number),
-        _ => NO_ROW,
+        _ => NO_PACKED,
     }
 }
 
-pub fn is_none(row: Row) -> bool
-    ensures { λ r. ⌜ r ≡ isNone row ⌝ }
+// The row of a form that has a target: its values are times 16, with a sign.
+pub fn packed_target_of(form: Form) -> Packed
+    ensures { λ r. ⌜ Packs r (targetRowOf form) ⌝ }
 {
-    let meaning = row.meaning;
-    match meaning {
-        Meaning::None => true,
-        _ => false,
+    let packed = packed_of(form);
+    if packed.kind != SIGNED {
+        return NO_PACKED;
     }
-}
-
-// A row whose values are times 16, with a sign; no row where they are not.
-pub fn only_times16(row: Row) -> Row
-    ensures { λ r. ⌜ r ≡ onlyTimes16 (row .meaning) row ⌝ }
-{
-    let meaning = row.meaning;
-    match meaning {
-        Meaning::Signed(unit) => if unit == 16 { row } else { NO_ROW },
-        _ => NO_ROW,
+    if packed.number != 16 {
+        return NO_PACKED;
     }
+    packed
 }
 
-// How many bits the parts have.
-pub fn width(parts: [Part; 6]) -> u32
-    requires { ⌜ T (readable parts) ⌝ }
-    ensures { λ r. ⌜ r ≡ widthOf parts ⌝ }
-{
-    let bits = parts[0].width
-        + parts[1].width
-        + parts[2].width
-        + parts[3].width
-        + parts[4].width
-        + parts[5].width;
-    bits as u32
-}
-
-fn row_a(number: u64) -> Row
-    ensures { λ r. ⌜ r ≡ rowOf (a number) ⌝ }
+fn row_a(number: u64) -> Packed
+    ensures { λ r. ⌜ Packs r (rowOf (a number)) ⌝ }
 {
     match number {
         2 => COUNT2,
@@ -359,35 +374,35 @@ fn row_a(number: u64) -> Row
         5 => IMM22,
         8 => IMM8,
         10 => COUNT2,
-        _ => NO_ROW,
+        _ => NO_PACKED,
     }
 }
 
-fn row_b(number: u64) -> Row
-    ensures { λ r. ⌜ r ≡ rowOf (b number) ⌝ }
+fn row_b(number: u64) -> Packed
+    ensures { λ r. ⌜ Packs r (rowOf (b number)) ⌝ }
 {
     match number {
         1 => TARGET25C,
         2 => TARGET25C,
         3 => TARGET25C,
         9 => IMM21,
-        _ => NO_ROW,
+        _ => NO_PACKED,
     }
 }
 
-fn row_f(number: u64) -> Row
-    ensures { λ r. ⌜ r ≡ rowOf (f number) ⌝ }
+fn row_f(number: u64) -> Packed
+    ensures { λ r. ⌜ Packs r (rowOf (f number)) ⌝ }
 {
     match number {
         14 => TARGET25,
         15 => IMM21,
         16 => IMM21,
-        _ => NO_ROW,
+        _ => NO_PACKED,
     }
 }
 
-fn row_i(number: u64) -> Row
-    ensures { λ r. ⌜ r ≡ rowOf (i number) ⌝ }
+fn row_i(number: u64) -> Packed
+    ensures { λ r. ⌜ Packs r (rowOf (i number)) ⌝ }
 {
     match number {
         1 => SHIFT,
@@ -403,12 +418,12 @@ fn row_i(number: u64) -> Row
         24 => IMM44,
         27 => IMM8,
         30 => IMM5,
-        _ => NO_ROW,
+        _ => NO_PACKED,
     }
 }
 
-fn row_m(number: u64) -> Row
-    ensures { λ r. ⌜ r ≡ rowOf (m number) ⌝ }
+fn row_m(number: u64) -> Packed
+    ensures { λ r. ⌜ Packs r (rowOf (m number)) ⌝ }
 {
     match number {
         3 => IMM9B,
@@ -425,12 +440,12 @@ fn row_m(number: u64) -> Row
         37 => IMM21,
         44 => IMM24,
         48 => IMM21,
-        _ => NO_ROW,
+        _ => NO_PACKED,
     }
 }
 
-fn row_x(number: u64) -> Row
-    ensures { λ r. ⌜ r ≡ rowOf (x number) ⌝ }
+fn row_x(number: u64) -> Packed
+    ensures { λ r. ⌜ Packs r (rowOf (x number)) ⌝ }
 {
     match number {
         1 => IMM62,
@@ -438,6 +453,6 @@ fn row_x(number: u64) -> Row
         3 => TARGET64,
         4 => TARGET64,
         5 => IMM62,
-        _ => NO_ROW,
+        _ => NO_PACKED,
     }
 }

@@ -4,10 +4,10 @@ mod lines;
 ghost use mathlib.Core.Path.{_≡_};
 ghost use mathlib.Core.Bool.{cond};
 ghost use mathlib.Core.List.{[], _++_};
-ghost use Prim.Native.Nat.{_≤_, _<_};
+ghost use Prim.Native.Nat.{_+_, _/_, _≤_, _<_};
 ghost use lib.ListN.{length, replicate};
 ghost use Rattle.bundle.specs.Bundle.{longestCode};
-ghost use Rattle.tally.specs.Report.{tagsOf, countsOf, reportOf, addedBy, addedOf};
+ghost use Rattle.tally.specs.Report.{tagsTo, tagsOf, countsOf, reportOf, addedBy, addedOf};
 ghost use Rattle.tally.specs.inner.Share.{Few, tagShares, sharesOf};
 use answer::ACCEPTED;
 use answer::BAD_VALUE;
@@ -87,7 +87,7 @@ fn report_of(image: &[u8]) -> [u64; NUMBERS]
     report
 }
 
-// The counts of the tags, and zeros after them.
+// The counts of the tags, and zeros after them; two bundles a turn, which is faster.
 fn by_tag(image: &[u8]) -> [u64; NUMBERS]
     requires { ⌜ length (now image) ≤ longestCode ⌝ }
     ensures { λ r. ⌜ r ≡ countsOf (tagsOf (now (image .entry))) ++ replicate 4 0 ⌝ }
@@ -95,12 +95,24 @@ fn by_tag(image: &[u8]) -> [u64; NUMBERS]
     let mut counts = [0u64; NUMBERS];
     let bundles = image.len() / 16;
     let mut n = 0;
-    while n < bundles {
-        let tag = (image[16 * n] % 32) as usize;
-        counts[tag] += 1;
-        n += 1;
+    while n + 1 < bundles {
+        count(&mut counts, image, n);
+        count(&mut counts, image, n + 1);
+        n += 2;
+    }
+    if n < bundles {
+        count(&mut counts, image, n);
     }
     counts
+}
+
+// Counts bundle `n`, where those before it are counted.
+fn count(counts: &mut [u64; NUMBERS], image: &[u8], n: usize)
+    requires { ⌜ (length (now image) ≤ longestCode) × (n < length (now image) / 16) × (now counts ≡ countsOf (tagsTo (now image) n) ++ replicate 4 0) ⌝ }
+    ensures { λ _. ⌜ now (counts .exit) ≡ countsOf (tagsTo (now (image .entry)) (n + 1)) ++ replicate 4 0 ⌝ }
+{
+    let tag = (image[16 * n] % 32) as usize;
+    counts[tag] += 1;
 }
 
 // What bundles add to the reserved ones and the stops.

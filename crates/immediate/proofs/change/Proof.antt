@@ -1,5 +1,5 @@
 -- `change` meets its contract: a value of the row's kind is the one with its pattern, and any other has no raw number. Assumes nothing.
-use mathlib.Core.Path.{_≡_, _∙_}
+use mathlib.Core.Path.{_≡_, _∙_, ap}
 use lib.IntN.{ℤ}
 use mir.Syntax.{w64}
 use mir.Val.{SFits}
@@ -23,12 +23,14 @@ held c z is =
 returns : tie.Need-returns
 returns c =
     let t = c .before .before in
-    let s = t .before .before .before in
+    let m = t .before in
+    let s = m .before .before .before in
     let e = s .args .edit in
     let row = rowOf (e .form) in
     let same = raw-of-taken (e .value) (held s) (row .meaning) (widthOf (row .parts)) in
+    let means = m .meaning-of .ensures ∙ ap (λ x. x .0 .meaning) (m .before .packed-of .ensures) in
     c .change-by .ensures
-    ∙ changed-by-raw (whole (s .args .bundle)) 0 (e .bundle) (e .slot) (e .form) _ _ (rw (t .take-out .ensures, t .before .row-of .ensures) same)
+    ∙ changed-by-raw (whole (s .args .bundle)) 0 (e .bundle) (e .slot) (e .form) _ _ (rw (t .take-out .ensures, means) same)
 
 pub change-spec : {M : Type 1} → statement M
-change-spec = tie.close (tie.spec (λ c κs. search needs) (λ c κs. search needs) (λ c κs. search needs) returns)
+change-spec = tie.close (tie.spec (λ c κs. search needs) (λ c κs. search needs) (λ c κs. search needs) (λ c κs. c .before .before .before .packed-of .ensures) returns)

@@ -1,6 +1,6 @@
 -- `change_by` meets its contract: a row that stands in the slot is sound there, so the value's raw number is scattered into the bundle's number.
 -- Assumes nothing.
-use mathlib.Core.Path.{_≡_, refl, _∙_, ap, sym, subst}
+use mathlib.Core.Path.{_≡_, refl, _∙_, ap, ap₂, sym}
 use Prim.Native.Nat.{ℕ, _<_, _^_}
 use native.Mathlib.Omega.{arith}
 use borrow.Author.Needs.{needs}
@@ -9,18 +9,18 @@ use Rattle.answer.specs.Answer.{accepted, badValue, first}
 use Rattle.bundle.specs.Bundle.{whole, halvesOf}
 use Rattle.bundle.proofs.Halves.{halves-whole}
 use Rattle.parts.specs.Placed.{widthOf}
-use Rattle.row.specs.Row.{rowOf}
-use Rattle.meaning.specs.inner.Fits.{Fitting}
+use Rattle.row.specs.Row.{Row, rowOf}
 use Rattle.meaning.specs.Meaning.{Bad, operandFor, rawOf}
-use Rattle.row.specs.declared.Row.{Row}
+use Rattle.row.specs.inner.Packed.{unpacked}
+use Rattle.meaning.specs.declared.Meaning.{Meaning}
 use Rattle.meaning.specs.declared.Raw.{Raw}
 use Rattle.row.proofs.Rows.{row-good}
 use Rattle.meaning.proofs.Inverse.{raw-told}
 use Rattle.meaning.proofs.Patterns.{raw-of-none}
 use Rattle.form.specs.declared.Edit.{Edit}
-use Rattle.immediate.specs.inner.Sound.{Sound, editIfPattern}
+use Rattle.immediate.specs.inner.Sound.{SoundIn, editIfPattern}
 use Rattle.immediate.specs.Immediate.{readRefusals, rawFor, withRaw}
-use Rattle.immediate.proofs.Laws.{read-sound, unchanged-by, not-read, no-raw, changed-done}
+use Rattle.immediate.proofs.Laws.{packed-sound, unchanged-by, not-read, no-raw, changed-done}
 use Rattle.immediate.proofs.change_by.Statement.{statement}
 use Rattle.immediate.proofs.change_by.Tie as tie
 
@@ -28,25 +28,24 @@ use Rattle.immediate.proofs.change_by.Tie as tie
 abbrev edit : tie.Start → Edit
 edit s = let a = s .args in editIfPattern (a .slot) (a .form) (a .told) (a .pattern)
 
+row-is : (s : tie.Start) → unpacked (s .args .packed) ≡ rowOf (s .args .form)
+row-is s = ap (λ x. x .0) (s .pre)
+
 answer : (c : tie.After-read-answer) →
     let a = c .before .args in
     c .read-answer .result ≡ first (readRefusals (whole (a .bundle)) (a .slot) (a .form) (rowOf (a .form)))
-answer c =
-    let s = c .before in
-    let a = s .args in
-    c .read-answer .ensures ∙ ap (λ (row : Row). first (readRefusals (whole (a .bundle)) (a .slot) (a .form) row)) (s .pre)
+answer c = let s = c .before in c .read-answer .ensures (rowOf (s .args .form)) (s .pre)
 
 -- the row stands in the slot
 module _ (c : tie.Else1) where
   read : let a = c .before .before .args in first (readRefusals (whole (a .bundle)) (a .slot) (a .form) (rowOf (a .form))) ≡ accepted
   read = sym (answer (c .before)) ∙ c .if1 .left
 
-  is-sound : let a = c .before .before .args in Sound (a .slot) (a .row)
+  is-sound : let a = c .before .before .args in SoundIn (a .slot) (a .packed)
   is-sound =
       let s = c .before .before in
       let a = s .args in
-      subst (λ (row : Row). Sound (a .slot) row) (sym (s .pre))
-      (read-sound (whole (a .bundle)) (a .slot) (a .form) (rowOf (a .form)) (row-good (a .form)) read)
+      packed-sound (whole (a .bundle)) (a .slot) (a .form) (rowOf (a .form)) (a .packed) (s .pre) (row-good (a .form)) read
 
 returns : tie.Need-returns
 returns c =
@@ -68,27 +67,25 @@ returns-2 c =
     c .unchanged2 .ensures ∙ unchanged-by n (edit s) _ (no-raw n (edit s) (read e1) bad) (eqb-false badValue accepted refl)
 
 raw-of-requires : tie.Need-raw-of-requires
-raw-of-requires c κs =
-    let e1 = c .before .before .before in
-    subst (Fitting (e1 .before .before .args .row .meaning)) (sym (c .width .ensures)) (is-sound e1 .fitting)
+raw-of-requires c κs = let h = is-sound (c .before .before) in rw (c .meaning-of .ensures, h .1) (h .0 .fitting)
 
 -- the value's raw number, or its refusal
 raw-is : (c : tie.After-raw-of) →
-    let s = c .before .before .before .before .before .before in
+    let s = c .before .before .before .before .before in
     c .raw-of .result ≡ rawFor (rowOf (s .args .form)) (edit s .value)
 raw-is c =
-    let e2 = c .before .before .before in
+    let e2 = c .before .before in
     let s = e2 .before .before .before in
     let a = s .args in
     rw (not-false (a .told) (e2 .if2 .left))
     (c .raw-of .ensures
-    ∙ ap (λ (w : ℕ). rawOf (a .row .meaning) w (operandFor (a .row .meaning) (a .pattern))) (c .before .width .ensures)
-    ∙ ap (λ (row : Row). rawFor row (operandFor (row .meaning) (a .pattern))) (s .pre))
+    ∙ ap₂ (λ (m : Meaning) (w : ℕ). rawOf m w (operandFor m (a .pattern))) (c .before .meaning-of .ensures) (is-sound (e2 .before) .1)
+    ∙ ap (λ (row : Row). rawFor row (operandFor (row .meaning) (a .pattern))) (row-is s))
 
 returns-3 : tie.Need-returns-3
 returns-3 c =
     let r = c .before .before in
-    let e1 = r .before .before .before .before in
+    let e1 = r .before .before .before in
     let s = e1 .before .before in
     let n = whole (s .args .bundle) in
     let row = rowOf (s .args .form) in
@@ -105,14 +102,14 @@ returns-4 : tie.Need-returns-4
 returns-4 c =
     let e3 = c .before in
     let r = e3 .before in
-    let e1 = r .before .before .before .before in
+    let e1 = r .before .before .before in
     let s = e1 .before .before in
     let a = s .args in
     let n = whole (a .bundle) in
     let is = raw-is r in
     let number = c .scatter .ensures
-    ∙ ap (λ (x : Raw). withRaw (a .row) (a .slot) n (x .raw)) is
-    ∙ ap (λ (row : Row). withRaw row (a .slot) n (rawFor (rowOf (a .form)) (edit s .value) .raw)) (s .pre) in
+    ∙ ap (λ (x : Raw). withRaw (unpacked (a .packed)) (a .slot) n (x .raw)) is
+    ∙ ap (λ (row : Row). withRaw row (a .slot) n (rawFor (rowOf (a .form)) (edit s .value) .raw)) (row-is s) in
     let h = c .scatter .result in
     let bundle = sym (halves-whole (h .low) (h .high) (halves-fit c .0) (halves-fit c .1)) ∙ ap halvesOf number in
     (λ i. record { answer = e1 .if1 .left i; bundle = bundle i })
@@ -127,10 +124,10 @@ change-by-spec =
     returns
     (λ c κs. search needs)
     returns-2
-    (λ c κs. is-sound (c .before .before) .reads)
+    (λ c κs. search needs)
     raw-of-requires
     (λ c κs. search needs)
     returns-3
-    (λ c. let h = is-sound (c .before .before .before .before .before) .in-bundle in omega arith)
-    (λ c κs. let s = is-sound (c .before .before .before .before .before) in (s .in-bundle, s .reads))
+    (λ c. let h = is-sound (c .before .before .before .before) .0 .in-bundle in omega arith)
+    (λ c κs. let s = is-sound (c .before .before .before .before) .0 in (s .in-bundle, s .reads, s .ended))
     returns-4)

@@ -1,27 +1,22 @@
 -- `displacement_in` meets its contract: the number gathered has as many bits as the parts. Assumes nothing.
-use mathlib.Core.Path.{_∙_, ap₂, subst}
-use Prim.Native.Nat.{ℕ}
+use mathlib.Core.Path.{_∙_}
 use Rattle.bundle.specs.Bundle.{whole}
-use Rattle.parts.specs.Placed.{widthOf}
+use Rattle.parts.specs.inner.Numbers.{partsIn}
 use Rattle.parts.proofs.Steps.{gathered-lt}
-use Rattle.operand.specs.Pattern.{patternOf}
-use Rattle.meaning.specs.Meaning.{signedOf}
-use Rattle.meaning.specs.inner.Fits.{Fitting}
-use Rattle.meaning.specs.declared.Meaning.{Meaning}
-use borrow.Author.Needs.{needs}
 use Rattle.immediate.proofs.displacement_in.Statement.{statement}
 use Rattle.immediate.proofs.displacement_in.Tie as tie
 
 displacement-requires : tie.Need-displacement-requires
 displacement-requires c κs =
-    let start = c .before .before .before in
+    let start = c .before in
     let a = start .args in
-    rw (c .before .width .ensures, c .gather .ensures)
-    (subst (λ (m : Meaning). Fitting m (widthOf (a .row .parts))) (start .pre .1) (start .pre .0 .fitting), gathered-lt (whole (a .bundle)) (a .slot) (a .row .parts))
-
-returns : tie.Need-returns
-returns c = c .displacement .ensures ∙ ap₂ (λ (w x : ℕ). patternOf (signedOf 16 w x)) (c .before .before .width .ensures) (c .before .gather .ensures)
+    rw (start .pre .0 .1, c .gather .ensures)
+    (rw (start .pre .1) at (start .pre .0 .0 .fitting), gathered-lt (whole (a .bundle)) (a .slot) (partsIn (a .packed .low) (a .packed .high)))
 
 pub displacement-in-spec : {M : Type 1} → statement M
 displacement-in-spec =
-    tie.close (tie.spec (λ c κs. search needs) (λ c κs. search needs) displacement-requires returns)
+    tie.close
+    (tie.spec
+    (λ c κs. let s = c .pre .0 .0 in (s .in-bundle, s .reads, s .ended))
+    displacement-requires
+    (λ c. c .displacement .ensures ∙ rw (c .before .before .pre .0 .1, c .before .gather .ensures)))

@@ -17,7 +17,7 @@ returns-2 : tie.Need-returns-2
 returns-2 c =
     let start = c .before .before .before .before in
     let is = c .before .before .before .entry-of .ensures in
-    rw (← is, c .before .if1 .left, ← power start) (c .place-in .ensures)
+    rw (← is, c .before .if1 .left, ← power start) (c .place-among .ensures)
 
 pub raw-chosen-spec : {M : Type 1} → statement M
 raw-chosen-spec =

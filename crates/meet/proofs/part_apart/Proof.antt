@@ -1,69 +1,82 @@
 -- `part_apart` meets its contract: the parts that were passed are apart from the bits, so those that are left decide. Assumes nothing.
-use mathlib.Core.Path.{_≡_, refl, sym, ap, _∙_}
-use mathlib.Core.Bool.{Bool, _&&_, _||_}
+use mathlib.Core.Path.{_≡_, refl, sym, ap, ap₂, _∙_}
+use mathlib.Core.Bool.{Bool, _&&_}
+use mathlib.Core.List.{List}
 use Prim.Native.Nat.{ℕ, _+_, _-_, _≤_, _<_}
 use native.Mathlib.Omega.{arith}
 use borrow.Author.Needs.{needs}
-use Rattle.needs.proofs.Together.{together}
 use borrow.Author.Tests.{not-true, not-false}
-use lib.Dec.{leb}
 use lib.ListN.{length, getD}
 use Rattle.bits.specs.Parts.{apart, apartFrom}
-use Rattle.parts.specs.Placed.{noPart, placed}
+use Rattle.parts.specs.Placed.{noPart, standsAt, placed}
+use Rattle.parts.specs.declared.Part.{Part}
 use Rattle.parts.proofs.Placed.{ends}
 use Rattle.parts.proofs.Steps.{reads}
+use Rattle.row.specs.inner.Packed.{unpacked}
 use Rattle.meet.proofs.Turns.{partAt, left, left-next, left-none}
 use Rattle.meet.proofs.part_apart.Statement.{statement}
 use Rattle.meet.proofs.part_apart.Tie as tie
 
 abbrev Inv-loop : tie.InvT-loop
-Inv-loop at width slot parts end j₀ j = (j ≤ 6) × (apartFrom (at, width) (placed slot parts) ≡ apartFrom (at, width) (left slot parts j))
+Inv-loop at width slot packed end j₀ j =
+    (j ≤ 6) × (apartFrom (at, width) (placed slot (unpacked packed .parts)) ≡ apartFrom (at, width) (left slot (unpacked packed .parts) j))
 
 abbrev μ-loop : tie.MeasureT-loop
-μ-loop at width slot parts end j₀ j = 6 - j
+μ-loop at width slot packed end j₀ j = 6 - j
 
-six : (c : tie.Start Inv-loop μ-loop) → length (c .args .t4) ≡ 6
-six c = search needs
+-- the six parts, and the bits
+abbrev parts : tie.Start Inv-loop μ-loop → List Part
+parts s = unpacked (s .args .packed) .parts
 
-here : (c : tie.In-loop Inv-loop μ-loop) → c .before .loop .j < length (c .before .before .args .t4)
-here c = let six = six (c .before .before) in omega arith
+abbrev bits : tie.Start Inv-loop μ-loop → ℕ × ℕ
+bits s = (s .args .at, s .args .width)
 
-ends-at : (c : tie.After-stands-at Inv-loop μ-loop) →
-    let l = c .before .before in
-    c .stands-at .result + getD (l .before .args .t4) (l .loop .j) noPart .width ≤ 128
+here : (c : tie.In-loop Inv-loop μ-loop) → c .before .loop .j < length (parts (c .before .before))
+here c = omega arith
+
+ends-at : (c : tie.After-stands-at Inv-loop μ-loop) → c .stands-at .result + c .before .before .part-at .result .width ≤ 128
 ends-at c =
-    let l = c .before .before in
-    let a = l .before .args in
-    rw (c .stands-at .ensures) (ends (a .slot) (getD (a .t4) (l .loop .j) noPart) (l .before .pre .1) (reads (a .t4) (l .loop .j) (here (c .before)) (l .before .pre .2) .in-word))
+    let p = c .before .before in
+    let l = p .before .before in
+    let s = l .before in
+    rw (c .stands-at .ensures, p .part-at .ensures)
+    (ends (s .args .slot) (getD (parts s) (l .loop .j) noPart) (s .pre .1) (reads (parts s) (l .loop .j) (here (p .before)) (s .pre .2)))
 
 -- what the parts from j on answer, by the test of part j
 turned : (c : tie.After-apart Inv-loop μ-loop) →
-    let l = c .before .before .before in
-    let a = l .before .args in
-    apartFrom (a .at, a .width) (placed (a .slot) (a .t4)) ≡ c .apart .result && apartFrom (a .at, a .width) (left (a .slot) (a .t4) (l .loop .j + 1))
+    let l = c .before .before .before .before .before in
+    let s = l .before in
+    apartFrom (bits s) (placed (s .args .slot) (parts s)) ≡ c .apart .result && apartFrom (bits s) (left (s .args .slot) (parts s) (l .loop .j + 1))
 turned c =
-    let l = c .before .before .before in
-    let a = l .before .args in
-    let p : ℕ × ℕ = (a .at, a .width) in
-    let w = getD (a .t4) (l .loop .j) noPart .width in
-    let test : c .apart .result ≡ apart p (partAt (a .slot) (a .t4) (l .loop .j)) =
-    c .apart .ensures ∙ ap (λ (f : ℕ). leb (a .at + a .width) f || leb (f + w) (a .at)) (c .before .stands-at .ensures) in
+    let p = c .before .before .before in
+    let l = p .before .before in
+    let s = l .before in
+    let a = s .args in
+    let test : c .apart .result ≡ apart (bits s) (partAt (a .slot) (parts s) (l .loop .j)) =
+    c .apart .ensures
+    ∙ ap₂ (λ (f w : ℕ). apart (bits s) (f, w)) (c .before .stands-at .ensures ∙ ap (λ (q : Part). standsAt (a .slot) (q .place)) (p .part-at .ensures)) (ap (λ (q : Part). q .width) (p .part-at .ensures)) in
     l .loop .inv .1
-    ∙ ap (apartFrom p) (left-next (a .slot) (a .t4) (l .loop .j) (here (c .before .before)))
-    ∙ ap (λ (t : Bool). t && apartFrom p (left (a .slot) (a .t4) (l .loop .j + 1))) (sym test)
+    ∙ ap (apartFrom (bits s)) (left-next (a .slot) (parts s) (l .loop .j) (here (p .before)))
+    ∙ ap (λ (t : Bool). t && apartFrom (bits s) (left (a .slot) (parts s) (l .loop .j + 1))) (sym test)
 
 returns-2 : tie.Need-returns-2 Inv-loop μ-loop
 returns-2 c =
     let l = c .before in
-    let a = l .before .args in
-    let past : length (a .t4) ≤ l .loop .j = let six = six (l .before) in omega arith in
-    sym (l .loop .inv .1 ∙ ap (apartFrom (a .at, a .width)) (left-none (a .slot) (a .t4) (l .loop .j) past))
+    let s = l .before in
+    let past : length (parts s) ≤ l .loop .j = omega arith in
+    sym (l .loop .inv .1 ∙ ap (apartFrom (bits s)) (left-none (s .args .slot) (parts s) (l .loop .j) past))
 
 pub part-apart-spec : {M : Type 1} → statement M
 part-apart-spec =
     tie.close
-    (together 5 _ (tie.spec Inv-loop μ-loop (λ c. search needs) (λ c. (search needs, refl))) (search needs)
-    (λ c. omega (arith, ends-at c))
+    (tie.spec
+    Inv-loop
+    μ-loop
+    (λ c. search needs)
+    (λ c. (search needs, refl))
+    (λ c κs. search needs)
+    (λ c. search needs)
+    (λ c κs. search needs)
     (λ c. omega (arith, ends-at c))
     (λ c κs. search needs)
     (λ c. sym (turned (c .before) ∙ rw (not-true (c .before .apart .result) (c .if1 .taken))))

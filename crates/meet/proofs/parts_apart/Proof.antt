@@ -1,69 +1,83 @@
 -- `parts_apart` meets its contract: the parts that were passed meet none of the other slot's, so those that are left decide. Assumes nothing.
-use mathlib.Core.Path.{_≡_, refl, sym, ap, _∙_}
+use mathlib.Core.Path.{_≡_, refl, sym, ap, ap₂, _∙_}
 use mathlib.Core.Bool.{Bool, _&&_}
+use mathlib.Core.List.{List}
 use Prim.Native.Nat.{ℕ, _+_, _-_, _≤_, _<_}
 use native.Mathlib.Omega.{arith}
 use borrow.Author.Needs.{needs}
-use Rattle.needs.proofs.Together.{together}
 use borrow.Author.Tests.{not-true, not-false}
 use lib.ListN.{length, getD}
 use Rattle.bits.specs.Parts.{Parts, apartFrom, meetNot}
-use Rattle.parts.specs.Placed.{noPart, placed}
+use Rattle.parts.specs.Placed.{noPart, standsAt, placed}
+use Rattle.parts.specs.declared.Part.{Part}
 use Rattle.parts.proofs.Placed.{ends}
 use Rattle.parts.proofs.Steps.{reads}
+use Rattle.row.specs.inner.Packed.{unpacked}
 use Rattle.meet.proofs.Turns.{partAt, left, left-next, left-none}
 use Rattle.meet.proofs.parts_apart.Statement.{statement}
 use Rattle.meet.proofs.parts_apart.Tie as tie
 
 abbrev Inv-loop : tie.InvT-loop
-Inv-loop slot other others parts i₀ i = (i ≤ 6) × (meetNot (placed slot parts) (placed other others) ≡ meetNot (left slot parts i) (placed other others))
+Inv-loop slot packed other others i₀ i =
+    let qs = placed other (unpacked others .parts) in
+    (i ≤ 6) × (meetNot (placed slot (unpacked packed .parts)) qs ≡ meetNot (left slot (unpacked packed .parts) i) qs)
 
 abbrev μ-loop : tie.MeasureT-loop
-μ-loop slot other others parts i₀ i = 6 - i
+μ-loop slot packed other others i₀ i = 6 - i
 
-six : (c : tie.Start Inv-loop μ-loop) → length (c .args .t2) ≡ 6
-six c = search needs
+-- the six parts, and where those of the other slot stand
+abbrev parts : tie.Start Inv-loop μ-loop → List Part
+parts s = unpacked (s .args .packed) .parts
 
-here : (c : tie.In-loop Inv-loop μ-loop) → c .before .loop .i < length (c .before .before .args .t2)
-here c = let six = six (c .before .before) in omega arith
+abbrev others : tie.Start Inv-loop μ-loop → Parts
+others s = placed (s .args .other) (unpacked (s .args .others) .parts)
 
-ends-at : (c : tie.After-stands-at Inv-loop μ-loop) →
-    let l = c .before .before in
-    c .stands-at .result + getD (l .before .args .t2) (l .loop .i) noPart .width ≤ 128
+here : (c : tie.In-loop Inv-loop μ-loop) → c .before .loop .i < length (parts (c .before .before))
+here c = omega arith
+
+ends-at : (c : tie.After-stands-at Inv-loop μ-loop) → c .stands-at .result + c .before .before .part-at .result .width ≤ 128
 ends-at c =
-    let l = c .before .before in
-    let a = l .before .args in
-    rw (c .stands-at .ensures) (ends (a .slot) (getD (a .t2) (l .loop .i) noPart) (l .before .pre .0) (reads (a .t2) (l .loop .i) (here (c .before)) (l .before .pre .1) .in-word))
+    let p = c .before .before in
+    let l = p .before .before in
+    let s = l .before in
+    rw (c .stands-at .ensures, p .part-at .ensures)
+    (ends (s .args .slot) (getD (parts s) (l .loop .i) noPart) (s .pre .0) (reads (parts s) (l .loop .i) (here (p .before)) (s .pre .1)))
 
 -- what the parts from i on answer, by the test of part i
 turned : (c : tie.After-part-apart Inv-loop μ-loop) →
-    let l = c .before .before .before in
-    let a = l .before .args in
-    meetNot (placed (a .slot) (a .t2)) (placed (a .other) (a .others)) ≡ c .part-apart .result && meetNot (left (a .slot) (a .t2) (l .loop .i + 1)) (placed (a .other) (a .others))
+    let l = c .before .before .before .before .before in
+    let s = l .before in
+    meetNot (placed (s .args .slot) (parts s)) (others s) ≡ c .part-apart .result && meetNot (left (s .args .slot) (parts s) (l .loop .i + 1)) (others s)
 turned c =
-    let l = c .before .before .before in
-    let a = l .before .args in
-    let qs = placed (a .other) (a .others) in
-    let w = getD (a .t2) (l .loop .i) noPart .width in
-    let test : c .part-apart .result ≡ apartFrom (partAt (a .slot) (a .t2) (l .loop .i)) qs =
-    c .part-apart .ensures ∙ ap (λ (f : ℕ). apartFrom (f, w) qs) (c .before .stands-at .ensures) in
+    let p = c .before .before .before in
+    let l = p .before .before in
+    let s = l .before in
+    let a = s .args in
+    let test : c .part-apart .result ≡ apartFrom (partAt (a .slot) (parts s) (l .loop .i)) (others s) =
+    c .part-apart .ensures
+    ∙ ap₂ (λ (f w : ℕ). apartFrom (f, w) (others s)) (c .before .stands-at .ensures ∙ ap (λ (q : Part). standsAt (a .slot) (q .place)) (p .part-at .ensures)) (ap (λ (q : Part). q .width) (p .part-at .ensures)) in
     l .loop .inv .1
-    ∙ ap (λ (ps : Parts). meetNot ps qs) (left-next (a .slot) (a .t2) (l .loop .i) (here (c .before .before)))
-    ∙ ap (λ (t : Bool). t && meetNot (left (a .slot) (a .t2) (l .loop .i + 1)) qs) (sym test)
+    ∙ ap (λ (ps : Parts). meetNot ps (others s)) (left-next (a .slot) (parts s) (l .loop .i) (here (p .before)))
+    ∙ ap (λ (t : Bool). t && meetNot (left (a .slot) (parts s) (l .loop .i + 1)) (others s)) (sym test)
 
 returns-2 : tie.Need-returns-2 Inv-loop μ-loop
 returns-2 c =
     let l = c .before in
-    let a = l .before .args in
-    let past : length (a .t2) ≤ l .loop .i = let six = six (l .before) in omega arith in
-    sym (l .loop .inv .1 ∙ ap (λ (ps : Parts). meetNot ps (placed (a .other) (a .others))) (left-none (a .slot) (a .t2) (l .loop .i) past))
+    let s = l .before in
+    let past : length (parts s) ≤ l .loop .i = omega arith in
+    sym (l .loop .inv .1 ∙ ap (λ (ps : Parts). meetNot ps (others s)) (left-none (s .args .slot) (parts s) (l .loop .i) past))
 
 pub parts-apart-spec : {M : Type 1} → statement M
 parts-apart-spec =
     tie.close
-    (together 5 _ (tie.spec Inv-loop μ-loop (λ c. (search needs, refl))) (search needs)
-    (λ c. omega (arith, ends-at c))
-    (λ c κs. let pre = c .before .before .before .pre in (ends-at c, pre .2, pre .3))
+    (tie.spec
+    Inv-loop
+    μ-loop
+    (λ c. (search needs, refl))
+    (λ c κs. search needs)
+    (λ c. search needs)
+    (λ c κs. search needs)
+    (λ c κs. let pre = c .before .before .before .before .before .pre in (ends-at c, pre .2, pre .3))
     (λ c. sym (turned (c .before) ∙ rw (not-true (c .before .part-apart .result) (c .if1 .taken))))
     (λ c. search needs)
     (λ c. search needs)

@@ -1,87 +1,81 @@
 -- `scatter` meets its contract: what is left to be scattered into the parts from i on gives the same bundle,
--- and a part of no width takes nothing. Assumes nothing.
-use mathlib.Core.Path.{_≡_, _∙_, ap, ap₂, sym}
-use mathlib.Core.Logic.{⊎-elim}
-use Prim.Native.Nat.{ℕ, suc, _-_, _≤_, _<_}
+-- and from a part of no width on nothing is left. Assumes nothing.
+use mathlib.Core.Path.{_≡_, _∙_, ap, sym}
+use mathlib.Core.Bool.{true}
+use mathlib.Core.List.{List}
+use Prim.Native.Nat.{suc, _-_, _/_, _≤_, _<_, _^_}
 use native.Mathlib.Numerals.{add-one}
 use native.Mathlib.Omega.{arith}
 use borrow.Author.Needs.{needs}
-use lib.ListN.{length, getD, drop, drop-of-length-le}
-use Rattle.bits.specs.Part.{put}
+use lib.Dec.{T}
+use lib.ListN.{length, drop, drop-of-length-le}
 use Rattle.bits.specs.Parts.{scatter}
 use Rattle.bundle.specs.Bundle.{whole}
-use Rattle.parts.specs.Placed.{noPart, placed}
-use Rattle.parts.proofs.Placed.{ends}
-use Rattle.parts.proofs.Steps.{Reads, reads, scatter-step, scatter-skip}
+use Rattle.parts.specs.Placed.{placed, inWord}
+use Rattle.parts.specs.inner.Numbers.{partsIn}
+use Rattle.parts.specs.declared.Part.{Part}
+use Rattle.parts.proofs.Placed.{narrow, ends}
+use Rattle.parts.proofs.Steps.{reads, scatter-step, scatter-done}
 use Rattle.parts.proofs.scatter.Statement.{statement}
 use Rattle.parts.proofs.scatter.Tie as tie
 
 abbrev Inv-loop : tie.InvT-loop
-Inv-loop slot raw parts bundle₀ rest₀ i₀ bundle rest i = (i ≤ 6) × (scatter (whole bundle₀) (placed slot parts) rest₀ ≡ scatter (whole bundle) (placed slot (drop i parts)) rest)
+Inv-loop slot low high raw bundle₀ rest₀ i₀ bundle rest i =
+    let ps = partsIn low high in
+    (i ≤ 6) × (scatter (whole bundle₀) (placed slot ps) rest₀ ≡ scatter (whole bundle) (placed slot (drop i ps)) rest)
 
 abbrev μ-loop : tie.MeasureT-loop
-μ-loop slot raw parts bundle₀ rest₀ i₀ bundle rest i = 6 - i
+μ-loop slot low high raw bundle₀ rest₀ i₀ bundle rest i = 6 - i
 
-six : (c : tie.Start Inv-loop μ-loop) → length (c .args .t3) ≡ 6
-six c = search needs
+-- the six parts
+abbrev parts : tie.Start Inv-loop μ-loop → List Part
+parts s = partsIn (s .args .low) (s .args .high)
 
 -- part i, at which a turn is
-module _ (c : tie.In-loop Inv-loop μ-loop) where
-  before : c .before .loop .i < length (c .before .before .args .t3)
-  before = let six = six (c .before .before) in omega arith
+module _ (c : tie.After-part-at Inv-loop μ-loop) where
+  before : c .before .before .loop .i < length (parts (c .before .before .before))
+  before = omega arith
 
-  can-read : Reads (getD (c .before .before .args .t3) (c .before .loop .i) noPart) (drop (suc (c .before .loop .i)) (c .before .before .args .t3))
-  can-read = reads (c .before .before .args .t3) (c .before .loop .i) before (c .before .before .pre .1)
+  in-word : T (inWord true (c .part-at .result))
+  in-word = let s = c .before .before .before in rw (c .part-at .ensures) (reads (parts s) (c .before .before .loop .i) before (s .pre .1))
+
+  fits : c .part-at .result .width < 64
+  fits = narrow (c .part-at .result) in-word
 
 put-requires : tie.Need-put-requires Inv-loop μ-loop
 put-requires c κs =
-    let l = c .before .before .before in
-    let p = getD (l .before .args .t3) (l .loop .i) noPart in
-    let r = can-read (c .before .before) in
-    let end = ends (l .before .args .slot) p (l .before .pre .0) (r .in-word) in
-    rw (c .stands-at .ensures) (omega (arith, c .before .if1 .taken), r .width-fits, end)
+    let p = c .before .before .before in
+    let s = p .before .before .before in
+    let end = ends (s .args .slot) (p .part-at .result) (s .pre .0) (in-word p) in
+    rw (c .stands-at .ensures) (omega (arith, c .before .if1 .left), fits p, end)
 
--- a turn, by which of the two ways it went
-turned : (c : tie.Joined1 Inv-loop μ-loop) →
-    let l = c .before .before in
-    let a = l .before .args in
-    scatter (whole (l .loop .bundle)) (placed (a .slot) (drop (l .loop .i) (a .t3))) (l .loop .rest)
-    ≡ scatter (whole (c .if1 .bundle)) (placed (a .slot) (drop (suc (l .loop .i)) (a .t3))) (c .if1 .rest)
-turned c =
-    let t = c .before in
-    let l = t .before in
-    let a = l .before .args in
-    let p = getD (a .t3) (l .loop .i) noPart in
-    let n = whole (l .loop .bundle) in
-    let after = placed (a .slot) (drop (suc (l .loop .i)) (a .t3)) in
-    ⊎-elim
-    (λ w.
-    let put-is = w .2 .ensures ∙ ap (λ (x : ℕ). put n x (p .width) (l .loop .rest)) (w .1 .ensures) in
-    scatter-step n (a .slot) (a .t3) (l .loop .i) (before t) (l .loop .rest)
-    ∙ ap₂ (λ (m v : ℕ). scatter m after v) (sym put-is ∙ ap whole (sym (w .3))) (sym (w .4)))
-    (λ w.
-    let none : p .width ≡ 0 = omega (arith, w .0 .left) in
-    scatter-skip n (a .slot) (a .t3) (l .loop .i) (before t) none (l .loop .rest)
-    ∙ ap₂ (λ (m v : ℕ). scatter m after v) (ap whole (sym (w .1))) (sym (w .2)))
-    (c .if1 .came)
+returns : tie.Need-returns Inv-loop μ-loop
+returns c =
+    let p = c .before .before in
+    let l = p .before .before in
+    let s = l .before in
+    let none = s .pre .2 (l .loop .i) (search needs) (sym (ap (λ (q : Part). q .width) (p .part-at .ensures)) ∙ c .if1 .taken) in
+    sym (l .loop .inv .1 ∙ scatter-done (whole (l .loop .bundle)) (s .args .slot) (drop (l .loop .i) (parts s)) none (l .loop .rest))
 
 loop-again : tie.Need-loop-again Inv-loop μ-loop
 loop-again c =
-    let l = c .before .before in
-    let a = l .before .args in (
-      search needs,
-      l .loop .inv .1
-          ∙ turned c
-          ∙ ap (λ (k : ℕ). scatter (whole (c .if1 .bundle)) (placed (a .slot) (drop k (a .t3))) (c .if1 .rest)) (sym (add-one (l .loop .i))),
-    )
+    let p = c .before .before .before .before in
+    let l = p .before .before in
+    let s = l .before in
+    let slot = s .args .slot in
+    let n = whole (l .loop .bundle) in
+    let rest = l .loop .rest in
+    let turned : scatter n (placed slot (drop (l .loop .i) (parts s))) rest ≡ scatter (whole (c .put .result)) (placed slot (drop (suc (l .loop .i)) (parts s))) (rest / 2 ^ p .part-at .result .width) =
+    rw (c .put .ensures, c .before .stands-at .ensures, p .part-at .ensures) (scatter-step n slot (parts s) (l .loop .i) (before p) rest) in
+    (search needs, l .loop .inv .1 ∙ rw (add-one (l .loop .i)) turned)
 
-returns : tie.Need-returns Inv-loop μ-loop
+returns-2 : tie.Need-returns-2 Inv-loop μ-loop
 unfolding scatter
-returns c =
+returns-2 c =
     let l = c .before in
-    let a = l .before .args in
-    let done : length (a .t3) ≤ l .loop .i = let six = six (l .before) in omega arith in
-    sym (l .loop .inv .1 ∙ ap (λ ps. scatter (whole (l .loop .bundle)) (placed (a .slot) ps) (l .loop .rest)) (drop-of-length-le (a .t3) done))
+    let s = l .before in
+    let done : length (parts s) ≤ l .loop .i = omega arith in
+    sym (l .loop .inv .1 ∙ ap (λ ps. scatter (whole (l .loop .bundle)) (placed (s .args .slot) ps) (l .loop .rest)) (drop-of-length-le (parts s) done))
 
 pub scatter-spec : {M : Type 1} → statement M
 scatter-spec =
@@ -90,16 +84,14 @@ scatter-spec =
     Inv-loop
     μ-loop
     (λ c. search needs)
-    (λ c. search needs)
-    (λ c. search needs)
-    (λ c. let r = can-read c in omega arith)
-    (λ c. search needs)
-    (λ c. search needs)
+    (λ c κs. search needs)
+    (λ c. omega (arith, fits (c .before)))
+    returns
     (λ c κs. search needs)
     put-requires
-    (λ c. let r = can-read (c .before .before .before) in omega arith)
-    (λ c. can-read (c .before .before .before) .width-fits)
+    (λ c. omega (arith, fits (c .before .before .before .before)))
+    (λ c. fits (c .before .before .before .before))
     (λ c. search needs)
     (λ c. search needs)
     loop-again
-    returns)
+    returns-2)
