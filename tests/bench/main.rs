@@ -11,6 +11,7 @@ use model::random::Random;
 use model::table::{self, Family};
 use model::{load, sheet, Model};
 use of000::bench as old;
+use std::collections::HashMap;
 use std::hint::black_box;
 use std::time::Instant;
 
@@ -18,6 +19,7 @@ use std::time::Instant;
 extern "C" {
     fn bench_cut(code: *const u8, length: usize) -> u64;
     fn bench_operands(family: u64, numbers: *const u64, n: usize, words: *const u64, w: usize, ls: *const u64, l: usize) -> u64;
+    fn bench_choose(unit: u64, words: *const u64, w: usize, opcodes: *mut u64, o: usize) -> u64;
     fn bench_immediate(code: *const u8, length: usize, slot: u64, family: u64, number: u64) -> u64;
     fn bench_record(
         code: *const u8,
@@ -119,6 +121,21 @@ fn operands(random: &mut Random) {
             bench_operands(letter as u64, numbers.as_ptr(), numbers.len(), words.as_ptr(), words.len(), ls.as_ptr(), ls.len())
         };
         line(&what, COUNT, "000", ours, || old::operands(letter, &numbers, &bits));
+    }
+}
+
+/// Words of every major opcode that a table has. An opcode of ours is one of 000's, on each word the same.
+fn choices(random: &mut Random) {
+    const COUNT: usize = 48 * 256;
+    for (what, unit, top) in [("A", b'M', 1 << 40), ("B", b'B', 0)] {
+        let words: Vec<u64> = (0..COUNT).map(|_| random.next() >> 24 | top).collect();
+        let bits: Vec<old::Bits> = words.iter().map(|word| old::bits(*word, 0)).collect();
+        let (mut mine, mut other) = (vec![0; COUNT], vec![None; COUNT]);
+        let ours = || unsafe { bench_choose(unit as u64, words.as_ptr(), words.len(), mine.as_mut_ptr(), mine.len()) };
+        line(&format!("choice of opcode and form, {what} words"), COUNT, "000", ours, || old::choose(unit, &bits, &mut other));
+        let (mut theirs_of, mut ours_of) = (HashMap::new(), HashMap::new());
+        let same = |(our, their)| *theirs_of.entry(our).or_insert(their) == their && *ours_of.entry(format!("{their:?}")).or_insert(our) == our;
+        assert!(mine.iter().zip(&other).all(same), "the opcodes differ");
     }
 }
 
@@ -310,6 +327,7 @@ fn main() {
     println!("| What | ns | other side's ns | other side | ratio |\n|---|---|---|---|---|");
     cut(&mut random);
     operands(&mut random);
+    choices(&mut random);
     immediates(&mut random, &model);
     edits(&mut random, &model);
     sheets(&mut random, &model);

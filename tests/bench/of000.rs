@@ -1,5 +1,5 @@
 
-// Appended to 000's lib.rs: its readers, and the start of its `decode_into`, over many inputs. Sums are those of crates/bench.
+// Appended to 000's lib.rs: its readers, its A and B tables, and the start of its `decode_into`, over many inputs. Sums are those of crates/bench.
 pub mod bench {
     use super::*;
     pub type Bits = BitArray<Lsb0, u8>;
@@ -80,6 +80,35 @@ pub mod bench {
             b'X' => x(numbers, words),
             _ => 0,
         }
+    }
+
+    /// An entry of a table: what is answered, 14 where there is no form, with the form's number, and the opcode, or none.
+    fn of_entry(opcode: Opcode, number: u64) -> (u64, Option<Opcode>) {
+        if number == 0 { (14, None) } else { (number, Some(opcode)) }
+    }
+
+    /// Opcode and form of a unit's words, as `decode_into` asks its A and B tables. The opcodes are put out.
+    #[inline(never)]
+    pub fn choose(unit: u8, words: &[Bits], opcodes: &mut [Option<Opcode>]) -> u64 {
+        let mut sum = 0u64;
+        for (bits, put) in words.iter().zip(opcodes) {
+            let word = &bits[0..41];
+            let tag = word[37..41].load::<u8>();
+            let (number, opcode) = match unit {
+                b'M' | b'I' if tag >= 8 => {
+                    let (opcode, form) = get_a_opcode_and_encoding(tag, word);
+                    of_entry(opcode, form as u64)
+                }
+                b'B' => {
+                    let (opcode, form) = get_b_opcode_and_encoding(tag, word);
+                    of_entry(opcode, form as u64)
+                }
+                _ => (14, None),
+            };
+            sum = sum.wrapping_add(number);
+            *put = opcode;
+        }
+        sum
     }
 
     /// The lines of `decode_into` from its start up to the choice of an opcode, the words loaded as numbers.

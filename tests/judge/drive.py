@@ -6,7 +6,8 @@ import contextlib
 import itertools
 
 from model import (
-    FITTING, FORMS, HUGE, NONE, NUMBERS, PLACES, ROWS, UNITS, WORD, Bundle, Model, header, joined, old_fields, operand, report_of, sheet)
+    FITTING, FORMS, HUGE, NONE, NUMBERS, OPCODES, PLACES, ROWS, TABLES, UNITS, WORD, Bundle, Model, bundle_at, choice, header, joined,
+    old_fields, operand, report_of, sheet)
 from standing import Standing
 
 LENGTHS = (0, 1, 15, 16, 17, 31, 32, 33, 48, 100, 65520, 65535, 65536, 65537, 65552, 65600)
@@ -14,8 +15,12 @@ EDGES = (0, 1, 2, 15, 16, 31, 32, 255, 256, 4094, 4095, 4096, 65535, 65536, 1 <<
          (1 << 59) - 1, (1 << 60) - 1, 1 << 60, (1 << 60) + 1, 1 << 63, HUGE - 16, HUGE - 1)
 LETTERS = [ord(letter) for letter in FORMS]
 
-# lines that have a party's number as their first field
-CALLS = "edit", "undo", "sheet", "sheetline", "load"
+# the forms that a word can have
+CHOSEN = sorted({form for form, *_ in OPCODES})
+
+# lines that have a party's number as their first field; the first two are of one kind
+EDITS = "edit", "checked"
+CALLS = *EDITS, "undo", "sheet", "sheetline", "load"
 
 # how many parties a journal is for, and which of them calls
 SIDES = (1, 0), (2, 0), (2, 1)
@@ -73,13 +78,29 @@ class Talk:
             self(f"put {at} {self.random.randbytes(min(65536, length - at)).hex()}")
         self("sum")
 
-    def bundle(self, n, tag):
-        """Puts a random bundle with that tag, where it lies in the code."""
-        data = (self.random.getrandbits(128) & ~31 | tag).to_bytes(16, "little")
-        self(f"put {16 * n} {data.hex()}")
+    def bundle(self, n, tag, words={}):
+        """Puts a random bundle with that tag, and with a word of a form in a slot where one is given, where it lies in the code."""
+        number = self.random.getrandbits(128) & ~31 | tag
+        for slot, name in words.items():
+            number = number & ~(WORD - 1 << 5 + 41 * slot) | word_of(self.random, name) << 5 + 41 * slot
+        self(f"put {16 * n} {number.to_bytes(16, 'little').hex()}")
 
     def any_number(self):
         return self.random.choice((self.random.choice(EDGES), self.random.randrange(70), self.random.getrandbits(64)))
+
+
+def with_bits(word, places, number):
+    """The word with a number's bits at those places."""
+    for i, place in enumerate(places):
+        word = word & ~(1 << place) | (number >> i & 1) << place
+    return word
+
+
+def word_of(random, name):
+    """A word of an A or B form, with any of its opcodes."""
+    mask, pattern, places, names = random.choice([rest for form, *rest in OPCODES if form == name])
+    chosen = random.choice([i for i, opcode in enumerate(names) if opcode != "-"])
+    return with_bits(random.getrandbits(41) & ~mask | pattern, places, chosen)
 
 
 # ---- the protocol
@@ -87,7 +108,7 @@ class Talk:
 SAMPLES = (
     "code 40", "put 0 00ff10", "put 3 -", "get 0 4", "sum", "find 0", "cut 1", "join 20 16 1 2 3", "operands 77 49 0 0",
     "immediate 0 2 66 1", "target 0 2 66 1 16", "open 2", "journal 1 3 0", "journal 2 3 4 70", "place 2 1 2 B1 3 4 5 6 7 1", "records",
-    "edit 0 0 2 66 1 I-16", "undo 1", "sheet 0 100", "sheetline 0 1 100", "load 0 70617463686573093020", "meet 1 2 66 1 1 0 77 44",
+    "choose 77 1099511627776", "edit 0 0 2 66 1 I-16", "checked 0 0 2 66 1 I-16", "undo 1", "sheet 0 100", "sheetline 0 1 100", "load 0 70617463686573093020", "meet 1 2 66 1 1 0 77 44",
     "report", "clear", "clear " + " ".join(map(str, range(NUMBERS))),
 )
 
@@ -249,6 +270,10 @@ def forms(random):
     return random.choice((*LETTERS, 74, 76, 97, 0, 256 + 77, HUGE - 1)), random.choice((0, 1, 10, 11, 17, 49, 256 + 1, HUGE - 1))
 
 
+def name_of(family, number):
+    return f"{chr(family)}{number}" if family < 128 else None
+
+
 def fitting(random, family):
     """A tag and a slot that such a form fits."""
     letters = FITTING.get(chr(family), chr(family)) if family < 128 else "M"
@@ -362,7 +387,9 @@ def random_place(talk):
     inside = len(talk.model.code) // 16
     n = random.randrange(inside) if inside and random.random() < 0.85 else random.choice((inside, inside + 1, *EDGES))
     if n < inside and random.random() < 0.7:
-        talk.bundle(n, random.randrange(32) if random.random() < 0.2 else tag)
+        name = name_of(family, number)
+        words = {slot: name} if name in CHOSEN and random.random() < 0.5 else {}
+        talk.bundle(n, random.randrange(32) if random.random() < 0.2 else tag, words)
     if random.random() < 0.1:
         slot = random.choice((0, 1, 2, 3, 4, 255, 256, 258, HUGE - 1))
     return n, slot, family, number
@@ -487,7 +514,7 @@ def changed_place(one, party):
 
 
 def value_for(random, family, number):
-    row = ROWS.get(f"{chr(family)}{number}") if family < 128 else None
+    row = ROWS.get(name_of(family, number))
     if row is None or random.random() < 0.08:
         return random.choice((*OTHERS, "I16", "U16", "I1", "U1", f"I{-(1 << 63)}", f"U{HUGE - 1}"))
     if random.random() < 0.15:
@@ -496,15 +523,22 @@ def value_for(random, family, number):
     return f"{'I' if row.signed else 'U'}{value}"
 
 
-def row_edits(talk):
-    """Each row's ends and just outside, in every slot that it fits, with the neighbouring bits at random."""
+def any_value(random, name):
+    """A number that the form's row takes; any where it has none."""
+    row = ROWS.get(name)
+    return f"{row.kind()}{row.value(random.getrandbits(row.width))}" if row else "I0"
+
+
+def row_edits(talk, call):
+    """Each row's ends and just outside, in every slot that it fits, with the neighbouring bits at random; of a checked edit the word has the
+    form, if a word can."""
     for name, tag, slot in slots_of_rows():
         talk.any_side()
         talk("code 48")
         put_journal(talk, [])
         for value in operands_of(ROWS[name]):
-            talk.bundle(1, tag)
-            talk.call(f"edit 1 {slot} {ord(name[0])} {name[1:]} {value}")
+            talk.bundle(1, tag, {slot: name} if call == "checked" and name in CHOSEN else {})
+            talk.call(f"{call} 1 {slot} {ord(name[0])} {name[1:]} {value}")
             talk("get 0 48")
             talk(f"immediate 1 {slot} {ord(name[0])} {name[1:]}")
             if talk.random.random() < 0.5:
@@ -514,13 +548,20 @@ def row_edits(talk):
         shown(talk)
 
 
+def some_words(random, tag):
+    """For the slots of a bundle with that tag forms of their words, of those with a row, or none."""
+    fit = {slot: [name for name in CHOSEN if name in ROWS and name[0] == TABLES.get(unit)] for slot, unit in enumerate(UNITS[tag])}
+    return {slot: random.choice(names) for slot, names in fit.items() if names and random.random() < 0.7}
+
+
 def begun(talk, length, bundles):
     """A random code with a journal in which the party has no record and so many bundles that will be edited, and its standing edits."""
     random = talk.random
     talk.fill(length)
     busy = [random.randrange(length // 16) for _ in range(bundles)]
     for n in busy:
-        talk.bundle(n, random.choice(list(UNITS)))
+        tag = random.choice(list(UNITS))
+        talk.bundle(n, tag, some_words(random, tag))
     put_journal(talk, [])
     return busy, Standing(talk.model.code, talk.room())
 
@@ -566,13 +607,16 @@ def step(talk, standing, busy, undoing):
     units = UNITS.get(standing.code[16 * n] % 32, "MII")
     slot = random.randrange(3)
     names = [name for name in ROWS if units[slot] in FITTING[name[0]]] or list(ROWS)
-    name = random.choice(names)
+    chosen = choice(units[slot], bundle_at(standing.code, n).words[slot])
+    own = [chosen[0]] if chosen and chosen[0] in ROWS else []
+    call = random.choice(EDITS)
+    name = random.choice(own or names if call == "checked" and random.random() < 0.8 else names)
     family, number = ord(name[0]), int(name[1:])
     if random.random() < 0.15:
         n, slot, (family, number) = random.choice((n, talk.any_number())), random.choice((slot, 3, HUGE - 1)), forms(random)
     value = value_for(random, family, number)
-    taken = talk.call(f"edit {n} {slot} {family} {number} {value}") == "edit 0"
-    same(talk, standing, taken, standing.edit(n, slot, family, number, *operand(value)), n)
+    taken = talk.call(f"{call} {n} {slot} {family} {number} {value}") == f"{call} 0"
+    same(talk, standing, taken, standing.edit(call == "checked", n, slot, family, number, *operand(value)), n)
 
 
 def undo(talk, standing):
@@ -627,14 +671,15 @@ def number_at(code, n):
 
 
 def branches(talk):
-    """A code of 64 bundles whose slot 2 is a branch."""
+    """A code of 64 bundles whose slot 2 has a branch."""
     talk("code 1024")
     for n in range(64):
-        talk.bundle(n, 16)
+        talk.bundle(n, 16, {2: "B1"})
 
 
 REFUSED = (
-    "edit 64 2 66 1 I16", "edit 5 2 66 1 I16", "edit 0 2 66 4 I16", "edit 0 1 66 1 I16", "edit 0 2 66 1 U16", "edit 0 2 66 1 I8", "undo",
+    "edit 64 2 66 1 I16", "edit 5 2 66 1 I16", "edit 0 2 66 4 I16", "edit 0 1 66 1 I16", "edit 0 2 66 1 U16", "edit 0 2 66 1 I8",
+    "checked 0 2 66 2 I16", "checked 0 0 77 44 U7", "checked 0 2 66 1 I8", "undo",
     "code 65537", "edit 0 2 66 1 I16", "undo", "code 0", "edit 0 2 66 1 I16", "undo",
 )
 
@@ -653,7 +698,7 @@ def refused_calls(talk):
             n, slot, *rest = talk.model.places[talk.own().first + i][0]
             for one in ((64, slot, *rest), (4096, slot, *rest), (n, 3, *rest), (n, slot, *rest)):
                 put_record(talk, i, one)
-                for line in ("edit 0 2 66 1 I16", "undo", "undo"):
+                for line in ("edit 0 2 66 1 I16", "undo", "checked 0 2 66 1 I16", "undo", "undo"):
                     with_records(talk, line)
 
 
@@ -691,7 +736,7 @@ def refusals(talk, count):
             talk.call("undo")
         else:
             n, slot, family, number = talk.random_place()
-            talk.call(f"edit {n} {slot} {family} {number} {value_for(random, family, number)}")
+            talk.call(f"{random.choice(EDITS)} {n} {slot} {family} {number} {value_for(random, family, number)}")
         if random.random() < 0.5:
             talk.call("undo")
         if random.random() < 0.2 and len(talk.model.code) >= 16:
@@ -813,14 +858,114 @@ def tested(talk):
 def journals(talk):
     full(talk)
     names(talk)
-    wrong_in_one(talk, ("edit 63 2 66 1 I-16", "undo", "edit 63 0 77 44 U7"))
+    wrong_in_one(talk, ("edit 63 2 66 1 I-16", "undo", "checked 63 2 66 1 I-16", "edit 63 0 77 44 U7"))
     tested(talk)
-    row_edits(talk)
+    row_edits(talk, "edit")
     refused_calls(talk)
-    slices(talk, ("edit 0 2 66 1 I-16", "edit 0 2 66 1 I8", "edit 0 2 66 4 I16", "edit 64 2 66 1 I16", "undo"))
+    slices(talk, ("edit 0 2 66 1 I-16", "checked 0 2 66 1 I-32", "edit 0 2 66 1 I8", "edit 0 2 66 4 I16", "edit 64 2 66 1 I16", "undo"))
     runs(talk, 100, 250)
     long_runs(talk)
     refusals(talk, 16000)
+
+
+# ---- opcode and form of a word, and checked edits
+
+def choices(talk):
+    every_choice(talk)
+    row_edits(talk, "checked")
+    other_forms(talk)
+    near_words(talk)
+    faulty(talk)
+
+
+def every_choice(talk):
+    """Words with every value of the bits that the tables look at, the others at random; every unit, and numbers that are none."""
+    random = talk.random
+    for unit, family in TABLES.items():
+        looked_at = [(mask, own) for form, mask, _, own, _ in OPCODES if form[0] == family]
+        places = [place for place in range(41) if any(mask >> place & 1 or place in own for mask, own in looked_at)]
+        for number in range(1 << len(places)):
+            talk(f"choose {ord(unit)} {with_bits(random.getrandbits(41), places, number)}")
+    for unit in (*range(256), *(by + ord(unit) for by in (256, 1 << 32, 1 << 63) for unit in "MIB"), HUGE - 1):
+        for word in (*(word_of(random, name) for name in CHOSEN), *EDGES, random.getrandbits(41), random.getrandbits(64)):
+            talk(f"choose {unit} {word}")
+
+
+def other_forms(talk):
+    """A word of each form, in a slot that it fits: a checked edit by every form, the plain one, and the checked one of the word that this
+    left."""
+    random = talk.random
+    for own in CHOSEN:
+        talk.any_side()
+        put_journal(talk, [])
+        for family, number in ((family, number) for family, numbers in FORMS.items() for number in numbers):
+            tag, slot = fitting(random, ord(own[0]))
+            talk("code 16")
+            talk.bundle(0, tag, {slot: own})
+            value = any_value(random, f"{family}{number}")
+            for call in ("checked", "edit", "checked"):
+                talk.call(f"{call} 0 {slot} {ord(family)} {number} {value}")
+                talk(f"choose {ord(UNITS[tag][slot])} {bundle_at(talk.model.code, 0).words[slot]}")
+            talk("get 0 16")
+            if talk.own().count > 40:
+                put_journal(talk, [])
+
+
+def near_words(talk):
+    """Words that are one bit away from one that has the form, by every bit."""
+    random = talk.random
+    talk.any_side()
+    talk("code 16")
+    for name, bit in itertools.product((name for name in CHOSEN if name in ROWS), range(41)):
+        tag, slot = fitting(random, ord(name[0]))
+        talk.bundle(0, tag, {slot: name})
+        number = number_at(talk.model.code, 0) ^ 1 << 5 + 41 * slot + bit
+        talk(f"put 0 {number.to_bytes(16, 'little').hex()}")
+        talk(f"open {talk.parties}")
+        talk.call(f"checked 0 {slot} {ord(name[0])} {name[1:]} {any_value(random, name)}")
+        talk("get 0 16")
+
+
+ORDER = 10, 1, 2, 3, 5, 14, 6, 11, 7
+
+
+def faulty(talk):
+    """Edits with no fault, with each alone, with each two that can be had together, and with some three: the first in order is answered."""
+    sets = [faults for count in range(4) for faults in itertools.combinations(ORDER, count)]
+    for side, faults in itertools.product(SIDES, sets):
+        if not {1, 2} <= {*faults} and (len(faults) < 3 or talk.random.random() < 0.3):
+            talk.side(*side)
+            line = with_faults(talk, faults)
+            for call in EDITS:
+                wanted = [fault for fault in faults if call == "checked" or fault != 14]
+                said = talk.call(f"{call} {line}")
+                have = [number for number, applies in talk.model.reasons if applies]
+                assert have == wanted and said == f"{call} {(*wanted, 0)[0]}", f"{talk.lines[-1]} has the faults {have} and not {wanted}"
+                shown(talk, 1)
+                if not wanted:
+                    talk.call("undo")
+
+
+def with_faults(talk, faults):
+    """A code, a journal and an edit with these faults and no others: its bundle, slot, form and value. One without faults sets a branch in
+    slot 2 of MIB."""
+    random, faults = talk.random, {*faults}
+    own = named = random.choice(("B4", "B5") if 3 in faults else ("B1", "B2", "B3"))
+    if 14 in faults and faults & {1, 2, 5}:
+        named = random.choice(("M1", "I2", "F1") if 3 in faults else ("M44", "I18", "F15", "X1"))
+    elif 14 in faults:
+        own = random.choice(("B6", "B7", "B8"))
+    length = 65552 if 10 in faults else 64
+    talk(f"code {length}")
+    talk.bundle(1, random.choice((6, 7, 20, 21)) if 2 in faults else 16, {2: own})
+    put_journal(talk, [NONE] * (talk.room() if 7 in faults else random.randrange(3)))
+    if 11 in faults:
+        put_record(talk, talk.room() - 1, (4096, *NONE[1:]))
+    # an M, I, F or X form doesn't fit the unit B, if there is one
+    far = 5 in faults and (own == named or faults & {1, 2} or random.random() < 0.5)
+    n, slot = length // 16 if 1 in faults else 1, random.choice((3, 258, HUGE - 1)) if far else 2
+    value = "None" if 6 in faults else any_value(random, named)
+    return f"{n} {slot} {ord(named[0])} {named[1:]} {value}"
 
 
 # ---- whether two edits meet, and the order of edits that don't
@@ -861,8 +1006,7 @@ def taken_edit(random, busy, code):
     n = random.choice(busy)
     units = UNITS[code[16 * n] % 32]
     slot, name = random.choice([(slot, name) for slot in range(3) for name in ROWS if units[slot] in FITTING[name[0]]])
-    row = ROWS[name]
-    return (n, slot, ord(name[0]), int(name[1:])), f"{row.kind()}{row.value(random.getrandbits(row.width))}"
+    return (n, slot, ord(name[0]), int(name[1:])), any_value(random, name)
 
 
 def code_after(talk, first, edits):
@@ -889,8 +1033,7 @@ def pairs(talk, count):
         first = standing.first
         one, other = taken_edit(random, busy, first), taken_edit(random, busy, first)
         if random.random() < 0.2:
-            row = ROWS[f"{chr(one[0][2])}{one[0][3]}"]
-            other = one[0], f"{row.kind()}{row.value(random.getrandbits(row.width))}"
+            other = one[0], any_value(random, name_of(*one[0][2:]))
         apart = are_apart(talk, one, other)
         assert apart == are_apart(talk, other, one), "whether two edits meet goes by their order"
         codes = code_after(talk, first, [one, other]), code_after(talk, first, [other, one])
@@ -1168,7 +1311,7 @@ def step_or_sheet(talk, standing, busy):
 ANY_PARTY = 0, 1, 2, 3, 4, 255, 256, 257, 258, (1 << 32) + 1, (1 << 32) + 2, 1 << 63, HUGE - 1
 
 EVERY_CALL = (
-    "edit 0 2 66 1 I16", "edit 0 2 66 1 I8", "edit 64 2 66 1 I16", "sheet 200", "sheet 0", "sheetline 0 200", "sheetline 1 200", "undo", "undo",
+    "edit 0 2 66 1 I16", "checked 0 2 66 1 I32", "edit 0 2 66 1 I8", "edit 64 2 66 1 I16", "sheet 200", "sheet 0", "sheetline 0 200", "sheetline 1 200", "undo", "undo",
     *(f"load {text.hex()}" for text in (sheet([EXAMPLE])[:-1], sheet([EXAMPLE]), sheet([old_fields(EXAMPLE)] * 2), sheet([]))),
 )
 
@@ -1205,7 +1348,8 @@ def some_counts(talk):
             talk(f"journal {parties} {lower} {upper}")
             for i in range(filled):
                 zero_of_1(talk, i)
-            for line in ("edit 0 2 66 1 I16", "undo", f"sheet {LONGEST}", "sheetline 1 100", f"load {sheet([EXAMPLE]).hex()}"):
+            text = sheet([EXAMPLE]).hex()
+            for line in ("edit 0 2 66 1 I16", "checked 0 2 66 1 I32", "undo", f"sheet {LONGEST}", "sheetline 1 100", f"load {text}"):
                 talk.side(parties, talk.random.randrange(2))
                 with_records(talk, line)
 
@@ -1266,7 +1410,7 @@ def wandered(talk, side):
     kind = random.random()
     if kind < 0.4:
         n, slot, family, number = talk.random_place()
-        talk.call(f"edit {n} {slot} {family} {number} {value_for(random, family, number)}")
+        talk.call(f"{random.choice(EDITS)} {n} {slot} {family} {number} {value_for(random, family, number)}")
     elif kind < 0.65:
         talk.call("undo")
     elif kind < 0.75:
@@ -1335,6 +1479,7 @@ STAGES = {
     "readers": (("operands",), refused_operands),
     "immediate": (("immediate", "target"), immediates),
     "journal": (("open", "journal", "place", "records", "edit", "undo"), journals),
+    "choice": (("choose", "checked"), choices),
     "meet": (("meet",), meetings),
     "sheet": (("sheet", "sheetline", "load"), sheets),
     "tally": (("report", "clear"), reports),
@@ -1344,7 +1489,9 @@ STAGES = {
 # sheet is never too long for a journal of one party
 TOGETHER = {
     "find": "10 1", "cut": "10 1 2", "join": "4 2 12", "operands": "3 4", "immediate": "10 1 2 3 5", "target": "10 1 2 3 5 6",
+    "choose": "4 14",
     **{f"edit of {parties}": "10 1 2 3 5 6 11 7" for parties in (1, 2)},
+    **{f"checked of {parties}": "10 1 2 3 5 14 6 11 7" for parties in (1, 2)},
     **{f"undo of {parties}": "10 11 8 1 9" for parties in (1, 2)},
     **{f"{call} of {parties}": "11 12" for parties in (1, 2) for call in ("sheet", "sheetline")},
     "load of 1": "11 13", "load of 2": "11 13 7",

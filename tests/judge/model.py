@@ -1,6 +1,6 @@
-"""Document 01 and the lines of `probe`, in Python: what each line is to be answered.
+"""Document 01, with 02's requests, and the lines of `probe`, in Python: what each line is to be answered.
 
-Written from the two papers and not from the Rattle; forms, units, stops and rows are those of ../table. A `Model` answers line by line, as the
+Written from the papers and not from the Rattle; forms, units, stops, rows and opcodes are those of ../table. A `Model` answers line by line, as the
 program does.
 """
 import functools
@@ -11,7 +11,7 @@ import sys
 
 sys.path.append(str(pathlib.Path(__file__).resolve().parents[1] / "table"))
 import table
-from table import FITTING, FORMS, STOPS, UNITS
+from table import FITTING, FORMS, OPCODES, STOPS, UNITS
 
 MOST, WORD, PLACES = 65536, 1 << 41, 1024
 HUGE = 1 << 64
@@ -118,6 +118,30 @@ def bits_of(slot, family, form):
 def meet(one, other):
     """Whether two edits set a bit in common."""
     return one[0] == other[0] and not bits_of(*one[1:]).isdisjoint(bits_of(*other[1:]))
+
+
+# the family whose table has the words of a unit
+TABLES = {"M": "A", "I": "A", "B": "B"}
+
+
+def choice(unit, word):
+    """The form and the opcode of a unit's word, by 000's tables, or nothing."""
+    found = []
+    for form, mask, pattern, places, names in OPCODES:
+        if TABLES.get(unit) == form[0] and word & mask == pattern:
+            chosen = sum((word >> place & 1) << i for i, place in enumerate(places))
+            found += [(form, name) for name in names[chosen:chosen + 1] if name != "-"]
+    assert len(found) <= 1
+    return found[0] if found else None
+
+
+def other_form(bundle, slot, family, form):
+    """Whether a form isn't the word's: those of M, I, F and X never are, and of a word that isn't there nothing is said."""
+    if family not in tuple(b"AB"):
+        return True
+    units = bundle.units if bundle and slot <= 2 else None
+    chosen = units and choice(units[slot], bundle.words[slot])
+    return bool(units) and (not chosen or chosen[0] != f"{chr(family)}{form}")
 
 
 def first(reasons):
@@ -454,6 +478,15 @@ class Model:
             return f"target {answer} 0"
         return f"target 0 {(address + row.read([bundle.words[slot], bundle.words[1]])) % HUGE}"
 
+    # opcode and form of a word
+
+    def on_choose(self, unit, word):
+        unit, word = number(unit), number(word)
+        chosen = choice(chr(unit), word) if unit < 128 else None
+        answer = self.refused([(4, word >= WORD), (14, chosen is None)])
+        form, opcode = ("-", "-") if answer else chosen
+        return f"choose {answer} {form} {opcode}"
+
     # whether two edits meet, by the table alone
 
     def on_meet(self, n, slot, family, form, other_n, other_slot, other_family, other_form):
@@ -519,7 +552,8 @@ class Model:
         part = self.part_of(party)
         return (11, part is None or not self.valid()), part
 
-    def on_edit(self, party, n, slot, family, form, value):
+    def edited(self, checked, party, n, slot, family, form, value):
+        """What an edit answers, and it is made where it is taken; a checked one is refused where the form isn't the word's."""
         party, n, slot, family, form = number(party), number(n), number(slot), number(family), number(form)
         value = operand(value.decode("ascii"))
         if value is None:
@@ -527,6 +561,8 @@ class Model:
         kind, value = value
         row = row_of(family, form)
         reasons, bundle = self.of_slot(n, slot, family, form, row)
+        if checked:
+            reasons.append((14, other_form(bundle, slot, family, form)))
         wrong = kind not in "IU" or bool(row and (kind != row.kind() or not row.takes(value)))
         invalid, part = self.of_journal(party)
         answer = self.refused(reasons + [(6, wrong), invalid, (7, part and part.count == part.places)])
@@ -535,7 +571,13 @@ class Model:
             self.write(16 * n, bundle.with_value(slot, row, value))
             self.place(part.end(), (n, slot, f"{chr(family)}{form}", value % HUGE, *old, *self.halves(n)), party)
             part.count += 1
-        return f"edit {answer}"
+        return answer
+
+    def on_edit(self, party, n, slot, family, form, value):
+        return f"edit {self.edited(False, party, n, slot, family, form, value)}"
+
+    def on_checked(self, party, n, slot, family, form, value):
+        return f"checked {self.edited(True, party, n, slot, family, form, value)}"
 
     def on_undo(self, party):
         party = number(party)

@@ -2,7 +2,7 @@
 
 After every call the code is the first code with the standing edits made in order.
 """
-from model import HUGE, MOST, ROWS, bundle_at, row_of, taken
+from model import HUGE, MOST, ROWS, bundle_at, other_form, row_of, taken
 
 
 def made(data, edit):
@@ -18,15 +18,17 @@ class Standing:
     def __init__(self, code, places):
         self.first, self.code, self.edits, self.whole, self.places = bytes(code), bytearray(code), [], 0, places
 
-    def acceptable(self, n, slot, family, form, kind, value):
-        """Whether the code as it stands takes the edit."""
+    def acceptable(self, checked, n, slot, family, form, kind, value):
+        """Whether the code as it stands takes the edit, or the checked edit."""
         bundle, row = bundle_at(self.code, n), row_of(family, form)
-        return bool(
-            len(self.code) <= MOST and bundle and row and kind == row.kind() and taken(bundle, slot, chr(family), row, value))
-
-    def edit(self, n, slot, family, form, kind, value):
-        if not self.acceptable(n, slot, family, form, kind, value) or len(self.edits) == self.places:
+        if not (len(self.code) <= MOST and bundle and row and kind == row.kind() and taken(bundle, slot, chr(family), row, value)):
             return False
+        return not (checked and other_form(bundle, slot, family, form))
+
+    def edit(self, *edit):
+        if not self.acceptable(*edit) or len(self.edits) == self.places:
+            return False
+        _, n, slot, family, form, _, value = edit
         self.edits.append((n, slot, f"{chr(family)}{form}", value))
         self.code[16 * n:16 * n + 16] = made(self.code[16 * n:16 * n + 16], self.edits[-1])
         return True

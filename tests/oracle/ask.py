@@ -72,16 +72,38 @@ def cut_by_000(said):
     return b"cut 2 %s - 0 0 0" % tag if units == b"BadBundle" else b"cut 0 " + said
 
 
+def for_000(name, line):
+    """A question as the oracle reads it."""
+    return b"cut " + line if name == "cuts" else b"choose " + line if name in words.CHOICES else line
+
+
+def by_000(name, said):
+    """An answer of the oracle's in `probe`'s words. Where its table has no form, the choice is refused by 14."""
+    if name == "cuts":
+        return cut_by_000(said)
+    if name in words.CHOICES:
+        return b"choose 14 - -" if said == b"- -" else b"choose 0 " + said
+    return b"operands 0 " + said
+
+
 def of_000(questions):
     """What 000 answers, in `probe`'s words."""
-    lines = [line for name in words.FORMS for line in questions[name]] + [b"cut " + data for data in questions["cuts"]]
+    lines = [for_000(name, line) for name, asked in questions.items() for line in asked]
     found = parted(questions, answers(ORACLE, lines))
-    return {name: [cut_by_000(line) if name == "cuts" else b"operands 0 " + line for line in said] for name, said in found.items()}
+    return {name: [by_000(name, line) for line in said] for name, said in found.items()}
+
+
+def for_probe(name, asked):
+    """Questions as `probe` reads them."""
+    if name == "cuts":
+        return [b"cut %d" % n for n in range(len(asked))]
+    call = b"choose " if name in words.CHOICES else b"operands "
+    return [call + line for line in asked]
 
 
 def of_probe(questions):
     """What the compiled library answers."""
     bundles = questions["cuts"]
     code = [b"code %d" % (16 * len(bundles)), b"put 0 " + b"".join(bundles)]
-    lines = [b"operands " + line for name in words.FORMS for line in questions[name]] + [b"cut %d" % n for n in range(len(bundles))]
+    lines = [line for name, asked in questions.items() for line in for_probe(name, asked)]
     return parted(questions, answers(PROBE, code + lines)[len(code):])

@@ -1,5 +1,5 @@
 """The file digests: a line for each form, with the parts that 000's reader takes, the number of its readings for the seed 1, and the digest
-of 000's answers to them; and a line for the cuts."""
+of 000's answers to them; and a line for each unit's choices and for the cuts."""
 import hashlib
 
 import ask
@@ -13,7 +13,7 @@ def digest(lines, said):
 
 
 def table(taken, questions, said):
-    """The file's lines, by form, for these answers."""
+    """The file's lines, by name, for these answers."""
     shown = {name: " ".join(f"{'L' * which}{start}..{end}" for which, start, end in taken.get(name, [])) for name in questions}
     return {name: f"{name}\t{shown[name]}\t{len(lines)}\t{digest(lines, said[name])}" for name, lines in questions.items()}
 

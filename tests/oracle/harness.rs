@@ -2,6 +2,7 @@
 // Appended to 000's lib.rs: answers lines about its private readers and about how it cuts a bundle.
 //   F N WORD L     POS O0 O1 O2 O3 O4: what the reader of that form reads (F the family's byte)
 //   parts F N WORD L   the bit parts that it looks at on the way, as 6..13, those of the L word after an L
+//   choose U WORD  FORM OPCODE: what its A or B table has for a word of that unit (U the letter's byte), or - -
 //   cut HEX32      TAG UNITS W0 W1 W2, the units with their stops as `MI;I;`, or TAG BadBundle W0 W1 W2
 fn main() {
     harness::main()
@@ -143,6 +144,25 @@ mod harness {
         Some(())
     }
 
+    /// What the table that `decode_into` asks has for the word: an M or I word whose major opcode is 8 or more is an A word. An entry
+    /// without a form, and a word that is for neither table, is `- -`.
+    fn choose(out: &mut impl Write, fields: &[&str]) -> Option<()> {
+        let [unit, word] = fields else { return None };
+        let bits = Bits::of_words(word.parse().ok()?, 0);
+        let word = &bits[0..41];
+        let major = word[37..41].load::<u8>();
+        let (opcode, form) = match unit.parse().ok()? {
+            b'M' | b'I' if 8 <= major => named_entry(get_a_opcode_and_encoding(major, word)),
+            b'B' => named_entry(get_b_opcode_and_encoding(major, word)),
+            _ => return write!(out, "- -").ok(),
+        };
+        if form == "None" { write!(out, "- -").ok() } else { write!(out, "{form} {opcode}").ok() }
+    }
+
+    fn named_entry<E: fmt::Debug>((opcode, form): (Opcode, E)) -> (String, String) {
+        (format!("{opcode:?}"), format!("{form:?}"))
+    }
+
     /// The units, with `;` after each that a stop follows, by the bits that 000's `Display` looks at.
     fn marked((units, stops): BundleDesc) -> String {
         units.iter().zip([0b100, 0b010, 0b001]).map(|(unit, bit)| format!("{unit}{}", if stops & bit > 0 { ";" } else { "" })).collect()
@@ -185,6 +205,7 @@ mod harness {
         while 0 < input.read_line(&mut line).expect("standard input") {
             let fields: Vec<&str> = line.trim_end().split(' ').collect();
             let known = match fields[0] {
+                "choose" => choose(&mut out, &fields[1..]),
                 "cut" => cut(&mut out, &fields[1..]),
                 "parts" => parts(&mut out, &fields[1..]),
                 _ => reading(&mut out, &fields),

@@ -1,4 +1,4 @@
-"""What is compared: words to read each of the 118 forms from, and bundles to cut.
+"""What is compared: words to read each of the 118 forms from, words to choose opcode and form of, and bundles to cut.
 
 A form is named as in `M48`. A part of its words is (which, start, end), where which is 0 for the word itself and 1 for the L word.
 """
@@ -57,6 +57,33 @@ def words_of(form, taken, seed):
         yield chance.getrandbits(BITS), chance.getrandbits(wide)
 
 
+# the bits by which 000's A and B tables decide, of the first of which bit 40 is set, and the units that each is for
+A_BITS = (12, *range(27, 40))
+B_BITS = (3, 4, 6, 7, 8, 12, *range(27, 36), *range(37, 41))
+CHOICES = {"choose M": (A_BITS, 1 << 40), "choose I": (A_BITS, 1 << 40), "choose B": (B_BITS, 0)}
+
+
+def spread(places, number):
+    """The number's bits, set at these places."""
+    return sum((number >> i & 1) << place for i, place in enumerate(places))
+
+
+def chosen_from(name, word):
+    """A choice's line, `U WORD`."""
+    return b"%d %d" % (ord(name[-1]), word)
+
+
+def choices(seed):
+    """For each unit the lines of its choices: every value of the bits that decide, the others at random."""
+    found = {}
+    for name, (places, fixed) in CHOICES.items():
+        chance = random.Random(f"{seed} {name}")
+        others = ONES & ~spread(places, -1)
+        words = (spread(places, number) | fixed | chance.getrandbits(BITS) & others for number in range(1 << len(places)))
+        found[name] = [chosen_from(name, word) for word in words]
+    return found
+
+
 def bundles(seed):
     """Sixteen bytes each, in hex: random ones, each tag with each of them, and ones with a bit or a byte changed."""
     chance = random.Random(f"{seed} cuts")
@@ -70,6 +97,7 @@ def bundles(seed):
 
 
 def questions(seed, taken):
-    """All that is compared: for each form, by the parts that its reader takes, the lines of its readings; then the bundles of `cuts`."""
+    """All that is compared: for each form, by the parts that its reader takes, the lines of its readings; for each unit those of its choices;
+    then the bundles of `cuts`."""
     lines = {form: [asked(form, *pair) for pair in words_of(form, taken[form], seed)] for form in FORMS}
-    return {**lines, "cuts": bundles(seed)}
+    return {**lines, **choices(seed), "cuts": bundles(seed)}

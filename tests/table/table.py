@@ -45,3 +45,21 @@ ROWS = {
     form: ([part(text) for text in parts.split(", ")], {"signed": True, "unsigned": False}[kind], *meaning(fields))
     for forms, parts, kind, *fields in lines("rows.txt") for form in forms.split(", ")
 }
+
+
+def places(text):
+    """The places of `12, 33`, of `27..32`, or of none."""
+    return [] if text == "-" else [place for one in text.split(", ") for place in span(one)]
+
+
+def fixed(text):
+    """(mask, pattern) of `37..40=8, 33=0`."""
+    mask = pattern = 0
+    for bits, value in (one.split("=") for one in text.split(", ")):
+        mask |= sum(1 << place for place in span(bits))
+        pattern |= int(value) << span(bits)[0]
+    return mask, pattern
+
+
+# a form's opcodes: the form, mask and pattern of its words, the places that choose, and what they choose
+OPCODES = [(form, *fixed(bits), places(choosing), names.split(", ")) for form, bits, choosing, names in lines("opcodes.txt")]

@@ -1,4 +1,4 @@
--- What a call answers: `accepted`, or document 01's number of the refusal. Assumes nothing.
+-- What a call answers: `accepted`, or the number of the refusal, by 01 and 02. Assumes nothing.
 use Prim.Native.Nat.{ℕ}
 use mathlib.Core.Bool.{Bool, true, false, cond}
 use mathlib.Core.List.{List, [], _∷_}
@@ -45,6 +45,9 @@ noRoom = 12
 
 abbrev pub badSheet : ℕ
 badSheet = 13
+
+abbrev pub badOpcode : ℕ
+badOpcode = 14
 
 -- a refusal, with whether it applies
 abbrev pub Refusal : Type 0

@@ -1,4 +1,4 @@
-// What a call answers: 0 where it accepts, and document 01's number of the refusal where it does not.
+// What a call answers: 0 where it accepts, and the number of the refusal, by 01 and 02, where it does not.
 pub const ACCEPTED: u8 = 0;
 
 pub const EXHAUSTED_INPUT: u8 = 1;
@@ -26,3 +26,5 @@ pub const BAD_JOURNAL: u8 = 11;
 pub const NO_ROOM: u8 = 12;
 
 pub const BAD_SHEET: u8 = 13;
+
+pub const BAD_OPCODE: u8 = 14;

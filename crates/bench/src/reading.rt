@@ -1,4 +1,4 @@
-// Calls that read: `cut`, `operands`, `immediate`, a record's test, the listing and the report.
+// Calls that read: `cut`, `operands`, `choose`, `immediate`, a record's test, the listing and the report.
 use crate::sum;
 use crate::sum::plus;
 use form::Form;
@@ -32,6 +32,21 @@ pub extern "C" fn bench_operands(family: u64, numbers: &[u64], words: &[u64], ls
         let read = readers::operands(form, words[i], sum::at(ls, i));
         let reading = read.reading;
         sum = plus(sum, sum::of_reading(reading));
+        i += 1;
+    }
+    sum
+}
+
+// Opcode and form of a unit's words. The opcodes are put out, each by its place.
+#[no_mangle]
+pub extern "C" fn bench_choose(unit: u64, words: &[u64], opcodes: &mut [u64]) -> u64 {
+    let mut sum = 0;
+    let mut i = 0;
+    while i < words.len() {
+        let chosen = choice::choose(unit, words[i]);
+        let opcode = chosen.opcode;
+        sum::put(opcodes, i, opcode_name::place(opcode));
+        sum = plus(sum, plus(chosen.answer as u64, chosen.form.number));
         i += 1;
     }
     sum

@@ -15,6 +15,13 @@ pub fn at(numbers: &[u64], i: usize) -> u64 {
     if i < numbers.len() { numbers[i] } else { 0 }
 }
 
+// Puts a number at a place, unless it is past the last.
+pub fn put(numbers: &mut [u64], i: usize, n: u64) {
+    if i < numbers.len() {
+        numbers[i] = n;
+    }
+}
+
 pub fn of_bundle(cut: Bundle) -> u64 {
     let units = cut.template.units;
     let stops = cut.template.stops;

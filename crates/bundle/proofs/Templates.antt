@@ -50,3 +50,8 @@ units-by-half tag h = same→eq eqb eqb→eq _ _ (checked (λ t. same eqb (units
 -- flags that are the stops at every tag
 pub stops-are : (flags : ℕ → List Bool) → T (below (λ t. same Bool·beq (flags t) (stopsOf t)) 32) → (tag : ℕ) → tag < 32 → flags tag ≡ stopsOf tag
 stops-are flags t tag h = same→eq Bool·beq beq→eq (flags tag) (stopsOf tag) (checked (λ k. same Bool·beq (flags k) (stopsOf k)) 32 t tag h)
+
+-- a tag has three units
+pub three-units : (tag : ℕ) → length (unitsOf tag) ≡ 3
+unfolding unitsOf
+three-units tag = eqb→eq _ 3 (held (λ _ line. eqb (length (unitsInLine line)) 3) tag templates noUnits tt tt)

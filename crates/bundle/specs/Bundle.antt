@@ -7,7 +7,7 @@ use lib.ListN.{length, getD, take, drop}
 use Rattle.answer.specs.Answer.{Refusal, first, outcome, exhaustedInput, badBundle, badWord, tooLong, noRoom}
 use Rattle.bits.specs.Part.{part, above}
 use Rattle.bundle.specs.Bytes.{number, bytes}
-use Rattle.bundle.specs.Template.{reserved, templateOf, noTemplate}
+use Rattle.bundle.specs.Template.{unitsOf, reserved, templateOf, noTemplate}
 use Rattle.bundle.specs.declared.Bundle.{Bundle}
 use Rattle.bundle.specs.declared.Loaded.{Loaded}
 use Rattle.bundle.specs.declared.half.Halves.{Halves}
@@ -46,6 +46,17 @@ slotOf n i = part n (5 + 41 * i) 41
 
 abbrev pub slotsOf : ℕ → List ℕ
 slotsOf n = slotOf n 0 ∷ slotOf n 1 ∷ slotOf n 2 ∷ []
+
+-- a bundle's units
+abbrev pub unitsIn : ℕ → List ℕ
+unitsIn n = unitsOf (tagOf n)
+
+-- the unit of a slot, and the word in it
+abbrev pub unitAt : ℕ → ℕ → ℕ
+unitAt n slot = getD (unitsIn n) slot 0
+
+abbrev pub wordAt : ℕ → ℕ → ℕ
+wordAt n slot = getD (slotsOf n) slot 0
 
 -- the number of a tag and three slots
 abbrev pub joined : ℕ → List ℕ → ℕ

@@ -5,6 +5,7 @@ mod template;
 pub use half::Halves;
 pub use half::bits_from;
 pub use half::put;
+pub use half::slots;
 pub use half::write;
 pub use template::Template;
 pub use template::template_of;

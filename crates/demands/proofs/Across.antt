@@ -15,7 +15,7 @@ use Rattle.bits.proofs.Laws.{part-lt}
 use Rattle.bundle.specs.Bundle.{longestCode, halvesOf}
 use Rattle.bundle.proofs.Bytes.{Bytes}
 use Rattle.records.specs.Journal.{limit}
-use Rattle.journal.specs.Edit.{Outcome}
+use Rattle.journal.specs.Change.{Outcome}
 use Rattle.demands.specs.Demand3.{Call, step, run}
 use Rattle.demands.proofs.Changes.{OfChanges}
 use Rattle.demands.proofs.Run.{same-step, holds, run-valid, run-all}

@@ -24,11 +24,10 @@ use Rattle.record.specs.declared.Record.{Record}
 use Rattle.record.proofs.Laws.{edit-passes, whole-passes}
 use Rattle.records.specs.Journal.{all}
 use Rattle.records.proofs.Standing.{all-append}
-use Rattle.journal.specs.Edit.{rewritten}
-use Rattle.journal.proofs.Laws.{taken-changes, taken-lt}
+use Rattle.journal.proofs.Laws.{taken-changes, taken-lt, checked-taken}
 use Rattle.journal.proofs.Rewritten.{rewritten-before, rewritten-past, rewritten-number, rewritten-length, rewritten-twice, rewritten-bytes, rewritten-own}
-use Rattle.journal.specs.Change.{Change, field, set, bundleOf, newNumber, changed, changeRecord, madeAll, recordsOf}
-use Rattle.demands.specs.Demand3.{Making, edit, refusalsOf, changesOf}
+use Rattle.journal.specs.Change.{rewritten, Change, field, set, bundleOf, newNumber, changed, changeRecord, madeAll, recordsOf}
+use Rattle.demands.specs.Demand3.{Making, edit, checked, refusalsOf, changesOf}
 use Rattle.demands.specs.Sets.{SetsOnlyItsOwn, EachSetsItsOwn}
 use Rattle.demands.proofs.Edits.{Fits, in-code, only-its-bits}
 
@@ -159,6 +158,8 @@ module _ (code : List ℕ) where
   -- what a call makes stands where the code doesn't refuse it
   pub making-stands : (m : Making) → first (refusalsOf code m) ≡ accepted → Stand code (changesOf m)
   making-stands (edit e) a = (a, tt)
+  making-stands (checked e) a = (checked-taken code e a, tt)
 
   pub making-numbered : (m : Making) → T (numbered (refusalsOf code m))
   making-numbered (edit e) = tt
+  making-numbered (checked e) = tt

@@ -1,11 +1,9 @@
 -- One edit that a code takes, and calls with a valid journal of some records. Assumes nothing.
-use mathlib.Core.Path.{_≡_, refl, sym, ap, _∙_}
-use mathlib.Core.Bool.{Bool, true, false, not}
+use mathlib.Core.Path.{_≡_, refl, ap, _∙_}
+use mathlib.Core.Bool.{true, not}
 use mathlib.Core.List.{List, [], _∷_, _++_, dropLast, getLastD}
 use Prim.Native.Nat.{ℕ, _+_}
-use native.Mathlib.Omega.{arith}
-use borrow.Author.Tests.{lt-ltb, le-ltb, leb-true, leb-false}
-use lib.Dec.{leb, ltb}
+use lib.Dec.{ltb}
 use lib.ListN.{length}
 use Rattle.answer.specs.Answer.{Refusal, accepted, full, badJournal, first, outcome}
 use Rattle.bits.specs.Part.{bit}
@@ -18,13 +16,12 @@ use Rattle.immediate.specs.Immediate.{valueIn, changedNumber}
 use Rattle.immediate.proofs.Laws.{changed-value, changed-bit}
 use Rattle.record.specs.Record.{noRecord}
 use Rattle.record.specs.declared.Record.{Record}
-use Rattle.records.specs.Journal.{Journal, standing, journalOf, validOf, viewOf}
-use Rattle.journal.specs.Edit.{codeRefusals, rewritten, made, recordOf, roomRefusals, editOf, undoRefusals, undoOf}
+use Rattle.records.specs.Journal.{journalOf, validOf, viewOf}
+use Rattle.journal.specs.Edit.{codeRefusals, undoRefusals, undoOf}
 use Rattle.journal.proofs.Laws.{taken-found, taken-changes, taken-lt, first-past}
 use Rattle.journal.proofs.Rewritten.{rewritten-before, rewritten-past, rewritten-number}
 use Rattle.records.proofs.Standing.{journal-stands, journal-shows}
-use Rattle.journal.specs.Change.{Change, field, madeAll, recordsOf, makeOf}
-use Rattle.demands.specs.Demand3.{Making, edit, makingOf, refusalsOf, changesOf}
+use Rattle.journal.specs.Change.{rewritten, Change, madeAll, recordsOf, makeOf}
 use Rattle.demands.specs.Sets.{SetsOnlyItsBits}
 
 -- the code takes the edit
@@ -46,26 +43,6 @@ module _ (code : List ℕ) (e : Edit) (fits : Fits code e) where
         bits = λ i t. ap (λ (n : ℕ). bit n i) number ∙ changed-bit (numberAt code (e .bundle)) e i t;
         past = rewritten-past code (e .bundle) in-code new;
       }
-
--- there is no place for one more
-no-place : (places n : ℕ) → leb places n ≡ ltb places (n + 1)
-no-place places n = go (leb places n) refl
-  where
-    go : (t : Bool) → leb places n ≡ t → t ≡ ltb places (n + 1)
-    go true e = sym (lt-ltb places (n + 1) (omega (arith, leb-true places n e)))
-    go false e = sym (le-ltb places (n + 1) (omega (arith, leb-false places n e)))
-
--- an edit makes its one change
-pub edit-is : (party places : ℕ) (code : List ℕ) (j : Journal) (e : Edit) → editOf party places code j e ≡ makeOf party places code j (codeRefusals code e) (field e ∷ [])
-unfolding editOf makeOf made
-edit-is party places code j e =
-    let view = viewOf party places j in
-    ap (λ (a : ℕ). outcome a (record { answer = accepted; journal = journalOf places (standing j ++ (recordOf party code e ∷ [])); code = made code e }) (record { answer = a; journal = j; code = code }))
-    (first-past (codeRefusals code e) (roomRefusals places view) ((badJournal, not (view .valid)) ∷ (full, ltb places (view .count + 1)) ∷ []) (ap (λ (t : Bool). first ((badJournal, not (view .valid)) ∷ (full, t) ∷ [])) (no-place places (view .count))))
-
--- each call that makes changes makes them so
-pub making-is : (party places : ℕ) (code : List ℕ) (j : Journal) (m : Making) → makingOf party places code j m ≡ makeOf party places code j (refusalsOf code m) (changesOf m)
-making-is party places code j (edit e) = edit-is party places code j e
 
 -- calls with a valid journal of some records
 module _ (party places : ℕ) (code : List ℕ) (rs : List Record) (valid : validOf party places (journalOf places rs) ≡ true) where

@@ -1,17 +1,17 @@
 -- What calls keep: a refused one the journal and the code, and any one a valid journal valid and the code bytes. By the definitions' cases.
 -- Assumes nothing.
 use mathlib.Core.Path.{_≡_, refl, sym, ap, ap₂, _∙_, subst}
-use mathlib.Core.Bool.{Bool, true, not, _&&_}
+use mathlib.Core.Bool.{Bool, true, _&&_}
 use mathlib.Core.List.{List, [], _∷_, _++_, dropLast}
 use Prim.Native.Nat.{ℕ, _+_, _≤_}
 use native.Mathlib.Decide.{ℕ-discrete}
 use native.Mathlib.Omega.{arith}
 use borrow.Author.Tests.{le-leb, ltb-false, not-false}
-use lib.Dec.{T, ltb}
+use lib.Dec.{T}
 use lib.Ieee.Bits.{is-true}
 use lib.ListN.{length, length-append}
 use mir.Facts.{and-yes, yes-and}
-use Rattle.answer.specs.Answer.{Refusal, accepted, full, badJournal, first, outcome}
+use Rattle.answer.specs.Answer.{Refusal, accepted, first, outcome}
 use Rattle.answer.proofs.Laws.{numbered, none-applies, accepts, refuses, answered}
 use Rattle.bundle.specs.Bundle.{whole}
 use Rattle.bundle.proofs.Bytes.{Bytes}
@@ -20,13 +20,12 @@ use Rattle.record.specs.Record.{mayStand}
 use Rattle.record.specs.declared.Record.{Record}
 use Rattle.records.specs.Journal.{Journal, all, standing, journalOf, validOf, viewOf}
 use Rattle.records.proofs.Standing.{journal-valid, all-append, view-shows, view-counts, valid-counts, valid-few, valid-stand}
-use Rattle.journal.specs.Edit.{Outcome, undoRefusals, undoOf}
+use Rattle.journal.specs.Edit.{undoRefusals, undoOf}
 use Rattle.demands.specs.Demand3.{refusalsOf, changesOf, Call, make, undo, step}
-use Rattle.journal.specs.Change.{Change, madeAll, recordsOf, makeOf}
+use Rattle.journal.specs.Change.{Change, madeAll, recordsOf, Outcome, roomRefusals, makeOf}
 use Rattle.journal.proofs.Laws.{parts-accept}
 use Rattle.journal.proofs.Rewritten.{rewritten-bytes}
 use Rattle.demands.proofs.Changes.{OfChanges, Stand, changes-stand, all-bytes, all-records, records-length, making-stands, making-numbered}
-use Rattle.demands.proofs.Edits.{making-is}
 
 -- an outcome that is what a call makes of it or, refused, what it was
 module _ (a : ℕ) (done : Outcome) (code : List ℕ) (j : Journal) (is : done .answer ≡ accepted) where
@@ -46,7 +45,7 @@ module _ (party places : ℕ) (code : List ℕ) (j : Journal) where
   module _ (refusals : List Refusal) (cs : List Change) where
     pub make-kept : (makeOf party places code j refusals cs .answer ≡ accepted → ⊥) → (makeOf party places code j refusals cs .journal ≡ j) × (makeOf party places code j refusals cs .code ≡ code)
     unfolding makeOf
-    make-kept = kept (first (refusals ++ (badJournal, not (viewOf party places j .valid)) ∷ (full, ltb places (viewOf party places j .count + length cs)) ∷ [])) _ code j refl
+    make-kept = kept (first (refusals ++ roomRefusals places (viewOf party places j) (length cs))) _ code j refl
 
     pub make-taken : T (numbered refusals) → makeOf party places code j refusals cs .answer ≡ accepted
         → (first refusals ≡ accepted) × (validOf party places j ≡ true) × (length (standing j) + length cs ≤ places)
@@ -54,7 +53,7 @@ module _ (party places : ℕ) (code : List ℕ) (j : Journal) where
     unfolding makeOf
     make-taken h q =
         let view = viewOf party places j in
-        let room : List Refusal = (badJournal, not (view .valid)) ∷ (full, ltb places (view .count + length cs)) ∷ [] in
+        let room = roomRefusals places view (length cs) in
         let a = sym (answer-is (first (refusals ++ room)) _ code j refl) ∙ q in
         let p = parts-accept refusals room h a in
         let n = none-applies room tt (p .1) in
@@ -137,16 +136,15 @@ module _ (party places : ℕ) (o : Outcome) (g : Good party places o) where
           record { valid = ap (validOf party places) (k .0) ∙ g .valid; bytes = subst Bytes (sym (k .1)) (g .bytes) }
 
   pub step-good : (c : Call) → Good party places (step party places o c)
-  step-good (make m) = subst (Good party places) (sym (making-is party places (o .code) j m)) (make-good (refusalsOf (o .code) m) (changesOf m) (making-numbered (o .code) m) (making-stands (o .code) m))
+  step-good (make m) = make-good (refusalsOf (o .code) m) (changesOf m) (making-numbered (o .code) m) (making-stands (o .code) m)
   step-good undo = undo-good
 
 -- any call: a refused one keeps the code and the journal, and one that is taken goes by a valid journal
 module _ (party places : ℕ) (o : Outcome) where
   pub step-kept : (c : Call) → (step party places o c .answer ≡ accepted → ⊥) → (step party places o c .journal ≡ o .journal) × (step party places o c .code ≡ o .code)
-  step-kept (make m) = subst (λ (p : Outcome). (p .answer ≡ accepted → ⊥) → (p .journal ≡ o .journal) × (p .code ≡ o .code)) (sym (making-is party places (o .code) (o .journal) m)) (make-kept party places (o .code) (o .journal) (refusalsOf (o .code) m) (changesOf m))
+  step-kept (make m) = make-kept party places (o .code) (o .journal) (refusalsOf (o .code) m) (changesOf m)
   step-kept undo = undo-kept party places (o .code) (o .journal)
 
   pub step-valid : (c : Call) → step party places o c .answer ≡ accepted → validOf party places (o .journal) ≡ true
-  step-valid (make m) a =
-      make-taken party places (o .code) (o .journal) (refusalsOf (o .code) m) (changesOf m) (making-numbered (o .code) m) (ap (λ (p : Outcome). p .answer) (sym (making-is party places (o .code) (o .journal) m)) ∙ a) .1
+  step-valid (make m) a = make-taken party places (o .code) (o .journal) (refusalsOf (o .code) m) (changesOf m) (making-numbered (o .code) m) a .1
   step-valid undo a = undo-taken party places (o .code) (o .journal) a .0

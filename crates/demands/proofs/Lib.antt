@@ -1,5 +1,6 @@
 pub mod Across
 pub mod Changes
+pub mod Checked
 pub mod Edits
 pub mod Kept
 pub mod Old

@@ -13,7 +13,8 @@ use mir.Facts.{and-yes, yes-and}
 use Rattle.answer.specs.Answer.{first, outcome, accepted, exhaustedInput, stale}
 use Rattle.bundle.specs.Bundle.{longestCode, numberAt, halvesOf, whole}
 use Rattle.bundle.proofs.Lies.{Lies}
-use Rattle.journal.specs.Edit.{Outcome, rewritten, undoOf}
+use Rattle.journal.specs.Change.{Outcome, rewritten}
+use Rattle.journal.specs.Edit.{undoOf}
 use Rattle.journal.proofs.Rewritten.{rewritten-length}
 use Rattle.demands.proofs.Edits.{undo-of}
 use Rattle.records.proofs.Standing.{all-append, journal-stands, journal-valid, last-snoc, drop-last-snoc}

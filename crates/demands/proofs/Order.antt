@@ -28,8 +28,8 @@ use Rattle.records.specs.Journal.{Journal, all, standing, journalOf, validOf}
 use Rattle.records.specs.Shared.{Shared, ownOf, placesOf, servedOf}
 use Rattle.records.proofs.Sharing.{Serving, serving, by-party, own-valid, served-own, places-within}
 use Rattle.records.proofs.Standing.{journal-stands, valid-is-journal}
-use Rattle.journal.specs.Edit.{Outcome, codeRefusals, rewritten, recordOf, editOf}
-use Rattle.journal.specs.Change.{field, newNumber, changed, madeAll, makeOf}
+use Rattle.journal.specs.Change.{rewritten, field, newNumber, changed, changeRecord, madeAll, Outcome, makeOf}
+use Rattle.journal.specs.Edit.{codeRefusals, editOf}
 use Rattle.journal.proofs.Laws.{taken-changes}
 use Rattle.journal.proofs.Rewritten.{rewritten-twice}
 use Rattle.sheet.specs.RoundTrip.{HasSheet}
@@ -41,7 +41,7 @@ use Rattle.demands.specs.Parties.{mixed, callsOf}
 use Rattle.demands.specs.Order.{Makes, none, edits, writes, writesLine, loads, byOther, AllAccepted, Start, Acceptable, Apart, ApartCommute, SameField, LastCounts, Each, Mix, done, one, other, TwoFiles}
 use Rattle.demands.proofs.Across.{changes-held, from, Sheets, Reached, same-next, reached}
 use Rattle.demands.proofs.Changes.{lies-as, changed-length, changed-bytes, changed-number, making-stands, making-numbered}
-use Rattle.demands.proofs.Edits.{Fits, in-code, edit-is, making-is, make-of}
+use Rattle.demands.proofs.Edits.{Fits, in-code, make-of}
 use Rattle.demands.proofs.Kept.{make-kept, make-taken, Good, all-more, step-good, step-kept}
 use Rattle.demands.proofs.Parties.{reached as parties-reached, start}
 use Rattle.demands.proofs.Run.{same-step}
@@ -167,7 +167,7 @@ module _ (code : List ℕ) (b : Bytes code) where
 
 -- a call that makes changes leaves records of the code
 made-held : (party places : ℕ) (o : Outcome) → Good party places o → T (all fits64 (standing (o .journal))) → (m : Making) → T (all fits64 (standing (step party places o (make m) .journal)))
-made-held party places o g held m = subst (λ (p : Outcome). T (all fits64 (standing (p .journal)))) (sym (making-is party places (o .code) (o .journal) m)) (go (ℕ-discrete (after .answer) accepted))
+made-held party places o g held m = go (ℕ-discrete (after .answer) accepted)
   where
     after : Outcome
     after = makeOf party places (o .code) (o .journal) (refusalsOf (o .code) m) (changesOf m)
@@ -190,16 +190,15 @@ madeBy e = make (edit e)
 module _ (party places : ℕ) where
   -- one that is accepted is one that the code takes
   fits-when : (code : List ℕ) (j : Journal) (e : Edit) → editOf party places code j e .answer ≡ accepted → Fits code e
-  fits-when code j e q = make-taken party places code j (codeRefusals code e) (field e ∷ []) tt (ap (λ (p : Outcome). p .answer) (sym (edit-is party places code j e)) ∙ q) .0
+  fits-when code j e q = make-taken party places code j (codeRefusals code e) (field e ∷ []) tt q .0
 
   -- and one that the code takes is accepted where there is a place for its record
   takes-one : (p : Outcome) → Good party places p → (e : Edit) → Fits (p .code) e → length (standing (p .journal)) + 1 ≤ places
-      → step party places p (madeBy e) ≡ record { answer = accepted; journal = journalOf places (standing (p .journal) ++ (recordOf party (p .code) e ∷ [])); code = changed (p .code) (field e) }
+      → step party places p (madeBy e) ≡ record { answer = accepted; journal = journalOf places (standing (p .journal) ++ (changeRecord party (p .code) (field e) ∷ [])); code = changed (p .code) (field e) }
   takes-one p h e fits room =
       let rs = standing (p .journal) in
       let own = valid-is-journal party places (p .journal) (h .valid) in
-      edit-is party places (p .code) (p .journal) e
-      ∙ ap (λ (j : Journal). makeOf party places (p .code) j (codeRefusals (p .code) e) (field e ∷ [])) (sym own)
+      ap (λ (j : Journal). makeOf party places (p .code) j (codeRefusals (p .code) e) (field e ∷ [])) (sym own)
       ∙ make-of party places (p .code) rs (ap (validOf party places) own ∙ h .valid) (codeRefusals (p .code) e) (field e ∷ []) accepted
       (first-on (codeRefusals (p .code) e) ((full, ltb places (length rs + 1)) ∷ []) tt fits ∙ rw (le-ltb places (length rs + 1) room))
 

@@ -14,7 +14,7 @@ use lib.ListN.{length}
 use Rattle.answer.specs.Answer.{accepted, full, badJournal}
 use Rattle.answer.proofs.Laws.{accepts, refuses}
 use Rattle.bundle.proofs.Bytes.{Bytes}
-use Rattle.journal.specs.Edit.{Outcome}
+use Rattle.journal.specs.Change.{Outcome}
 use Rattle.demands.specs.Demand3.{Call, step}
 use Rattle.demands.proofs.Kept.{Good, step-good, step-kept, step-valid}
 use Rattle.demands.proofs.Run.{same-step}
@@ -80,7 +80,7 @@ module _ (s : Shared) (party : ℕ) (v : Serving s party) (j : Journal) where
       }
 
 pub by-contract : (code : List ℕ) (s : Shared) (party : ℕ) → ByContract code s party
-by-contract code s party = record { edits = λ e. refl; undoes = refl }
+by-contract code s party = record { edits = λ e. refl; checks = λ e. refl; undoes = refl }
 
 -- one call of a party
 module _ (m : Mixed) (party : ℕ) (bytes : (q : ℕ) → Bytes (m .code q)) where

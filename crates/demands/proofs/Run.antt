@@ -20,12 +20,12 @@ use Rattle.record.specs.declared.Record.{Record}
 use Rattle.record.proofs.Laws.{same-halves}
 use Rattle.records.specs.Journal.{Journal, all, standing, journalOf, validOf}
 use Rattle.records.proofs.Standing.{journal-stands, journal-valid, drop-last-snoc, last-snoc}
-use Rattle.journal.specs.Edit.{Outcome, rewritten, undoRefusals, undoOf}
+use Rattle.journal.specs.Edit.{undoRefusals, undoOf}
 use Rattle.journal.proofs.Laws.{parts-accept}
-use Rattle.journal.specs.Change.{Change, changed, bundleOf, newNumber, changeRecord, madeAll, recordsOf}
+use Rattle.journal.specs.Change.{rewritten, Change, changed, bundleOf, newNumber, changeRecord, madeAll, recordsOf, Outcome}
 use Rattle.demands.specs.Demand3.{makingOf, refusalsOf, changesOf, Call, make, undo, step, run, answerTo, taken, after, standingChanges, expected, thenUndo, Holds, Demand3}
 use Rattle.demands.proofs.Changes.{OfChanges, changes-stand, record-bundle, record-old, record-new, changed-lies, changed-number, changed-back, Stand, all-bytes, each-sets-its-own, all-records, records-length, made-after, records-after, stand-after, making-stands, making-numbered}
-use Rattle.demands.proofs.Edits.{making-is, make-of, undo-of}
+use Rattle.demands.proofs.Edits.{make-of, undo-of}
 
 -- a call comes to the same from the same code and journal
 pub same-step : (party places : ℕ) (s t : Outcome) → s .code ≡ t .code → s .journal ≡ t .journal → (c : Call) → step party places s c ≡ step party places t c
@@ -105,8 +105,7 @@ module _ (party places : ℕ) (code : List ℕ) (b : Bytes code) (short : length
     as-expected (make m) =
         let ds = changesOf m in
         let a = answerTo places code cs (make m) in
-        making-is party places now journal m
-        ∙ make-of party places now (recordsOf party code cs) (valid cs s) (refusalsOf now m) ds a (ap (λ (n : ℕ). first (refusalsOf now m ++ (full, ltb places (n + length ds)) ∷ [])) (records-length code party cs))
+        make-of party places now (recordsOf party code cs) (valid cs s) (refusalsOf now m) ds a (ap (λ (n : ℕ). first (refusalsOf now m ++ (full, ltb places (n + length ds)) ∷ [])) (records-length code party cs))
         ∙ ap₂ (λ (rs : List Record) (c : List ℕ). outcome a (record { answer = accepted; journal = journalOf places rs; code = c }) (So a cs)) (records-after code party ds cs) (made-after code ds cs)
         ∙ so-after a (ds ++ cs) cs
     as-expected undo = undo-as-expected cs s

@@ -12,7 +12,7 @@ use Rattle.bundle.specs.Bundle.{bundleAt, numberAt}
 use Rattle.bundle.proofs.Bytes.{length-bytes}
 use Rattle.bundle.proofs.Laws.{found-sixteen}
 use Rattle.bundle.proofs.Lies.{Lies, found-when}
-use Rattle.journal.specs.Edit.{rewritten}
+use Rattle.journal.specs.Change.{rewritten}
 
 -- bundles in front
 module _ (a : List ℕ) (j : ℕ) (h : length a ≡ 16 * j) where

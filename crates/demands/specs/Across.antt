@@ -10,7 +10,7 @@ use lib.ListN.{length, getD, take}
 use Rattle.answer.specs.Answer.{accepted, outcome}
 use Rattle.bundle.specs.Bundle.{longestCode}
 use Rattle.records.specs.Journal.{limit}
-use Rattle.journal.specs.Edit.{Outcome}
+use Rattle.journal.specs.Change.{Outcome}
 use Rattle.demands.specs.Demand3.{Call, step, run, Holds}
 use Rattle.text.specs.Whole.{wroteOf}
 use Rattle.text.specs.declared.whole.Written.{Written}

@@ -1,8 +1,8 @@
 -- Demand 3: after any run of a party's calls the code is the first code with exactly the standing changes made in order, and the standing
--- changes are worked out from the first code and the calls alone: an edit that is taken is one more change, and an undo takes the last one
--- away.
--- It is about `editOf` and `undoOf`, by which the contracts of the calls say all that they do with a party's journal:
--- between this statement and the code stand those contracts and nothing else. Assumes nothing.
+-- changes are worked out from the first code and the calls alone: an edit that is taken, checked or not, is one more change, and an undo takes
+-- the last one away.
+-- It is about `makeOf` and `undoOf`, by which the contracts of the calls say all that they do with a party's journal (`ByContract` in
+-- `Parties.antt`): between this statement and the code stand those contracts and nothing else. Assumes nothing.
 use Prim.Native.Nat.{ℕ, _+_, _≤_, _<_, _^_}
 use mathlib.Core.Path.{_≡_}
 use mathlib.Core.List.{List, [], _∷_, _++_}
@@ -12,25 +12,28 @@ use Rattle.answer.specs.Answer.{Refusal, first, outcome, accepted, empty, full}
 use Rattle.bundle.specs.Bundle.{longestCode}
 use Rattle.form.specs.declared.Edit.{Edit}
 use Rattle.records.specs.Journal.{Journal, journalOf}
-use Rattle.journal.specs.Edit.{Outcome, codeRefusals, editOf, undoOf}
-use Rattle.journal.specs.Change.{Change, field, madeAll, recordsOf}
+use Rattle.journal.specs.Change.{Change, field, madeAll, recordsOf, Outcome, makeOf}
+use Rattle.journal.specs.Edit.{codeRefusals, checkedRefusals, undoOf}
 use Rattle.demands.specs.Sets.{EachSetsItsOwn}
 
 -- the calls that make changes
 pub data Making : Type 0 where
   edit : Edit → Making
+  checked : Edit → Making
 
--- what one comes to, by its contract
-abbrev pub makingOf : ℕ → ℕ → List ℕ → Journal → Making → Outcome
-makingOf party places code journal (edit e) = editOf party places code journal e
-
--- when the code refuses it
+-- when the code refuses one
 abbrev pub refusalsOf : List ℕ → Making → List Refusal
 refusalsOf code (edit e) = codeRefusals code e
+refusalsOf code (checked e) = checkedRefusals code e
 
--- and the changes that it makes; the last stands first
+-- the changes that it makes; the last stands first
 abbrev pub changesOf : Making → List Change
 changesOf (edit e) = field e ∷ []
+changesOf (checked e) = field e ∷ []
+
+-- and what it comes to
+abbrev pub makingOf : ℕ → ℕ → List ℕ → Journal → Making → Outcome
+makingOf party places code journal m = makeOf party places code journal (refusalsOf code m) (changesOf m)
 
 -- a call of demand 3: one that makes changes, or an undo
 pub data Call : Type 0 where

@@ -9,7 +9,7 @@ use lib.ListN.{length}
 use Rattle.answer.specs.Answer.{accepted}
 use Rattle.bundle.specs.Bundle.{longestCode, numberAt, halvesOf, whole}
 use Rattle.bundle.specs.declared.half.Halves.{Halves}
-use Rattle.journal.specs.Edit.{Outcome, rewritten}
+use Rattle.journal.specs.Change.{Outcome, rewritten}
 use Rattle.demands.specs.Demand3.{undo, step}
 use Rattle.record.specs.Record.{highest, wholeRecord, sameHalves, fits64}
 use Rattle.record.specs.declared.Record.{Record}

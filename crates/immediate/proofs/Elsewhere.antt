@@ -9,13 +9,13 @@ use Rattle.bits.specs.Parts.{meetNot}
 use Rattle.bits.proofs.Laws.{part-lt}
 use Rattle.bits.proofs.Parts.{part-scatter}
 use Rattle.bundle.specs.Template.{unitL}
-use Rattle.bundle.specs.Bundle.{tagOf, slotOf}
+use Rattle.bundle.specs.Bundle.{tagOf, slotOf, unitAt}
 use Rattle.form.specs.Form.{A, X}
 use Rattle.form.specs.declared.Form.{Form}
 use Rattle.parts.specs.Placed.{placed}
 use Rattle.parts.proofs.Placed.{word, words-apart, elsewhere, other-words}
 use Rattle.row.specs.Row.{Row, isNone, rowOf}
-use Rattle.immediate.specs.Immediate.{fits, unitAt, withRaw}
+use Rattle.immediate.specs.Immediate.{fits, withRaw}
 use Rattle.immediate.proofs.Laws.{Stands}
 use Rattle.row.proofs.Rows.{good, row-good}
 use Rattle.immediate.proofs.Sound.{in-words, x-in-2, x-unit, x-beside-l}

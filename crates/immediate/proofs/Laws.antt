@@ -3,13 +3,14 @@ use mathlib.Core.Path.{_≡_, refl, sym, ap, ap₂, _∙_, subst}
 use mathlib.Core.Bool.{true, false, not}
 use mathlib.Core.List.{List, [], _∷_, _++_}
 use Prim.Native.Nat.{ℕ, _<_, _^_, suc-le-suc}
+use native.Mathlib.Decide.{ℕ-discrete}
 use borrow.Author.Tests.{ltb-false, not-false, eqb-true, eq-eqb, ne-eqb}
 use lib.Dec.{T, ltb, eqb}
 use Rattle.answer.specs.Answer.{Refusal, accepted, badValue, first, outcome}
 use Rattle.answer.proofs.Laws.{none-applies, first-on, first-stop, accepts, refuses, answered}
 use Rattle.bits.specs.Part.{bit}
 use Rattle.bits.specs.Parts.{apartFrom, meetNot}
-use Rattle.bundle.specs.Bundle.{tagOf, bundleRefusals, halvesOf}
+use Rattle.bundle.specs.Bundle.{numberAt, findRefusals, findAnswer, tagOf, unitAt, bundleRefusals, halvesOf}
 use Rattle.bundle.proofs.Laws.{or-false}
 use Rattle.form.specs.declared.Form.{Form}
 use Rattle.form.specs.declared.Edit.{Edit}
@@ -20,9 +21,10 @@ use Rattle.meaning.specs.Meaning.{Is}
 use Rattle.row.specs.inner.Packed.{Packs}
 use Rattle.row.specs.declared.Packed.{Packed}
 use Rattle.immediate.specs.inner.Sound.{Sound, SoundIn}
-use Rattle.immediate.specs.Immediate.{fits, unitAt, readRefusals, rawFor, valueRefusals, changeRefusals, valueIn, withRaw, partsOf, changedNumber, noChange, changedOf}
+use Rattle.immediate.specs.Immediate.{fits, readRefusals, noImmediate, immediateIn, immediateOf, rawFor, valueRefusals, changeRefusals, valueIn, withRaw, partsOf, changedNumber, noChange, changedOf}
 use Rattle.meaning.specs.declared.Raw.{Raw}
 use Rattle.immediate.specs.declared.outcome.Changed.{Changed}
+use Rattle.immediate.specs.declared.outcome.Immediate.{Immediate}
 use Rattle.row.proofs.Rows.{good, row-good}
 use Rattle.immediate.proofs.Sound.{sound}
 use Rattle.immediate.proofs.Written.{read-written, written-again, written-lt, bit-kept, tag-kept, written-comm}
@@ -42,6 +44,17 @@ stands n slot form row e =
 
 pub read-sound : (n slot : ℕ) (form : Form) (row : Row) → T (good (form .family) row) → first (readRefusals n slot form row) ≡ accepted → Sound slot row
 read-sound n slot form row g e = let s = stands n slot form row e in sound form row g (s .some) n slot (s .in-bundle) (s .fit)
+
+-- reading answers as `find` does, and then as the bundle does
+pub immediate-answer : (code : List ℕ) (k slot : ℕ) (form : Form) → immediateOf code k slot form .answer ≡ first (findRefusals code k ++ readRefusals (numberAt code k) slot form (rowOf form))
+unfolding immediateOf immediateIn findAnswer
+immediate-answer code k slot form =
+    let finding = findRefusals code k in
+    let reading = readRefusals (numberAt code k) slot form (rowOf form) in
+    elim (ℕ-discrete (first finding) accepted) [
+      | yes a ↦ rw (accepts (first finding) (immediateIn (numberAt code k) slot form) (noImmediate (first finding)) a, first-on finding reading tt a) (answered (λ (i : Immediate). i .answer) (first reading) _ _ refl refl)
+      | no d ↦ rw (refuses (first finding) (immediateIn (numberAt code k) slot form) (noImmediate (first finding)) d, first-stop finding reading d)
+    ]
 
 -- and so it is in numbers
 pub packed-sound : (n slot : ℕ) (form : Form) (row : Row) (p : Packed) → Packs p row → T (good (form .family) row) → first (readRefusals n slot form row) ≡ accepted

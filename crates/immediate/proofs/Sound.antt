@@ -11,13 +11,13 @@ use Rattle.bits.proofs.Laws.{part-lt}
 use Rattle.table.proofs.Check.{checked}
 use Rattle.bundle.specs.Template.{unitL, unitsOf}
 use Rattle.form.specs.Form.{X}
-use Rattle.bundle.specs.Bundle.{tagOf}
+use Rattle.bundle.specs.Bundle.{tagOf, unitAt}
 use Rattle.form.specs.declared.Form.{Form}
 use Rattle.parts.specs.Placed.{inWords}
 use Rattle.row.specs.Row.{Row, isNone}
 use Rattle.row.proofs.Rows.{good, good-has, separateIn}
 use Rattle.immediate.specs.inner.Sound.{Sound}
-use Rattle.immediate.specs.Immediate.{fits, unitAt}
+use Rattle.immediate.specs.Immediate.{fits}
 
 -- no X in slots 0 and 1
 abbrev noX : ℕ → Bool

@@ -8,8 +8,8 @@ use lib.IntN.{ℤ}
 use lib.ListN.{getD}
 use Rattle.answer.specs.Answer.{Refusal, first, outcome, accepted, badBundle, badForm, badSlot, badValue}
 use Rattle.bits.specs.Parts.{Parts, gather, scatter}
-use Rattle.bundle.specs.Template.{unitsOf, unitless}
-use Rattle.bundle.specs.Bundle.{numberAt, tagOf, findAnswer, halvesOf}
+use Rattle.bundle.specs.Template.{unitless}
+use Rattle.bundle.specs.Bundle.{numberAt, unitsIn, findAnswer, halvesOf}
 use Rattle.form.specs.Form.{A, I, M}
 use Rattle.form.specs.declared.Form.{Form}
 use Rattle.form.specs.declared.Edit.{Edit}
@@ -27,14 +27,6 @@ use Rattle.immediate.specs.declared.outcome.Changed.{Changed}
 -- a form fits a slot of its family's unit; an A form one of I or M
 abbrev pub fits : Form → ℕ → Bool
 fits form unit = cond (eqb (form .family) A) (eqb unit I || eqb unit M) (eqb (form .family) unit)
-
--- a bundle's units, which decide with its slot and form what it takes
-abbrev pub unitsIn : ℕ → List ℕ
-unitsIn n = unitsOf (tagOf n)
-
--- the unit of a bundle's slot
-abbrev pub unitAt : ℕ → ℕ → ℕ
-unitAt n slot = getD (unitsIn n) slot 0
 
 -- when units are refused for a row: 2, 3
 abbrev pub rowRefusals : List ℕ → Row → List Refusal

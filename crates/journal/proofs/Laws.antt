@@ -3,24 +3,27 @@
 use mathlib.Core.Path.{_≡_, refl, sym, ap, _∙_}
 use mathlib.Core.Bool.{Bool, true, false, cond}
 use mathlib.Core.List.{List, [], _∷_, _++_}
-use Prim.Native.Nat.{ℕ, _<_, _^_}
+use Prim.Native.Nat.{ℕ, _+_, _<_, _^_}
 use native.Mathlib.Decide.{ℕ-discrete}
-use borrow.Author.Tests.{leb-false, ltb-false, eqb-true, eqb-false, not-false}
+use native.Mathlib.Omega.{arith}
+use borrow.Author.Tests.{ltb-false, eqb-true, eqb-false, not-false}
 use lib.Dec.{T, eqb}
 use Rattle.answer.specs.Answer.{Refusal, accepted, first, outcome}
-use Rattle.answer.proofs.Laws.{numbered, none-applies, first-on, first-stop, accepts, refuses}
+use Rattle.answer.proofs.Laws.{numbered, NoneApplies, none-applies, first-on, first-stop, first-without, accepts, refuses}
 use Rattle.bundle.specs.Bundle.{findRefusals, findAnswer, numberAt, whole}
 use Rattle.bundle.proofs.Bytes.{Bytes}
 use Rattle.bundle.proofs.Halves.{whole-halves}
 use Rattle.bundle.proofs.Laws.{number-at-lt}
 use Rattle.bundle.proofs.Lies.{found-when}
 use Rattle.form.specs.declared.Edit.{Edit}
-use Rattle.immediate.specs.Immediate.{changeRefusals, changedNumber}
+use Rattle.row.specs.Row.{rowOf}
+use Rattle.immediate.specs.Immediate.{valueRefusals, changeRefusals, changedNumber}
 use Rattle.immediate.proofs.Laws.{changed-lt}
-use Rattle.journal.specs.Edit.{Outcome, codeRefusals, rewritten, made, recordOf, roomRefusals, editRefusals, editOf, undoRefusals, undoOf, byParty, actBy}
-use Rattle.journal.specs.inner.Plan.{refusedPlan, editPlanOf, undoPlanOf, planOf, carriedOut}
+use Rattle.journal.specs.Change.{Outcome, rewritten, field, changeRecord, roomRefusals, makeOf}
+use Rattle.journal.specs.Edit.{codeRefusals, formRefusal, checkedRefusals, undoRefusals, undoOf, byParty, actBy}
+use Rattle.journal.specs.inner.Plan.{refusedPlan, readingRefusals, lookRefusals, editAnswer, editPlanOf, undoPlanOf, planOf, carriedOut}
 use Rattle.journal.specs.declared.Act.{Act}
-use Rattle.journal.specs.declared.Act.the-variants.{Edit as EditAct, Undo}
+use Rattle.journal.specs.declared.Act.the-variants.{Edit as EditAct, Checked, Undo}
 use Rattle.journal.specs.declared.plan.Plan.{Plan}
 use Rattle.records.specs.Journal.{Journal, viewOf, withRecord}
 use Rattle.records.specs.Shared.{Shared, placesOf, servedOf}
@@ -84,16 +87,49 @@ module _ (code : List ℕ) (e : Edit) (taken : first (codeRefusals code e) ≡ a
   pub taken-lt : Bytes code → changedNumber (numberAt code (e .bundle)) e < 2 ^ 128
   taken-lt b = changed-lt (numberAt code (e .bundle)) e taken-changes (number-at-lt code (e .bundle) taken-found b)
 
+-- a checked edit that the code takes is an edit that it takes
+pub checked-taken : (code : List ℕ) (e : Edit) → first (checkedRefusals code e) ≡ accepted → first (codeRefusals code e) ≡ accepted
+checked-taken code e = first-without (readingRefusals code e) (formRefusal code e) (valueRefusals (rowOf (e .form)) (e .value)) tt
+
+-- and it is refused as the edit is, once the look accepts
+pub looked : (code : List ℕ) (e : Edit) (qs : List Refusal) → first (lookRefusals code e) ≡ accepted → first (checkedRefusals code e ++ qs) ≡ first (codeRefusals code e ++ qs)
+looked code e qs a =
+    let rest = valueRefusals (rowOf (e .form)) (e .value) ++ qs in
+    first-on (lookRefusals code e) rest tt a ∙ sym (first-on (readingRefusals code e) rest tt (parts-accept (readingRefusals code e) (formRefusal code e ∷ []) tt a .0))
+
+-- an edit, by what the journal shows, that is refused where the code refuses it, and maybe elsewhere
+module _ (party places : ℕ) (code : List ℕ) (e : Edit) (refusals : List Refusal) (n : T (numbered refusals)) (takes : first refusals ≡ accepted → first (codeRefusals code e) ≡ accepted) where
+  -- where it is accepted
+  module _ (view : View) (a : editAnswer places view refusals ≡ accepted) where
+    in-code : first (codeRefusals code e) ≡ accepted
+    in-code = takes (parts-accept refusals (roomRefusals places view 1) n a .0)
+
+    room : NoneApplies (roomRefusals places view 1)
+    room = none-applies (roomRefusals places view 1) tt (parts-accept refusals (roomRefusals places view 1) n a .1)
+
+  edit-taken : (view : View) → let plan = editPlanOf party code view e (editAnswer places view refusals) in plan .answer ≡ accepted → (view .valid ≡ true) × (findAnswer code (plan .bundle) ≡ accepted)
+  unfolding editPlanOf
+  edit-taken view q =
+      let d = decided _ (editAnswer places view refusals) q in
+      (not-false _ (room view (d .0) .0), ap (λ (p : Plan). findAnswer code (p .bundle)) (d .1) ∙ taken-found code e (in-code view (d .0)))
+
+  edit-carried : Bytes code → (j : Journal) → let view = viewOf party places j in
+      carriedOut code j (editPlanOf party code view e (editAnswer places view refusals)) ≡ makeOf party places code j refusals (field e ∷ [])
+  unfolding editPlanOf makeOf
+  edit-carried b j =
+      let view = viewOf party places j in
+      decided-carried _ (editAnswer places view refusals) code j _ _ refl
+      (λ a. (
+        view-pushes party places j (not-false _ (room view a .0)) (changeRecord party code (field e)) (omega (arith, ltb-false places (view .count + 1) (room view a .1 .0))),
+        ap (rewritten code (e .bundle)) (whole-halves _ (taken-lt code e (in-code view a) b)),
+      ))
+
 -- an act that is accepted goes by a valid journal, and its bundle is in the code
 pub act-taken : (party : ℕ) (code : List ℕ) (own : Own) (act : Act) → planOf party code own act .answer ≡ accepted
     → (own .view .valid ≡ true) × (findAnswer code (planOf party code own act .bundle) ≡ accepted)
-unfolding editPlanOf undoPlanOf
-act-taken party code own (EditAct e) q =
-    let d = decided _ (first (editRefusals (own .places) code (own .view) e)) q in
-    let p = parts-accept (codeRefusals code e) (roomRefusals (own .places) (own .view)) tt (d .0) in (
-      not-false _ (none-applies (roomRefusals (own .places) (own .view)) tt (p .1) .0),
-      ap (λ (p : Plan). findAnswer code (p .bundle)) (d .1) ∙ taken-found code e (p .0),
-    )
+unfolding undoPlanOf
+act-taken party code own (EditAct e) q = edit-taken party (own .places) code e (codeRefusals code e) tt (λ a. a) (own .view) q
+act-taken party code own (Checked e) q = edit-taken party (own .places) code e (checkedRefusals code e) tt (checked-taken code e) (own .view) q
 act-taken party code own Undo q =
     let d = decided _ (first (undoRefusals code (own .view))) q in
     let n = none-applies (undoRefusals code (own .view)) tt (d .0) in (
@@ -102,24 +138,14 @@ act-taken party code own Undo q =
     )
 
 -- carried out it is the act, by what the party's journal shows
-module _ (party places : ℕ) (code : List ℕ) (j : Journal) where
-  abbrev view : View
-  view = viewOf party places j
-
-  edit-carried : Bytes code → (e : Edit) → carriedOut code j (editPlanOf party places code view e) ≡ editOf party places code j e
-  unfolding editPlanOf editOf made
-  edit-carried b e =
-      decided-carried _ (first (editRefusals places code view e)) code j _ _ refl
-      (λ a.
-      let p = parts-accept (codeRefusals code e) (roomRefusals places view) tt a in
-      let n = none-applies (roomRefusals places view) tt (p .1) in
-      (view-pushes party places j (not-false _ (n .0)) (recordOf party code e) (leb-false places (view .count) (n .1 .0)), ap (rewritten code (e .bundle)) (whole-halves _ (taken-lt code e (p .0) b))))
-
-  undo-carried : carriedOut code j (undoPlanOf code view) ≡ undoOf party places code j
-  unfolding undoPlanOf undoOf
-  undo-carried = decided-carried _ (first (undoRefusals code view)) code j _ _ refl (λ e. (view-pops party places j (not-false _ (none-applies (undoRefusals code view) tt e .1 .0)), refl))
+undo-carried : (party places : ℕ) (code : List ℕ) (j : Journal) → carriedOut code j (undoPlanOf code (viewOf party places j)) ≡ undoOf party places code j
+unfolding undoPlanOf undoOf
+undo-carried party places code j =
+    let view = viewOf party places j in
+    decided-carried _ (first (undoRefusals code view)) code j _ _ refl (λ e. (view-pops party places j (not-false _ (none-applies (undoRefusals code view) tt e .1 .0)), refl))
 
 pub act-carried : (party : ℕ) (code : List ℕ) → Bytes code → (s : Shared) (act : Act)
     → byParty s party (carriedOut code (servedOf s party) (planOf party code (ownView s party) act)) ≡ actBy code s party act
-act-carried party code b s (EditAct e) = ap (byParty s party) (edit-carried party (placesOf (s .parties) party) code (servedOf s party) b e)
+act-carried party code b s (EditAct e) = ap (byParty s party) (edit-carried party (placesOf (s .parties) party) code e (codeRefusals code e) tt (λ a. a) b (servedOf s party))
+act-carried party code b s (Checked e) = ap (byParty s party) (edit-carried party (placesOf (s .parties) party) code e (checkedRefusals code e) tt (checked-taken code e) b (servedOf s party))
 act-carried party code b s Undo = ap (byParty s party) (undo-carried party (placesOf (s .parties) party) code (servedOf s party))

@@ -13,7 +13,7 @@ use Rattle.bundle.specs.Bundle.{numberAt, bundleAt}
 use Rattle.bundle.proofs.Bytes.{Bytes, length-bytes, number-bytes, bytes-number, bytes-take, bytes-drop}
 use Rattle.bundle.proofs.Lies.{Lies, found-when}
 use Rattle.bundle.proofs.Laws.{found-sixteen}
-use Rattle.journal.specs.Edit.{rewritten}
+use Rattle.journal.specs.Change.{rewritten}
 
 bytes-append : (xs ys : List ℕ) → Bytes xs → Bytes ys → Bytes (xs ++ ys)
 bytes-append [] ys h g i = g i

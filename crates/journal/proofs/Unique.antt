@@ -1,5 +1,5 @@
--- What the contract of `edit` or `undo` allows for one input is one answer, with the same counts, records and code: each contract is an
--- equation with one definition, and a shared journal says what its counts and records are. Assumes nothing.
+-- What the contract of `edit`, `checked_edit` or `undo` allows for one input is one answer, with the same counts, records and code: each
+-- contract is an equation with one definition, and a shared journal says what its counts and records are. Assumes nothing.
 use mathlib.Core.Path.{_≡_, sym, ap, _∙_}
 use mathlib.Core.List.{List}
 use Prim.Native.Nat.{ℕ}

@@ -1,60 +1,51 @@
--- The calls `edit` and `undo`: what each comes to with one party's journal, and then with a journal that parties share. Assumes nothing.
+-- The calls `edit`, `checked_edit` and `undo`: what each comes to with one party's journal, and then with a journal that parties share.
+-- Assumes nothing.
 use Prim.Native.Nat.{ℕ, _+_, _*_}
 use mathlib.Core.Bool.{not}
 use mathlib.Core.List.{List, [], _∷_, _++_, dropLast}
-use lib.Dec.{eqb, leb, ltb}
-use lib.ListN.{length, take, drop}
-use Rattle.answer.specs.Answer.{Refusal, first, outcome, accepted, exhaustedInput, full, empty, stale, tooLong, badJournal}
-use Rattle.bundle.specs.Bytes.{bytes}
-use Rattle.bundle.specs.Bundle.{longestCode, numberAt, findRefusals, halvesOf, whole}
+use lib.Dec.{eqb, ltb}
+use lib.ListN.{length}
+use Rattle.answer.specs.Answer.{Refusal, first, outcome, accepted, exhaustedInput, empty, stale, tooLong, badJournal, badOpcode}
+use Rattle.bundle.specs.Bundle.{longestCode, numberAt, unitsIn, findRefusals, halvesOf, whole}
+use Rattle.choice.specs.Choice.{hasForm}
 use Rattle.form.specs.declared.Edit.{Edit}
-use Rattle.immediate.specs.Immediate.{changeRefusals, changedNumber}
-use Rattle.record.specs.Record.{editRecord, sameHalves}
+use Rattle.row.specs.Row.{rowOf}
+use Rattle.immediate.specs.Immediate.{rowRefusals, slotRefusals, valueRefusals}
+use Rattle.record.specs.Record.{sameHalves}
 use Rattle.record.specs.declared.Record.{Record}
 use Rattle.records.specs.Journal.{Journal, standing, journalOf, viewOf}
 use Rattle.records.specs.Shared.{Shared, sharing, placesOf, servedOf, afterBy}
 use Rattle.records.specs.declared.View.{View}
+use Rattle.journal.specs.Change.{Outcome, rewritten, field, makeOf}
 use Rattle.journal.specs.declared.Act.{Act}
-use Rattle.journal.specs.declared.Act.the-variants.{Edit as EditAct, Undo}
+use Rattle.journal.specs.declared.Act.the-variants.{Edit as EditAct, Checked, Undo}
 use Rattle.journal.specs.declared.Edited.{Edited}
 
--- the code with bundle k made anew
-unfoldable pub rewritten : List ℕ → ℕ → ℕ → List ℕ
-rewritten code k n = take (16 * k) code ++ (bytes 16 n ++ drop (16 * k + 16) code)
+-- when the code refuses an edit of which more is asked between 5 and 6: 10, 1, 2, 3, 5, that, 6
+abbrev pub refusalsWith : List Refusal → List ℕ → Edit → List Refusal
+refusalsWith more code e =
+    let units = unitsIn (numberAt code (e .bundle)) in
+    let row = rowOf (e .form) in
+    findRefusals code (e .bundle) ++ rowRefusals units row ++ slotRefusals units (e .slot) (e .form) ++ more ++ valueRefusals row (e .value)
 
--- when the code itself refuses an edit: as `find` does, and then as the bundle does
+-- of a plain edit nothing more
 abbrev pub codeRefusals : List ℕ → Edit → List Refusal
-codeRefusals code e = findRefusals code (e .bundle) ++ changeRefusals (numberAt code (e .bundle)) e
+codeRefusals code e = refusalsWith [] code e
 
--- the code with one edit made
-unfoldable pub made : List ℕ → Edit → List ℕ
-made code e = rewritten code (e .bundle) (changedNumber (numberAt code (e .bundle)) e)
+-- of a checked edit that the word in its slot has its form: 14
+abbrev pub formRefusal : List ℕ → Edit → Refusal
+formRefusal code e = (badOpcode, not (hasForm (numberAt code (e .bundle)) (e .slot) (e .form)))
 
--- what a call answers, the journal and the code after it
-pub record Outcome : Type 0 where
-  pub answer : ℕ
-  pub journal : Journal
-  pub code : List ℕ
+abbrev pub checkedRefusals : List ℕ → Edit → List Refusal
+checkedRefusals code e = refusalsWith (formRefusal code e ∷ []) code e
 
--- when none of so many places is left for a record, by what the journal shows
-abbrev pub roomRefusals : ℕ → View → List Refusal
-roomRefusals places view = (badJournal, not (view .valid)) ∷ (full, leb places (view .count)) ∷ []
+-- what a party's edit comes to with its journal of so many places
+abbrev pub editOf : ℕ → ℕ → List ℕ → Journal → Edit → Outcome
+editOf party places code journal e = makeOf party places code journal (codeRefusals code e) (field e ∷ [])
 
--- when an edit is refused
-abbrev pub editRefusals : ℕ → List ℕ → View → Edit → List Refusal
-editRefusals places code view e = codeRefusals code e ++ roomRefusals places view
-
--- the record of a party's edit
-abbrev pub recordOf : ℕ → List ℕ → Edit → Record
-recordOf party code e = editRecord party (numberAt code (e .bundle)) e
-
--- what a party's edit comes to with its journal of so many places: one record more
-unfoldable pub editOf : ℕ → ℕ → List ℕ → Journal → Edit → Outcome
-editOf party places code journal e =
-    let answer = first (editRefusals places code (viewOf party places journal) e) in
-    outcome answer
-    (record { answer = accepted; journal = journalOf places (standing journal ++ (recordOf party code e ∷ [])); code = made code e })
-    (record { answer = answer; journal = journal; code = code })
+-- and a checked edit
+abbrev pub checkedOf : ℕ → ℕ → List ℕ → Journal → Edit → Outcome
+checkedOf party places code journal e = makeOf party places code journal (checkedRefusals code e) (field e ∷ [])
 
 -- when undoing is refused, by what the journal shows
 abbrev pub undoRefusals : List ℕ → View → List Refusal
@@ -95,6 +86,10 @@ byParty s party o = record { answer = o .answer; journal = afterBy s party (o .a
 abbrev pub editBy : List ℕ → Shared → ℕ → Edit → SharedOutcome
 editBy code s party e = byParty s party (editOf party (placesOf (s .parties) party) code (servedOf s party) e)
 
+-- what `checked_edit` comes to
+abbrev pub checkedBy : List ℕ → Shared → ℕ → Edit → SharedOutcome
+checkedBy code s party e = byParty s party (checkedOf party (placesOf (s .parties) party) code (servedOf s party) e)
+
 -- what `undo` comes to
 abbrev pub undoBy : List ℕ → Shared → ℕ → SharedOutcome
 undoBy code s party = byParty s party (undoOf party (placesOf (s .parties) party) code (servedOf s party))
@@ -102,4 +97,5 @@ undoBy code s party = byParty s party (undoOf party (placesOf (s .parties) party
 -- what an act comes to
 abbrev pub actBy : List ℕ → Shared → ℕ → Act → SharedOutcome
 actBy code s party (EditAct e) = editBy code s party e
+actBy code s party (Checked e) = checkedBy code s party e
 actBy code s party Undo = undoBy code s party

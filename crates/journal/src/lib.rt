@@ -7,7 +7,8 @@ ghost use Rattle.answer.specs.Answer.{accepted};
 ghost use Rattle.bundle.specs.Bundle.{findAnswer, whole};
 ghost use Rattle.records.specs.Shared.{sharing, servedOf};
 ghost use Rattle.records.specs.inner.Shows.{Shows};
-ghost use Rattle.journal.specs.Edit.{outcomeOf, byParty, rewritten, editBy, undoBy, actBy};
+ghost use Rattle.journal.specs.Change.{rewritten};
+ghost use Rattle.journal.specs.Edit.{outcomeOf, byParty, editBy, checkedBy, undoBy, actBy};
 ghost use Rattle.journal.specs.inner.Plan.{carriedOut};
 use answer::ACCEPTED;
 use bundle::Halves;
@@ -26,6 +27,7 @@ pub struct Edited {
 // What a party can do.
 pub enum Act {
     Edit(Edit),
+    Checked(Edit),
     Undo,
 }
 
@@ -40,6 +42,19 @@ pub fn edit(
     ensures { λ r. ⌜ outcomeOf r (now (records .exit)) (now (code .exit)) ≡ editBy (now (code .entry)) (sharing counts (now (records .entry))) party edit ⌝ }
 {
     perform(code, counts, records, party, Act::Edit(edit))
+}
+
+// The same, where the word in the slot has the edit's form.
+pub fn checked_edit(
+    code: &mut [u8],
+    counts: Counts,
+    records: &mut [Record],
+    party: u64,
+    edit: Edit,
+) -> Edited
+    ensures { λ r. ⌜ outcomeOf r (now (records .exit)) (now (code .exit)) ≡ checkedBy (now (code .entry)) (sharing counts (now (records .entry))) party edit ⌝ }
+{
+    perform(code, counts, records, party, Act::Checked(edit))
 }
 
 // Writes the old bundle of a party's last record, and frees its place.

@@ -1,11 +1,13 @@
 // What an act decides, on values alone: nothing is written here.
 ghost use mathlib.Core.Path.{_≡_};
 ghost use Rattle.answer.specs.Answer.{first};
-ghost use Rattle.journal.specs.Edit.{roomRefusals, undoRefusals};
-ghost use Rattle.journal.specs.inner.Plan.{refusedPlan, editPlanOf, undoPlanOf, planOf};
+ghost use Rattle.journal.specs.Change.{roomRefusals};
+ghost use Rattle.journal.specs.Edit.{codeRefusals, checkedRefusals, undoRefusals};
+ghost use Rattle.journal.specs.inner.Plan.{refusedPlan, lookRefusals, editAnswer, editPlanOf, undoPlanOf, planOf};
 use crate::Act;
 use answer::ACCEPTED;
 use answer::BAD_JOURNAL;
+use answer::BAD_OPCODE;
 use answer::EMPTY;
 use answer::EXHAUSTED_INPUT;
 use answer::FULL;
@@ -48,13 +50,14 @@ pub fn plan_of(code: &[u8], party: u64, own: Own, act: Act) -> Plan
     let view = own.view;
     match act {
         Act::Edit(edit) => edit_plan(code, party, own.places, view, edit),
+        Act::Checked(edit) => checked_plan(code, party, own.places, view, edit),
         Act::Undo => undo_plan(code, view),
     }
 }
 
 // A party's edit keeps its record at the first free one of so many places.
 fn edit_plan(code: &[u8], party: u64, places: u64, view: View, edit: Edit) -> Plan
-    ensures { λ r. ⌜ r ≡ editPlanOf party places (now (code .entry)) view edit ⌝ }
+    ensures { λ r. ⌜ r ≡ editPlanOf party (now (code .entry)) view edit (editAnswer places view (codeRefusals (now (code .entry)) edit)) ⌝ }
 {
     let bundle = edit.bundle;
     let loaded = bundle::load(code, bundle);
@@ -94,9 +97,39 @@ fn edit_plan(code: &[u8], party: u64, places: u64, view: View, edit: Edit) -> Pl
     }
 }
 
+// A checked edit is a look at the word, and then the edit.
+fn checked_plan(code: &[u8], party: u64, places: u64, view: View, edit: Edit) -> Plan
+    ensures { λ r. ⌜ r ≡ editPlanOf party (now (code .entry)) view edit (editAnswer places view (checkedRefusals (now (code .entry)) edit)) ⌝ }
+{
+    let answer = look_refusal(code, edit);
+    if answer != ACCEPTED {
+        return refused(answer);
+    }
+    edit_plan(code, party, places, view, edit)
+}
+
+// Why an edit's number can't be read where it is to stand, or why the word there hasn't its form.
+fn look_refusal(code: &[u8], edit: Edit) -> u8
+    ensures { λ r. ⌜ r ≡ first (lookRefusals (now (code .entry)) edit) ⌝ }
+{
+    let bundle = edit.bundle;
+    let slot = edit.slot;
+    let form = edit.form;
+    let read = immediate::immediate(code, bundle, slot, form);
+    let unread = read.answer;
+    if unread != ACCEPTED {
+        return unread;
+    }
+    let loaded = bundle::load(code, bundle);
+    if !choice::has_form(loaded.halves, slot, form) {
+        return BAD_OPCODE;
+    }
+    ACCEPTED
+}
+
 // Why no record can be added to those at so many places.
 fn room_refusal(places: u64, view: View) -> u8
-    ensures { λ r. ⌜ r ≡ first (roomRefusals places view) ⌝ }
+    ensures { λ r. ⌜ r ≡ first (roomRefusals places view 1) ⌝ }
 {
     if !view.valid {
         return BAD_JOURNAL;

@@ -2,6 +2,7 @@
 // answers where the output stands then.
 ghost use Prim.Native.Nat.{_≤_};
 
+mod choose;
 mod clear;
 mod code;
 mod cut;
@@ -41,12 +42,12 @@ struct Line {
 // No answer ends there, since each starts with a word: the line doesn't read.
 pub const UNREAD: usize = 0;
 
-const NAMES: [u8; 132] =
-    *b"code get sum find cut join operands immediate target put report clear records undo edit load open journal place sheet sheetline meet";
+const NAMES: [u8; 147] =
+    *b"code get sum find cut join operands immediate target put report clear records undo edit load open journal place sheet sheetline meet choose checked";
 
 // The words that the answers start with.
-const WORDS: [u8; 118] =
-    *b"ok bytes sum find cut join operands immediate target ok report ok records undo edit load ok ok ok sheet sheetline meet";
+const WORDS: [u8; 133] =
+    *b"ok bytes sum find cut join operands immediate target ok report ok records undo edit load ok ok ok sheet sheetline meet choose checked";
 
 // Places in both lists.
 const CODE: u64 = 0;
@@ -92,6 +93,10 @@ const SHEET: u64 = 19;
 const SHEETLINE: u64 = 20;
 
 const MEET: u64 = 21;
+
+const CHOOSE: u64 = 22;
+
+const CHECKED: u64 = 23;
 
 // Answers a line on a code, in its room, from `at` on. Where it calls for the records, only its word is written.
 pub fn answer(
@@ -139,10 +144,10 @@ fn count(command: u64) -> usize
 {
     match command {
         SUM | REPORT | CLEAR | RECORDS => 0,
-        GET | SHEET => 2,
+        GET | SHEET | CHOOSE => 2,
         JOURNAL | PLACE | SHEETLINE => 3,
         OPERANDS | IMMEDIATE | MEET => 4,
-        JOIN | TARGET | EDIT => 5,
+        JOIN | TARGET | EDIT | CHECKED => 5,
         _ => 1,
     }
 }
@@ -150,7 +155,7 @@ fn count(command: u64) -> usize
 // Whether text follows the numbers.
 fn takes_text(command: u64) -> bool {
     match command {
-        PUT | CLEAR | EDIT | LOAD | JOURNAL | PLACE | MEET => true,
+        PUT | CLEAR | EDIT | CHECKED | LOAD | JOURNAL | PLACE | MEET => true,
         _ => false,
     }
 }
@@ -164,7 +169,7 @@ fn asked(command: u64, of: Six, rest: &[u8], lent: &mut [u8], kept: &mut [u64]) 
     match command {
         RECORDS => recorded::asked(kept),
         UNDO => Call::Act(of.0, Act::Undo),
-        EDIT => edit::asked(of, rest),
+        EDIT | CHECKED => edit::asked(command == CHECKED, of, rest),
         LOAD => load::asked(of.0, rest, lent, kept),
         OPEN => journals::open_asked(of.0),
         JOURNAL => journals::asked(of, rest),
@@ -203,7 +208,7 @@ fn told(command: u64, lent: &[u8], kept: &[u64], out: &mut [u8], at: usize) -> u
     match command {
         RECORDS => recorded::told(lent, kept, out, at),
         SHEET | SHEETLINE => sheets::told(lent, kept, out, at),
-        UNDO | EDIT | LOAD => out::number(out, at, kept::get(kept, kept::ANSWER)),
+        UNDO | EDIT | CHECKED | LOAD => out::number(out, at, kept::get(kept, kept::ANSWER)),
         _ => at,
     }
 }
@@ -247,6 +252,7 @@ fn on_code(command: u64, of: Six, code: &[u8], out: &mut [u8], at: usize) -> usi
         OPERANDS => operands::answer(of, out, at),
         IMMEDIATE => immediates::answer(of, code, out, at),
         TARGET => target::answer(of, code, out, at),
+        CHOOSE => choose::answer(of.0, of.1, out, at),
         _ => UNREAD,
     }
 }

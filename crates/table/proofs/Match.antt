@@ -27,11 +27,11 @@ ones [] = []
 ones (k ∷ ks) = (k ∷ []) ∷ ones ks
 
 -- the arm names the number; some arm does
-abbrev names : List ℕ → ℕ → Bool
+abbrev pub names : List ℕ → ℕ → Bool
 names [] k = false
 names (j ∷ js) k = eqb k j || names js k
 
-abbrev anyNames : List (List ℕ) → ℕ → Bool
+abbrev pub anyNames : List (List ℕ) → ℕ → Bool
 anyNames [] k = false
 anyNames (arm ∷ arms) k = names arm k || anyNames arms k
 
@@ -45,7 +45,7 @@ one-of [] n k p t = t
 one-of (j ∷ []) n k p t = ⊎-elim (λ h. p ∙ eqb→eq k j h) (λ h. absurd h) (or-yes (eqb k j) false t)
 one-of (j ∷ i ∷ js) n k p t = ⊎-elim (λ h. inl (p ∙ eqb→eq k j h)) (λ h. inr (one-of (i ∷ js) n k p h)) (or-yes (eqb k j) (names (i ∷ js) k) t)
 
-not-named : (arms : List (List ℕ)) (n k : ℕ) → Rest n arms → T (anyNames arms k) → n ≡ k → ⊥
+pub not-named : (arms : List (List ℕ)) (n k : ℕ) → Rest n arms → T (anyNames arms k) → n ≡ k → ⊥
 not-named [] n k r t p = t
 not-named (arm ∷ arms) n k r t p = ⊎-elim (λ h. r .1 (one-of arm n k p h)) (λ h. not-named arms n k (r .0) h p) (or-yes (names arm k) (anyNames arms k) t)
 

@@ -5,7 +5,7 @@ use native.Mathlib.Omega.{arith}
 use denote.Ref.{now}
 use lib.Seq.{drop-drop}
 use Rattle.bundle.proofs.Lies.{Lies, lies}
-use Rattle.journal.specs.Edit.{rewritten}
+use Rattle.journal.specs.Change.{rewritten}
 use borrow.Author.Needs.{needs}
 use Rattle.journal.proofs.rewrite.Statement.{statement}
 use Rattle.journal.proofs.rewrite.Tie as tie

@@ -1,4 +1,4 @@
-// `edit PARTY N SLOT F NUMBER OPERAND`: writes a value into a form's immediate.
+// `edit PARTY N SLOT F NUMBER OPERAND`: writes a value into a form's immediate; `checked` and the same, where the word has the form.
 use crate::calls::Call;
 use form::Edit;
 use form::Form;
@@ -8,7 +8,7 @@ use lines::fields::Six;
 use lines::operands;
 use lines::operands::Parsed;
 
-pub fn asked(of: Six, rest: &[u8]) -> Call {
+pub fn asked(checked: bool, of: Six, rest: &[u8]) -> Call {
     let Parsed::Of(value) = operands::read(fields::rest(rest)) else {
         return Call::None;
     };
@@ -21,5 +21,13 @@ pub fn asked(of: Six, rest: &[u8]) -> Call {
         },
         value,
     };
-    Call::Act(of.0, Act::Edit(edit))
+    Call::Act(of.0, act(checked, edit))
+}
+
+fn act(checked: bool, edit: Edit) -> Act {
+    if checked {
+        Act::Checked(edit)
+    } else {
+        Act::Edit(edit)
+    }
 }

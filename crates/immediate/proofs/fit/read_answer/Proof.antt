@@ -5,10 +5,10 @@ use Prim.Native.Nat.{ℕ}
 use borrow.Author.Needs.{needs}
 use Rattle.answer.specs.Answer.{first}
 use Rattle.answer.proofs.Laws.{first-on, first-stop}
-use Rattle.bundle.specs.Bundle.{whole}
+use Rattle.bundle.specs.Bundle.{unitsIn, whole}
 use Rattle.row.specs.Row.{Row}
 use Rattle.row.specs.inner.Packed.{Packs}
-use Rattle.immediate.specs.Immediate.{unitsIn, rowRefusals, slotRefusals}
+use Rattle.immediate.specs.Immediate.{rowRefusals, slotRefusals}
 use Rattle.immediate.proofs.fit.read_answer.Statement.{statement}
 use Rattle.immediate.proofs.fit.read_answer.Tie as tie
 

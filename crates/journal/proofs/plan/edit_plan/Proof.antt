@@ -5,7 +5,7 @@ use mathlib.Core.List.{List, _++_}
 use Prim.Native.Nat.{ℕ, _+_}
 use native.Mathlib.Omega.{arith}
 use borrow.Author.Needs.{needs}
-use borrow.Author.Tests.{leb-false}
+use borrow.Author.Tests.{ltb-false}
 use denote.Ref.{now}
 use Rattle.answer.specs.Answer.{Refusal, accepted, first}
 use Rattle.answer.proofs.Laws.{none-applies, first-on, first-stop, accepts}
@@ -15,8 +15,9 @@ use Rattle.bundle.proofs.Loading.{Loading, loading}
 use Rattle.immediate.specs.Immediate.{changeRefusals, changedOf}
 use Rattle.immediate.specs.declared.outcome.Changed.{Changed}
 use Rattle.immediate.proofs.Laws.{changed-answer, changed-taken}
-use Rattle.journal.specs.Edit.{roomRefusals, editRefusals}
-use Rattle.journal.specs.inner.Plan.{refusedPlan, editPlanOf}
+use Rattle.journal.specs.Change.{roomRefusals}
+use Rattle.journal.specs.Edit.{codeRefusals}
+use Rattle.journal.specs.inner.Plan.{refusedPlan, editAnswer, editPlanOf}
 use Rattle.journal.proofs.Laws.{refused-is}
 use Rattle.journal.proofs.plan.edit_plan.Statement.{statement}
 use Rattle.journal.proofs.plan.edit_plan.Tie as tie
@@ -30,7 +31,7 @@ module _ (c : tie.After-load) where
   changing = changeRefusals (numberAt (now (c .before .before .args .code)) (c .before .before .args .edit .bundle)) (c .before .before .args .edit)
 
   room : List Refusal
-  room = roomRefusals (c .before .before .args .places) (c .before .before .args .view)
+  room = roomRefusals (c .before .before .args .places) (c .before .before .args .view) 1
 
   is-loaded : Loading (now (c .before .before .args .code)) (c .before .before .args .edit .bundle) (c .load .result)
   is-loaded = let known = c .before in loading (now (known .before .args .code)) (known .before .args .edit .bundle) (λ i. known .shared-slice-known .given i .fits) (c .load .ensures)
@@ -73,7 +74,7 @@ returns-2 c =
 -- what the journal answers, once the change is accepted
 answers : (c : tie.After-room-refusal) →
     let a = c .before .before .before .before .before .before .before .args in
-    first (editRefusals (a .places) (now (a .code)) (a .view) (a .edit)) ≡ c .room-refusal .result
+    editAnswer (a .places) (a .view) (codeRefusals (now (a .code)) (a .edit)) ≡ c .room-refusal .result
 unfolding finding changing room
 answers c =
     let p = c .before .before in
@@ -89,7 +90,7 @@ add-count : tie.Need-add-t20
 add-count c =
     let e = c .before .before .before in
     let a = e .before .before .before .before .before .before .before .before .args in
-    omega (arith, leb-false (a .places) (a .view .count) (none-applies (roomRefusals (a .places) (a .view)) tt (sym (e .before .room-refusal .ensures) ∙ e .if3 .left) .1 .0))
+    omega (arith, ltb-false (a .places) (a .view .count + 1) (none-applies (roomRefusals (a .places) (a .view) 1) tt (sym (e .before .room-refusal .ensures) ∙ e .if3 .left) .1 .0))
 
 returns-4 : tie.Need-returns-4
 unfolding editPlanOf changing findAnswer finding

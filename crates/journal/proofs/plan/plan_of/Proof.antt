@@ -14,8 +14,13 @@ returns c =
 
 returns-2 : tie.Need-returns-2
 returns-2 c =
+    let a = c .before .before .before .before .before .before .args in
+    c .checked-plan .ensures ∙ ap (planOf (a .party) (now (a .code)) (a .own)) (sym (c .before .before .act2 .given .1))
+
+returns-3 : tie.Need-returns-3
+returns-3 c =
     let a = c .before .before .before .before .before .args in
     c .undo-plan .ensures ∙ ap (planOf (a .party) (now (a .code)) (a .own)) (sym (c .before .enum-told .given .1))
 
 pub plan-of-spec : {M : Type 1} → statement M
-plan-of-spec = tie.close (together 4 _ tie.spec (search needs) returns returns-2)
+plan-of-spec = tie.close (together 6 _ tie.spec (search needs) returns returns-2 returns-3)

@@ -134,8 +134,8 @@ ty2·0 = (Syntax.tyStruct (List._∷_ 102 (List._∷_ 111 (List._∷_ 114 (List.
 
 abbrev ty3·0 : Syntax.Ty
 ty3·0 = (Syntax.tyEnum (List._∷_ 106 (List._∷_ 111 (List._∷_ 117 (List._∷_ 114 (List._∷_ 110 (List._∷_ 97 (List._∷_ 108 (List._∷_ 58 (List._∷_ 58
-    (List._∷_ 65 (List._∷_ 99 (List._∷_ 116 List.[])))))))))))) (Syntax.ttcons (Syntax.tcons ty2·0 Syntax.tnil) (Syntax.ttcons Syntax.tnil
-    Syntax.ttnil)))
+    (List._∷_ 65 (List._∷_ 99 (List._∷_ 116 List.[])))))))))))) (Syntax.ttcons (Syntax.tcons ty2·0 Syntax.tnil) (Syntax.ttcons (Syntax.tcons ty2·0
+    Syntax.tnil) (Syntax.ttcons Syntax.tnil Syntax.ttnil))))
 
 abbrev row·0 : Row.Entry
 row·0 = (0, Rows.any-gone ty1·1)
@@ -342,7 +342,7 @@ b3 = Syntax.assign (Syntax.place 8 List.[]) (Syntax.aggregate (List._∷_ (Synta
     (List._∷_ (Syntax.field 1) List.[]))) List.[])))
 
 abbrev b4 : Syntax.Body
-b4 = Syntax.assign (Syntax.place 9 List.[]) (Syntax.aggregate (List._∷_ (Syntax.int Syntax.w8 1) List.[]))
+b4 = Syntax.assign (Syntax.place 9 List.[]) (Syntax.aggregate (List._∷_ (Syntax.int Syntax.w8 2) List.[]))
 
 abbrev b5 : Syntax.Body
 b5 = Syntax.call "journal::perform" (List._∷_ (Syntax.copy (Syntax.place 6 List.[])) (List._∷_ (Syntax.copy (Syntax.place 2 List.[])) (List._∷_
@@ -495,7 +495,7 @@ module _ (claims· : Claims) where
       (Syntax.field 1) List.[]) (Syntax.tyInt Syntax.w64) 8 λ v. Shared.lenV (v .0))
 
   abbrev s7 : Typed.Mo T8 → Typed.Mo T9
-  s7 = Make.n-enum-make Act.the-type T8 9 λ m. Act.enum .make (Logic.inr (Logic.inl tt))
+  s7 = Make.n-enum-make Act.the-type T8 9 λ m. Act.enum .make (Logic.inr (Logic.inr (Logic.inl tt)))
 
   abbrev s8 : Typed.Both T9 T10
   s8 = Call.callB ps·0 r·0 (claims· .0) (claims· .1) T9 (
@@ -950,9 +950,10 @@ module _ (claims· : Claims) where
 
           d12 : Typed.Typed 𝓤 H A 𝓣 E G8 b8 Δ0 at12
           d12 = Typed.s-seq 𝓤 H A W 𝓣 E G8 G9 b4 b7 Δ0 (Typed.pass T8 T9 s7) at11 (Make.t-enum-make-wt 𝓤 H A W E 𝓣 Act.the-type Laws.the-laws
-              Laws.the-plain tt G8 9 (List._∷_ (Scalar.oInt Syntax.w8 1) List.[]) (λ m. Act.enum .make (Logic.inr (Logic.inl tt))) (Reads.room-gone 𝓤
-              H A ty3·0) (tt, tt) Path'.refl (λ m wa. Make.made-val Act.the-type Laws.the-laws List.[] (Act.enum .make (Logic.inr (Logic.inl tt))) tt
-              (wa .1)) λ m wa. Make.made-is Act.the-type Laws.the-laws List.[] (Act.enum .make (Logic.inr (Logic.inl tt))) tt (wa .1)) d11
+              Laws.the-plain tt G8 9 (List._∷_ (Scalar.oInt Syntax.w8 2) List.[]) (λ m. Act.enum .make (Logic.inr (Logic.inr (Logic.inl tt))))
+              (Reads.room-gone 𝓤 H A ty3·0) (tt, tt) Path'.refl (λ m wa. Make.made-val Act.the-type Laws.the-laws List.[] (Act.enum .make (Logic.inr
+              (Logic.inr (Logic.inl tt)))) tt (wa .1)) λ m wa. Make.made-is Act.the-type Laws.the-laws List.[] (Act.enum .make (Logic.inr (Logic.inr
+              (Logic.inl tt)))) tt (wa .1)) d11
 
           d13 : Typed.Typed 𝓤 H A 𝓣 E G7 b9 Δ0 at13
           d13 = Typed.s-seq 𝓤 H A W 𝓣 E G7 G8 b3 b8 Δ0 (Typed.ask s6) at12 (Relend.t-sl-aggregate 𝓤 H A W E (Elem.the-row) 𝓣 (Relend.asMut

@@ -147,8 +147,8 @@ ty2·0 = (Syntax.tyStruct (List._∷_ 102 (List._∷_ 111 (List._∷_ 114 (List.
 
 abbrev ty3·0 : Syntax.Ty
 ty3·0 = (Syntax.tyEnum (List._∷_ 106 (List._∷_ 111 (List._∷_ 117 (List._∷_ 114 (List._∷_ 110 (List._∷_ 97 (List._∷_ 108 (List._∷_ 58 (List._∷_ 58
-    (List._∷_ 65 (List._∷_ 99 (List._∷_ 116 List.[])))))))))))) (Syntax.ttcons (Syntax.tcons ty2·0 Syntax.tnil) (Syntax.ttcons Syntax.tnil
-    Syntax.ttnil)))
+    (List._∷_ 65 (List._∷_ 99 (List._∷_ 116 List.[])))))))))))) (Syntax.ttcons (Syntax.tcons ty2·0 Syntax.tnil) (Syntax.ttcons (Syntax.tcons ty2·0
+    Syntax.tnil) (Syntax.ttcons Syntax.tnil Syntax.ttnil))))
 
 abbrev ty4·0 : Syntax.Ty
 ty4·0 = (Syntax.tyEnum (List._∷_ 112 (List._∷_ 114 (List._∷_ 111 (List._∷_ 98 (List._∷_ 101 (List._∷_ 58 (List._∷_ 58 (List._∷_ 99 (List._∷_ 97
