@@ -10,6 +10,8 @@
  *      6  the address is no multiple of 16
  *     10  the code is longer than 65,536 bytes
  *
+ * (The library's other calls, which have no C function yet, answer with 4, 7 to 9 and 11 to 15, too: docs/CONTRACTS.md.)
+ *
  * Bundle n of a code is bytes 16n to 16n + 16. A form is the family letter's byte and its number: 'M', 48. Every number may
  * be any number of 64 bits. No pointer may be null, not even one to nothing. Nothing is kept between calls, so they may run at
  * the same time.

@@ -6,8 +6,8 @@ import contextlib
 import itertools
 
 from model import (
-    FITTING, FORMS, HUGE, NONE, NUMBERS, OPCODES, PLACES, ROWS, TABLES, UNITS, WORD, Bundle, Model, bundle_at, choice, header, joined,
-    old_fields, operand, report_of, sheet)
+    FITTING, FORMS, HUGE, NONE, NUMBERS, OPCODES, PLACES, RETIRED, ROWS, TABLES, UNITS, WORD, Bundle, Model, bundle_at, choice, header,
+    joined, may_stand, old_fields, operand, report_of, sheet)
 from standing import Standing
 
 LENGTHS = (0, 1, 15, 16, 17, 31, 32, 33, 48, 100, 65520, 65535, 65536, 65537, 65552, 65600)
@@ -304,13 +304,16 @@ def operands_of(row):
 OTHERS = ("None", "G0", "G255", "F1", "P6", "B3", "AR64", "CR20", "Mem12", "PSR", "PSR_l", "PSR_um", "PR", "IP", "Ind:Rr:12", "Ind:Cpuid:0")
 
 
+def slots_for(tag):
+    """Each slot of a bundle with that tag, with each form with a row that fits it."""
+    return [(slot, name) for slot, unit in enumerate(UNITS.get(tag, "")) for name in ROWS if unit in FITTING[name[0]]]
+
+
 def slots_of_rows():
     """Each form with a row, with each tag and slot that it fits."""
     for name in ROWS:
-        for tag, units in UNITS.items():
-            for slot in range(3):
-                if units[slot] in FITTING[name[0]]:
-                    yield name, tag, slot
+        for tag in UNITS:
+            yield from ((name, tag, slot) for slot, other in slots_for(tag) if other == name)
 
 
 def increments(talk):
@@ -461,6 +464,17 @@ def put_journal(talk, records, count=None, length=PLACES):
     put_records(talk, records)
 
 
+WAYS = "places", "lines", "old lines"
+
+
+def had(talk, records, way):
+    """A journal that has those records: put into its places, or loaded from lines of either kind."""
+    if way == "places":
+        return put_journal(talk, records)
+    put_journal(talk, [])
+    return load(talk, sheet(records if way == "lines" else list(map(old_fields, records))))
+
+
 def halves(number):
     return number % HUGE, number >> 64
 
@@ -479,9 +493,10 @@ def field_record(random, n, new, name, slot):
 
 def any_record(random, n, new):
     """A record that passes: of an edit, where the new bundle has a slot with a row, or of a whole bundle."""
-    fit = [(name, slot) for slot, unit in enumerate(UNITS.get(new % 32, "")) for name in ROWS if unit in FITTING[name[0]]]
+    fit = slots_for(new % 32)
     if fit and random.random() < 0.7:
-        return field_record(random, n, new, *random.choice(fit))
+        slot, name = random.choice(fit)
+        return field_record(random, n, new, name, slot)
     return whole_record(random, n, new)
 
 
@@ -531,7 +546,7 @@ def any_value(random, name):
 
 def row_edits(talk, call):
     """Each row's ends and just outside, in every slot that it fits, with the neighbouring bits at random; of a checked edit the word has the
-    form, if a word can."""
+    form, if a word can. Those of retired forms are refused: `kept` has their rows."""
     for name, tag, slot in slots_of_rows():
         talk.any_side()
         talk("code 48")
@@ -566,6 +581,26 @@ def begun(talk, length, bundles):
     return busy, Standing(talk.model.code, talk.room())
 
 
+def stored(talk, standing, busy):
+    """Now and then the party has records of retired forms, from when they weren't."""
+    random, records = talk.random, []
+    for _ in range(random.choice((0, 0, 1, 2, 5, 12))):
+        n = random.choice(busy)
+        old = number_at(standing.code, n)
+        fit = [(slot, name) for slot, name in slots_for(old % 32) if name in RETIRED]
+        if fit:
+            slot, name = random.choice(fit)
+            value = ROWS[name].value(random.getrandbits(ROWS[name].width))
+            standing.make((n, slot, name, value))
+            records.append((n, slot, name, value, *halves(old), *halves(number_at(standing.code, n))))
+    if records:
+        put_code(talk, standing.code)
+        way = random.choice(WAYS)
+        assert had(talk, records, way) != "load 13", "records of retired forms aren't loaded"
+        standing.whole = len(records) if way == "old lines" else 0
+        shown(talk)
+
+
 def undo_all(talk, standing):
     while standing.edits:
         undo(talk, standing)
@@ -573,12 +608,14 @@ def undo_all(talk, standing):
 
 
 def runs(talk, count, calls):
-    """Runs from a journal with no record of the party's, and nothing else writing the code: demand 3 is worked out beside the model."""
+    """Runs from a journal with no record of the party's, or some of retired forms, and nothing else writing the code: demand 3 is worked out
+    beside the model."""
     random = talk.random
     for _ in range(count):
         talk.any_side()
         lengths = (16, 17, 47, 48, 160, 160, 160, 320, 320, 1000, 65520, 65535, 65536) if random.random() < 0.1 else (48, 80, 160, 170)
         busy, standing = begun(talk, random.choice(lengths), random.choice((1, 2, 5)))
+        stored(talk, standing, busy)
         undoing = random.choice((0.1, 0.3, 0.5))
         for _ in range(calls):
             step(talk, standing, busy, undoing)
@@ -590,6 +627,7 @@ def long_runs(talk):
     for side in SIDES[0], talk.random.choice(SIDES[1:]):
         talk.side(*side)
         busy, standing = begun(talk, 320, 12)
+        stored(talk, standing, busy)
         while talk.own().count < talk.room() - 2:
             step(talk, standing, busy, 0.02)
         for _ in range(30):
@@ -679,7 +717,7 @@ def branches(talk):
 
 REFUSED = (
     "edit 64 2 66 1 I16", "edit 5 2 66 1 I16", "edit 0 2 66 4 I16", "edit 0 1 66 1 I16", "edit 0 2 66 1 U16", "edit 0 2 66 1 I8",
-    "checked 0 2 66 2 I16", "checked 0 0 77 44 U7", "checked 0 2 66 1 I8", "undo",
+    "edit 0 2 66 9 U16", "checked 0 2 66 9 U16", "checked 0 2 66 2 I16", "checked 0 0 77 44 U7", "checked 0 2 66 1 I8", "undo",
     "code 65537", "edit 0 2 66 1 I16", "undo", "code 0", "edit 0 2 66 1 I16", "undo",
 )
 
@@ -926,46 +964,61 @@ def near_words(talk):
         talk("get 0 16")
 
 
-ORDER = 10, 1, 2, 3, 5, 14, 6, 11, 7
+ORDER = 10, 1, 2, 3, 15, 5, 14, 6, 11, 7
 
 
 def faulty(talk):
-    """Edits with no fault, with each alone, with each two that can be had together, and with some three: the first in order is answered."""
-    sets = [faults for count in range(4) for faults in itertools.combinations(ORDER, count)]
+    """Edits with no fault, with each alone, with each two that can be had together, and with some three: the first in order is answered.
+    Those of retired forms are had with each of them."""
+    random = talk.random
+    sets = [{*faults} for count in range(4) for faults in itertools.combinations(ORDER, count)]
     for side, faults in itertools.product(SIDES, sets):
-        if not {1, 2} <= {*faults} and (len(faults) < 3 or talk.random.random() < 0.3):
-            talk.side(*side)
-            line = with_faults(talk, faults)
-            for call in EDITS:
-                wanted = [fault for fault in faults if call == "checked" or fault != 14]
-                said = talk.call(f"{call} {line}")
-                have = [number for number, applies in talk.model.reasons if applies]
-                assert have == wanted and said == f"{call} {(*wanted, 0)[0]}", f"{talk.lines[-1]} has the faults {have} and not {wanted}"
-                shown(talk, 1)
-                if not wanted:
-                    talk.call("undo")
+        if not {1, 2} <= faults and not {3, 15} <= faults and (len(faults) < 3 or random.random() < 0.3):
+            names = names_with(faults)
+            for name in names if 15 in faults else [random.choice(names)]:
+                talk.side(*side)
+                line = with_faults(talk, faults, name)
+                for call in EDITS:
+                    in_order(talk, f"{call} {line}", [fault for fault in ORDER if fault in faults and (call == "checked" or fault != 14)])
 
 
-def with_faults(talk, faults):
-    """A code, a journal and an edit with these faults and no others: its bundle, slot, form and value. One without faults sets a branch in
-    slot 2 of MIB."""
-    random, faults = talk.random, {*faults}
-    own = named = random.choice(("B4", "B5") if 3 in faults else ("B1", "B2", "B3"))
-    if 14 in faults and faults & {1, 2, 5}:
-        named = random.choice(("M1", "I2", "F1") if 3 in faults else ("M44", "I18", "F15", "X1"))
-    elif 14 in faults:
-        own = random.choice(("B6", "B7", "B8"))
-    length = 65552 if 10 in faults else 64
+def in_order(talk, line, wanted):
+    """An edit with these faults, in order, which is undone where there are none."""
+    said = talk.call(line)
+    have = [number for number, applies in talk.model.reasons if applies]
+    assert have == wanted and said.split(" ")[1] == str((*wanted, 0)[0]), f"{talk.lines[-1]} has the faults {have} and not {wanted}"
+    shown(talk, 1)
+    if not wanted:
+        talk.call("undo")
+
+
+def names_with(faults):
+    """Forms that edits with these faults can have. B words have the first ones; the others are no word's."""
+    if 3 in faults:
+        words, no_words = ["B4", "B5"], ["M1", "I2", "F1"]
+    elif 15 in faults:
+        words, no_words = ["B9"], sorted(RETIRED - {"B9"})
+    else:
+        words, no_words = ["B1", "B2", "B3"], ["M44", "I21", "F14", "X3"]
+    # of a word that isn't there, 14 says nothing
+    return words if 14 not in faults else no_words if faults & {1, 2} else words + no_words
+
+
+def with_faults(talk, faults, name):
+    """A code, a journal and an edit of that form with these faults and no others: its bundle, slot, form and value."""
+    random, length = talk.random, 65552 if 10 in faults else 64
+    far = 5 in faults and (14 not in faults or faults & {1, 2} or name[0] != "B" and random.random() < 0.5)
+    unfit = 5 in faults and not far
+    tag, slot = fitting(random, ord(name[0]) if not unfit else ord("M" if name[0] == "B" else "B"))
+    own = {} if name[0] != "B" else {slot: random.choice(("B6", "B7", "B8")) if 14 in faults else name}
     talk(f"code {length}")
-    talk.bundle(1, random.choice((6, 7, 20, 21)) if 2 in faults else 16, {2: own})
+    talk.bundle(1, random.choice((6, 7, 20, 21)) if 2 in faults else tag, own)
     put_journal(talk, [NONE] * (talk.room() if 7 in faults else random.randrange(3)))
     if 11 in faults:
         put_record(talk, talk.room() - 1, (4096, *NONE[1:]))
-    # an M, I, F or X form doesn't fit the unit B, if there is one
-    far = 5 in faults and (own == named or faults & {1, 2} or random.random() < 0.5)
-    n, slot = length // 16 if 1 in faults else 1, random.choice((3, 258, HUGE - 1)) if far else 2
-    value = "None" if 6 in faults else any_value(random, named)
-    return f"{n} {slot} {ord(named[0])} {named[1:]} {value}"
+    n, slot = length // 16 if 1 in faults else 1, random.choice((3, 258, HUGE - 1)) if far else slot
+    value = "None" if 6 in faults else any_value(random, name)
+    return f"{n} {slot} {ord(name[0])} {name[1:]} {value}"
 
 
 # ---- whether two edits meet, and the order of edits that don't
@@ -1004,8 +1057,7 @@ def asked(talk, count):
 def taken_edit(random, busy, code):
     """An edit that the code takes, of one of those bundles: bundle, slot, family and number, and the value."""
     n = random.choice(busy)
-    units = UNITS[code[16 * n] % 32]
-    slot, name = random.choice([(slot, name) for slot in range(3) for name in ROWS if units[slot] in FITTING[name[0]]])
+    slot, name = random.choice([(slot, name) for slot, name in slots_for(code[16 * n] % 32) if name not in RETIRED])
     return (n, slot, ord(name[0]), int(name[1:])), any_value(random, name)
 
 
@@ -1156,6 +1208,35 @@ def whole_lines(talk):
             talk.call("sheet 130")
 
 
+def kept(talk):
+    """Of each retired form, in every slot that it fits, records with its row's ends and just outside, in every call: those that an edit
+    could have made before stand beside edits that are refused, are undone, written and loaded; others aren't."""
+    random = talk.random
+    talk("code 16")
+    for name, tag, slot in slots_of_rows():
+        row = ROWS[name]
+        for value in (value for value in values(row) if 0 <= value < HUGE) if name in RETIRED else ():
+            talk.any_side()
+            old = with_tag(random, tag)
+            new = int.from_bytes(Bundle(old.to_bytes(16, "little")).with_value(slot, row, value), "little")
+            one = 0, slot, name, value, *halves(old), *halves(new)
+            assert may_stand(one) == row.takes(value), "a record isn't tested by its row"
+            for way in WAYS:
+                had(talk, [one], way)
+                every_call(talk, one, f"{slot} {ord(name[0])} {name[1:]}")
+                talk.call("undo")
+                shown(talk, 0)
+
+
+def every_call(talk, one, form):
+    """The calls of that form over the code that a record gives, beside the journal that has it; each leaves both."""
+    talk(f"put 0 {joined(*one[6:]).hex()}")
+    for line in (f"edit 0 {form} U{one[3]}", f"checked 0 {form} U{one[3]}", "edit 0 2 66 9 None", f"immediate 0 {form}",
+                 f"target 0 {form} 16", f"meet 0 {form} 0 {form}", "sheet 200", "sheetline 1 116"):
+        talk.call(line)
+    shown(talk, 0)
+
+
 def told(talk):
     """Lines whose form, slot, value and halves belong together, or don't, alone and behind one that does; what is refused by 13 as a line
     makes a journal that is refused by 11."""
@@ -1289,6 +1370,7 @@ def sheets_in_runs(talk, count, calls, free=None):
     for _ in range(count):
         talk.any_side()
         busy, standing = begun(talk, 160, 10)
+        stored(talk, standing, busy)
         while free is not None and talk.own().count < talk.room() - free:
             step(talk, standing, busy, 0.02)
         for _ in range(calls):
@@ -1311,7 +1393,8 @@ def step_or_sheet(talk, standing, busy):
 ANY_PARTY = 0, 1, 2, 3, 4, 255, 256, 257, 258, (1 << 32) + 1, (1 << 32) + 2, 1 << 63, HUGE - 1
 
 EVERY_CALL = (
-    "edit 0 2 66 1 I16", "checked 0 2 66 1 I32", "edit 0 2 66 1 I8", "edit 64 2 66 1 I16", "sheet 200", "sheet 0", "sheetline 0 200", "sheetline 1 200", "undo", "undo",
+    "edit 0 2 66 1 I16", "checked 0 2 66 1 I32", "edit 0 2 66 1 I8", "edit 64 2 66 1 I16", "edit 0 2 66 9 U16", "checked 0 2 66 9 U16",
+    "sheet 200", "sheet 0", "sheetline 0 200", "sheetline 1 200", "undo", "undo",
     *(f"load {text.hex()}" for text in (sheet([EXAMPLE])[:-1], sheet([EXAMPLE]), sheet([old_fields(EXAMPLE)] * 2), sheet([]))),
 )
 
@@ -1459,6 +1542,7 @@ def sheets(talk):
     mixed(talk)
     whole_lines(talk)
     told(talk)
+    kept(talk)
     calls = f"sheet {LONGEST}", "sheetline 0 200", "sheetline 1 200", f"sheetline {HUGE - 1} 0"
     wrong_in_one(talk, (*calls, "undo", f"sheet {LONGEST}"))
     texts = sheet([EXAMPLE])[:-1], sheet([NONE] * 2 * PLACES), sheet([NONE] * PLACES), sheet([EXAMPLE])
@@ -1485,19 +1569,19 @@ STAGES = {
     "tally": (("report", "clear"), reports),
 }
 
-# every pair of refusals (in 01's order) that can apply together; not among them: 1 with 2 and with 9, 8 with 1 and with 9, 13 with 7; and a
-# sheet is never too long for a journal of one party
+# every pair of refusals (in 01's order) that can apply together; not among them: 1 with 2 and with 9, 3 with 15 (every retired form has a
+# row), 8 with 1 and with 9, 13 with 7; and a sheet is never too long for a journal of one party
 TOGETHER = {
     "find": "10 1", "cut": "10 1 2", "join": "4 2 12", "operands": "3 4", "immediate": "10 1 2 3 5", "target": "10 1 2 3 5 6",
     "choose": "4 14",
-    **{f"edit of {parties}": "10 1 2 3 5 6 11 7" for parties in (1, 2)},
-    **{f"checked of {parties}": "10 1 2 3 5 14 6 11 7" for parties in (1, 2)},
+    **{f"edit of {parties}": "10 1 2 3 15 5 6 11 7" for parties in (1, 2)},
+    **{f"checked of {parties}": "10 1 2 3 15 5 14 6 11 7" for parties in (1, 2)},
     **{f"undo of {parties}": "10 11 8 1 9" for parties in (1, 2)},
     **{f"{call} of {parties}": "11 12" for parties in (1, 2) for call in ("sheet", "sheetline")},
     "load of 1": "11 13", "load of 2": "11 13 7",
     "meet": "3 5", "report": "10 6",
 }
-APART = {(1, 2), (1, 9), (8, 1), (8, 9), (13, 7)}
+APART = {(1, 2), (1, 9), (3, 15), (8, 1), (8, 9), (13, 7)}
 
 
 def unseen(seen, known):

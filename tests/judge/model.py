@@ -11,7 +11,7 @@ import sys
 
 sys.path.append(str(pathlib.Path(__file__).resolve().parents[1] / "table"))
 import table
-from table import FITTING, FORMS, OPCODES, STOPS, UNITS
+from table import FITTING, FORMS, OPCODES, RETIRED, STOPS, UNITS
 
 MOST, WORD, PLACES = 65536, 1 << 41, 1024
 HUGE = 1 << 64
@@ -70,6 +70,11 @@ def is_form(family, number):
 
 def row_of(family, number):
     return ROWS.get(f"{chr(family)}{number}") if is_form(family, number) else None
+
+
+def is_retired(family, number):
+    """Whether no new edit of the form is taken."""
+    return is_form(family, number) and f"{chr(family)}{number}" in RETIRED
 
 
 def fits(family, units, slot):
@@ -185,13 +190,15 @@ def joined(low, high):
 
 
 def taken(bundle, slot, letter, row, value):
-    """Whether an edit of that bundle, by a form with that family's letter and row, is taken with a number of the row's kind."""
+    """Whether an edit of that bundle, by a form with that family's letter and row, is taken with a number of the row's kind; so long as the
+    form isn't retired."""
     return bool(bundle.units and row and slot <= 2 and bundle.units[slot] in FITTING[letter] and row.takes(value))
 
 
 @functools.lru_cache(1 << 16)
 def passes(slot, form, value, old_low, old_high, new_low, new_high):
-    """Whether a record is a whole bundle's, or an edit of its old bundle by slot, form and value gives its new one."""
+    """Whether a record is a whole bundle's, or an edit of its old bundle by slot, form and value gives its new one; the form may be retired
+    since."""
     if form == "-":
         return slot == 0 and value == 0
     row, bundle = ROWS.get(form), Bundle(joined(old_low, old_high))
@@ -560,7 +567,8 @@ class Model:
             raise Unread
         kind, value = value
         row = row_of(family, form)
-        reasons, bundle = self.of_slot(n, slot, family, form, row)
+        (*reasons, unfit), bundle = self.of_slot(n, slot, family, form, row)
+        reasons += [(15, is_retired(family, form)), unfit]
         if checked:
             reasons.append((14, other_form(bundle, slot, family, form)))
         wrong = kind not in "IU" or bool(row and (kind != row.kind() or not row.takes(value)))

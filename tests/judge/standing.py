@@ -2,7 +2,7 @@
 
 After every call the code is the first code with the standing edits made in order.
 """
-from model import HUGE, MOST, ROWS, bundle_at, other_form, row_of, taken
+from model import HUGE, MOST, ROWS, bundle_at, is_retired, other_form, row_of, taken
 
 
 def made(data, edit):
@@ -23,15 +23,20 @@ class Standing:
         bundle, row = bundle_at(self.code, n), row_of(family, form)
         if not (len(self.code) <= MOST and bundle and row and kind == row.kind() and taken(bundle, slot, chr(family), row, value)):
             return False
-        return not (checked and other_form(bundle, slot, family, form))
+        return not is_retired(family, form) and not (checked and other_form(bundle, slot, family, form))
 
     def edit(self, *edit):
         if not self.acceptable(*edit) or len(self.edits) == self.places:
             return False
         _, n, slot, family, form, _, value = edit
-        self.edits.append((n, slot, f"{chr(family)}{form}", value))
-        self.code[16 * n:16 * n + 16] = made(self.code[16 * n:16 * n + 16], self.edits[-1])
+        self.make((n, slot, f"{chr(family)}{form}", value))
         return True
+
+    def make(self, edit):
+        """An edit stands, of a form that is retired or isn't."""
+        n = edit[0]
+        self.edits.append(edit)
+        self.code[16 * n:16 * n + 16] = made(self.code[16 * n:16 * n + 16], edit)
 
     def undo(self):
         if not self.edits:

@@ -89,7 +89,7 @@ pub fn write(code: &mut [u8], bundle: u64, whole: u128) {
 }
 
 impl Model {
-    /// Whether a record can stand in a journal or a sheet.
+    /// Whether a record can stand in a journal or a sheet; its form may be retired since.
     pub fn may_stand(&self, one: &Record) -> bool {
         let made = || self.changed(whole(one.old), one.slot, one.family, one.number, one.value);
         one.bundle <= 4095 && (one.is_whole() || made() == Ok(whole(one.new)))
@@ -123,6 +123,7 @@ impl Model {
         value: Value,
     ) -> (u8, Counts) {
         let (old, new) = match self.planned(code, bundle, slot, family, number, value) {
+            Ok(_) | Err(5 | 6) if self.is_retired(family, number) => return (15, counts),
             Ok(plan) => plan,
             Err(answer) => return (answer, counts),
         };

@@ -25,6 +25,7 @@ pub struct Model {
     fitting: [Vec<u8>; 256],
     /// By a family's letter and a form's number.
     rows: [Vec<Option<Row>>; 256],
+    retired: Vec<(u8, u64)>,
 }
 
 /// The answer, a bundle's tag, its units, its slots and after which of them a stop stands.
@@ -60,7 +61,7 @@ fn slots(whole: u128) -> [u64; 3] {
 impl Model {
     pub fn new() -> Model {
         let (fitting, rows) = ([const { Vec::new() }; 256], [const { Vec::new() }; 256]);
-        let mut model = Model { units: table::units(), stops: table::stops(), fitting, rows };
+        let mut model = Model { units: table::units(), stops: table::stops(), fitting, rows, retired: table::retired() };
         for family in table::families() {
             let row = |number| table::rows().into_iter().find(|row| row.forms.contains(&(family.letter, number)));
             model.rows[family.letter as usize] = (0..=*family.numbers.end()).map(row).collect();
@@ -79,6 +80,11 @@ impl Model {
 
     fn row(&self, family: u64, number: u64) -> Option<&Row> {
         self.rows.get(family as usize)?.get(number as usize)?.as_ref()
+    }
+
+    /// Whether no new edit of the form is taken.
+    fn is_retired(&self, family: u64, number: u64) -> bool {
+        self.retired.iter().any(|form| (form.0 as u64, form.1) == (family, number))
     }
 
     pub fn cut(&self, code: &[u8], bundle: u64) -> Cut {

@@ -63,3 +63,6 @@ def fixed(text):
 
 # a form's opcodes: the form, mask and pattern of its words, the places that choose, and what they choose
 OPCODES = [(form, *fixed(bits), places(choosing), names.split(", ")) for form, bits, choosing, names in lines("opcodes.txt")]
+
+# the forms of which no new edit is taken
+RETIRED = {form for fields in lines("retired.txt") for form in fields[0].split(", ")}

@@ -103,3 +103,8 @@ pub fn rows() -> Vec<Row> {
     };
     lines(include_str!("rows.txt")).map(row).collect()
 }
+
+/// The forms of which no new edit is taken.
+pub fn retired() -> Vec<(u8, u64)> {
+    lines(include_str!("retired.txt")).flat_map(|field| field[0].split(", ").map(form).collect::<Vec<_>>()).collect()
+}

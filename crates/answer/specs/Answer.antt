@@ -49,6 +49,9 @@ badSheet = 13
 abbrev pub badOpcode : ℕ
 badOpcode = 14
 
+abbrev pub retired : ℕ
+retired = 15
+
 -- a refusal, with whether it applies
 abbrev pub Refusal : Type 0
 Refusal = ℕ × Bool

@@ -28,3 +28,5 @@ pub const NO_ROOM: u8 = 12;
 pub const BAD_SHEET: u8 = 13;
 
 pub const BAD_OPCODE: u8 = 14;
+
+pub const RETIRED: u8 = 15;

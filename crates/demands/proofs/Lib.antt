@@ -6,5 +6,6 @@ pub mod Kept
 pub mod Old
 pub mod Order
 pub mod Parties
+pub mod Retired
 pub mod Run
 pub mod Two

@@ -11,7 +11,7 @@ use native.Mathlib.Omega.{arith}
 use borrow.Author.Tests.{le-ltb, eq-eqb, ne-eqb, not-false}
 use lib.Dec.{T, ltb}
 use lib.ListN.{length, length-append}
-use Rattle.answer.specs.Answer.{accepted, full, first}
+use Rattle.answer.specs.Answer.{Refusal, accepted, full, first}
 use Rattle.answer.proofs.Laws.{first-on}
 use Rattle.bits.specs.Parts.{Parts, scatter, meetNot}
 use Rattle.bundle.specs.Bundle.{numberAt, tagOf, findRefusals, findAnswer}
@@ -19,8 +19,8 @@ use Rattle.bundle.proofs.Bytes.{Bytes}
 use Rattle.bundle.proofs.Lies.{Lies, found-when}
 use Rattle.form.specs.declared.Edit.{Edit}
 use Rattle.row.specs.Row.{rowOf}
-use Rattle.immediate.specs.Immediate.{changeRefusals, rawFor, changedNumber, partsOf}
-use Rattle.immediate.proofs.Laws.{change-sound, changed-tag, taken-by-tag, changed-comm}
+use Rattle.immediate.specs.Immediate.{rawFor, changedNumber, partsOf}
+use Rattle.immediate.proofs.Laws.{change-sound, changed-tag, changed-comm}
 use Rattle.immediate.proofs.Written.{written-again}
 use Rattle.record.specs.Record.{fits64}
 use Rattle.record.specs.declared.Record.{Record}
@@ -29,8 +29,8 @@ use Rattle.records.specs.Shared.{Shared, ownOf, placesOf, servedOf}
 use Rattle.records.proofs.Sharing.{Serving, serving, by-party, own-valid, served-own, places-within}
 use Rattle.records.proofs.Standing.{journal-stands, valid-is-journal}
 use Rattle.journal.specs.Change.{rewritten, field, newNumber, changed, changeRecord, madeAll, Outcome, makeOf}
-use Rattle.journal.specs.Edit.{codeRefusals, editOf}
-use Rattle.journal.proofs.Laws.{taken-changes}
+use Rattle.journal.specs.Edit.{changeWith, retiredRefusal, codeRefusals, editOf}
+use Rattle.journal.proofs.Laws.{parts-accept, taken-changes}
 use Rattle.journal.proofs.Rewritten.{rewritten-twice}
 use Rattle.sheet.specs.RoundTrip.{HasSheet}
 use Rattle.sheet.specs.Sheet.{tells}
@@ -62,14 +62,16 @@ module _ (code : List ℕ) (b : Bytes code) (d : Edit) (takes : Fits code d) whe
 
   -- and one e that the code takes too
   module _ (e : Edit) (fits : Fits code e) where
-    -- is acceptable still
+    abbrev asked : ℕ → List Refusal
+    asked n = changeWith (retiredRefusal e ∷ []) [] n e
+
+    -- is acceptable still: its bundle's tag decides that, and its form
     fits-still : Fits now e
     unfolding findAnswer
     fits-still =
         let l = in-code code e fits in
-        first-on (findRefusals now (e .bundle)) (changeRefusals (numberAt now (e .bundle)) e) tt (found-when now (e .bundle) (lies-as code now (e .bundle) (changed-length code (field d) takes) l))
-        ∙ ap first (taken-by-tag _ _ e (tag-stays (e .bundle) l))
-        ∙ taken-changes code e fits
+        first-on (findRefusals now (e .bundle)) (asked (numberAt now (e .bundle))) tt (found-when now (e .bundle) (lies-as code now (e .bundle) (changed-length code (field d) takes) l))
+        ∙ rw (tag-stays (e .bundle) l) (parts-accept (findRefusals code (e .bundle)) (asked (numberAt code (e .bundle))) tt fits .1)
 
     -- both in one bundle
     made-twice : d .bundle ≡ e .bundle → changed now (field e) ≡ rewritten code (e .bundle) (changedNumber (changedNumber (numberAt code (e .bundle)) d) e)

@@ -1,7 +1,8 @@
 -- When the order of edits does not matter (02's #113): for two files of them between which no order was recorded. It is said of plain field edits by one
 -- party, with any shared journal that serves the party, so one that was loaded too. Between the edits may stand any calls of another party,
 -- and of the party's own calls sheets and lines written and the load of the sheet that its call straight before wrote. Its other calls
--- between them are excepted: an undo, the load of another text, and checked edits, imports and folds. The code comes out the same, while the
+-- between them are excepted: an undo, the load of another text, and checked edits, imports and folds. An edit that is acceptable is none of a
+-- retired form, so that #112 leaves all of it as it stands. The code comes out the same, while the
 -- journals may differ. It is about `mixed`, which goes by the contracts of the calls, so about `editBy`, and about `meets`, which the call `meet`
 -- answers. Proved in `proofs/Order.antt`. Assumes nothing.
 use Prim.Native.Nat.{ℕ, _+_, _≤_}
@@ -67,7 +68,7 @@ ApartCommute =
     (s : Shared) (codes : ℕ → List ℕ) (party : ℕ) (d e : Edit) → Start s codes party 2 → Acceptable s codes party d → Acceptable s codes party e → Apart d e
     → (calls others : List (ℕ × SheetCall)) → Makes party calls (e ∷ d ∷ []) → Makes party others (d ∷ e ∷ []) → Agree s codes party calls others
 
--- two edits of the same field: of the same bits of one bundle, whatever their forms (M37 and M48 have the same, and so have I18 and I19)
+-- two edits of the same field: of the same bits of one bundle, whatever their forms (B1, B2 and B3 have the same)
 pub record SameField (d e : Edit) : Type 0 where
   pub bundle : d .bundle ≡ e .bundle
   pub parts : partsOf d ≡ partsOf e

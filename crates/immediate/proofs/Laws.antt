@@ -27,7 +27,7 @@ use Rattle.immediate.specs.declared.outcome.Changed.{Changed}
 use Rattle.immediate.specs.declared.outcome.Immediate.{Immediate}
 use Rattle.row.proofs.Rows.{good, row-good}
 use Rattle.immediate.proofs.Sound.{sound}
-use Rattle.immediate.proofs.Written.{read-written, written-again, written-lt, bit-kept, tag-kept, written-comm}
+use Rattle.immediate.proofs.Written.{read-written, written-lt, bit-kept, tag-kept, written-comm}
 
 -- the row is one, and the form fits the slot
 pub record Stands (n slot : ℕ) (form : Form) (row : Row) : Type 0 where
@@ -123,23 +123,13 @@ module _ (n : ℕ) (e : Edit) (taken : first (changeRefusals n e) ≡ accepted) 
   pub changed-lt : n < 2 ^ 128 → changedNumber n e < 2 ^ 128
   changed-lt h = written-lt (e .slot) (rowOf (e .form)) change-sound n _ h
 
-  -- an edit of the same field before it leaves nothing
-  pub changed-again : (d : Edit) → d .slot ≡ e .slot → d .form ≡ e .form → changedNumber (changedNumber n d) e ≡ changedNumber n e
-  changed-again d s f =
-      let raw = rawFor (rowOf (d .form)) (d .value) .raw in
-      ap (λ (m : ℕ). changedNumber m e) (ap₂ (λ (slot : ℕ) (form : Form). withRaw (rowOf form) slot n raw) s f)
-      ∙ written-again (e .slot) (rowOf (e .form)) change-sound n raw _
-
 -- no bit outside the edit's parts changes
 pub changed-bit : (n : ℕ) (e : Edit) (i : ℕ) → T (apartFrom (i, 1) (partsOf e)) → bit (changedNumber n e) i ≡ bit n i
 changed-bit n e i t = bit-kept (e .slot) (rowOf (e .form)) n _ i t
 
--- the tag stays, and it alone decides which edits a bundle takes
+-- the tag stays
 pub changed-tag : (n : ℕ) (e : Edit) → tagOf (changedNumber n e) ≡ tagOf n
 changed-tag n e = tag-kept (e .slot) (rowOf (e .form)) n _
-
-pub taken-by-tag : (n m : ℕ) (e : Edit) → tagOf n ≡ tagOf m → changeRefusals n e ≡ changeRefusals m e
-taken-by-tag n m e t = rw t
 
 -- edits that have no bit in common can be made in either order
 pub changed-comm : (n : ℕ) (d e : Edit) → T (meetNot (partsOf d) (partsOf e)) → changedNumber (changedNumber n e) d ≡ changedNumber (changedNumber n d) e

@@ -28,7 +28,7 @@ pub fn read_answer(bundle: Halves, slot: u64, form: Form, packed: Packed) -> u8
     slot_answer(units, slot, form)
 }
 
-fn row_answer(units: [u8; 3], packed: Packed) -> u8
+pub fn row_answer(units: [u8; 3], packed: Packed) -> u8
     ensures { λ r. ⌜ ((row : Row) → Packs packed row → r ≡ first (rowRefusals units row)) ⌝ }
 {
     if bundle::unitless(units) {

@@ -7,11 +7,12 @@ pub use outcome::Immediate;
 pub use outcome::Target;
 ghost use mathlib.Core.Path.{_≡_};
 ghost use Prim.Native.Nat.{ℕ};
-ghost use Rattle.bundle.specs.Bundle.{whole};
+ghost use Rattle.answer.specs.Answer.{first};
+ghost use Rattle.bundle.specs.Bundle.{unitsIn, whole};
 ghost use Rattle.operand.specs.Pattern.{patternOf};
 ghost use Rattle.row.specs.Row.{rowOf};
 ghost use Rattle.row.specs.inner.Packed.{unpacked, Packs};
-ghost use Rattle.immediate.specs.Immediate.{valueIn, noImmediate, immediateIn, immediateOf, noChange, changedOf, editByPattern, displacementIn, noTarget, targetIn, targetOf};
+ghost use Rattle.immediate.specs.Immediate.{rowRefusals, valueIn, noImmediate, immediateIn, immediateOf, noChange, changedOf, editByPattern, displacementIn, noTarget, targetIn, targetOf};
 ghost use Rattle.immediate.specs.inner.Sound.{SoundIn, editIfPattern};
 use answer::ACCEPTED;
 use answer::BAD_VALUE;
@@ -21,6 +22,13 @@ use form::Form;
 use meaning::Meaning;
 use operand::Operand;
 use row::Packed;
+
+// Whether a bundle has units and a form a row: 2, then 3.
+pub fn row_answer(bundle: Halves, form: Form) -> u8
+    ensures { λ r. ⌜ r ≡ first (rowRefusals (unitsIn (whole bundle)) (rowOf form)) ⌝ }
+{
+    fit::row_answer(bundle::units_of(bundle), row::packed_of(form))
+}
 
 // The immediate of a form in a slot of a code's bundle.
 pub fn immediate(code: &[u8], bundle: u64, slot: u64, form: Form) -> Immediate

@@ -10,18 +10,18 @@ use borrow.Author.Tests.{ltb-false, eqb-true, eqb-false, not-false}
 use lib.Dec.{T, eqb}
 use Rattle.answer.specs.Answer.{Refusal, accepted, first, outcome}
 use Rattle.answer.proofs.Laws.{numbered, NoneApplies, none-applies, first-on, first-stop, first-without, accepts, refuses}
-use Rattle.bundle.specs.Bundle.{findRefusals, findAnswer, numberAt, whole}
+use Rattle.bundle.specs.Bundle.{findRefusals, findAnswer, numberAt, unitsIn, whole}
 use Rattle.bundle.proofs.Bytes.{Bytes}
 use Rattle.bundle.proofs.Halves.{whole-halves}
 use Rattle.bundle.proofs.Laws.{number-at-lt}
 use Rattle.bundle.proofs.Lies.{found-when}
 use Rattle.form.specs.declared.Edit.{Edit}
 use Rattle.row.specs.Row.{rowOf}
-use Rattle.immediate.specs.Immediate.{valueRefusals, changeRefusals, changedNumber}
+use Rattle.immediate.specs.Immediate.{rowRefusals, slotRefusals, valueRefusals, changeRefusals, changedNumber}
 use Rattle.immediate.proofs.Laws.{changed-lt}
 use Rattle.journal.specs.Change.{Outcome, rewritten, field, changeRecord, roomRefusals, makeOf}
-use Rattle.journal.specs.Edit.{codeRefusals, formRefusal, checkedRefusals, undoRefusals, undoOf, byParty, actBy}
-use Rattle.journal.specs.inner.Plan.{refusedPlan, readingRefusals, lookRefusals, editAnswer, editPlanOf, undoPlanOf, planOf, carriedOut}
+use Rattle.journal.specs.Edit.{refusalsWith, retiredRefusal, codeRefusals, formRefusal, checkedRefusals, undoRefusals, undoOf, byParty, actBy}
+use Rattle.journal.specs.inner.Plan.{refusedPlan, newRefusals, readingRefusals, lookRefusals, fieldRefusals, wordRefusals, editAnswer, editPlanOf, undoPlanOf, planOf, carriedOut}
 use Rattle.journal.specs.declared.Act.{Act}
 use Rattle.journal.specs.declared.Act.the-variants.{Edit as EditAct, Checked, Undo}
 use Rattle.journal.specs.declared.plan.Plan.{Plan}
@@ -49,6 +49,12 @@ pub first-past : (rs qs ps : List Refusal) → first qs ≡ first ps → first (
 first-past [] qs ps e = e
 first-past (r ∷ rs) qs ps e = ap (λ (n : ℕ). cond (r .1) (r .0) n) (first-past rs qs ps e)
 
+-- so one that was asked before, and didn't apply, can be left out
+first-passed : (rs : List Refusal) (r : Refusal) (qs : List Refusal) → T (numbered rs) → T (numbered (r ∷ [])) → first (rs ++ (r ∷ [])) ≡ accepted → first (rs ++ (r ∷ qs)) ≡ first (rs ++ qs)
+first-passed rs r qs n m a =
+    let p = parts-accept rs (r ∷ []) n a in
+    first-on rs (r ∷ qs) n (p .0) ∙ first-on (r ∷ []) qs m (p .1) ∙ sym (first-on rs qs n (p .0))
+
 -- a plan that is accepted or refused by a
 module _ (plan : Plan) (a : ℕ) where
   abbrev Decided : Plan
@@ -75,27 +81,42 @@ module _ (plan : Plan) (a : ℕ) where
       go true q = let p = f (eqb-true a accepted q) in accepts (plan .answer) _ _ h ∙ (λ i. record { answer = accepted; journal = p .0 i; code = p .1 i })
       go false q = refuses a _ _ (eqb-false a accepted q)
 
+-- what comes before the question after a new edit's form, and what comes after it
+abbrev before : List ℕ → Edit → List Refusal
+before code e = findRefusals code (e .bundle) ++ rowRefusals (unitsIn (numberAt code (e .bundle))) (rowOf (e .form))
+
+abbrev pub behind : List Refusal → List ℕ → Edit → List Refusal
+behind late code e = slotRefusals (unitsIn (numberAt code (e .bundle))) (e .slot) (e .form) ++ late ++ valueRefusals (rowOf (e .form)) (e .value)
+
 -- an edit that the code takes: its bundle is there, takes it, and stays a number below 2 ^ 128
 module _ (code : List ℕ) (e : Edit) (taken : first (codeRefusals code e) ≡ accepted) where
-  pub taken-found : findAnswer code (e .bundle) ≡ accepted
+  taken-parts : (findAnswer code (e .bundle) ≡ accepted) × (first (changeRefusals (numberAt code (e .bundle)) e) ≡ accepted)
   unfolding findAnswer
-  taken-found = parts-accept (findRefusals code (e .bundle)) (changeRefusals (numberAt code (e .bundle)) e) tt taken .0
+  taken-parts =
+      parts-accept (findRefusals code (e .bundle)) (changeRefusals (numberAt code (e .bundle)) e) tt (first-without (before code e) (retiredRefusal e) (behind [] code e) tt taken)
+
+  pub taken-found : findAnswer code (e .bundle) ≡ accepted
+  taken-found = taken-parts .0
 
   pub taken-changes : first (changeRefusals (numberAt code (e .bundle)) e) ≡ accepted
-  taken-changes = parts-accept (findRefusals code (e .bundle)) (changeRefusals (numberAt code (e .bundle)) e) tt taken .1
+  taken-changes = taken-parts .1
 
   pub taken-lt : Bytes code → changedNumber (numberAt code (e .bundle)) e < 2 ^ 128
   taken-lt b = changed-lt (numberAt code (e .bundle)) e taken-changes (number-at-lt code (e .bundle) taken-found b)
 
 -- a checked edit that the code takes is an edit that it takes
 pub checked-taken : (code : List ℕ) (e : Edit) → first (checkedRefusals code e) ≡ accepted → first (codeRefusals code e) ≡ accepted
-checked-taken code e = first-without (readingRefusals code e) (formRefusal code e) (valueRefusals (rowOf (e .form)) (e .value)) tt
+checked-taken code e =
+    first-without (before code e ++ (retiredRefusal e ∷ slotRefusals (unitsIn (numberAt code (e .bundle))) (e .slot) (e .form))) (formRefusal code e) (valueRefusals (rowOf (e .form)) (e .value)) tt
 
--- and it is refused as the edit is, once the look accepts
-pub looked : (code : List ℕ) (e : Edit) (qs : List Refusal) → first (lookRefusals code e) ≡ accepted → first (checkedRefusals code e ++ qs) ≡ first (codeRefusals code e ++ qs)
-looked code e qs a =
-    let rest = valueRefusals (rowOf (e .form)) (e .value) ++ qs in
-    first-on (lookRefusals code e) rest tt a ∙ sym (first-on (readingRefusals code e) rest tt (parts-accept (readingRefusals code e) (formRefusal code e ∷ []) tt a .0))
+-- an edit is refused as one that isn't asked after its form, once that is done
+pub new : (late : List Refusal) (code : List ℕ) (e : Edit) (qs : List Refusal) → first (newRefusals code e) ≡ accepted
+    → first (refusalsWith (retiredRefusal e ∷ []) late code e ++ qs) ≡ first (refusalsWith [] late code e ++ qs)
+new late code e qs a = first-passed (before code e) (retiredRefusal e) (behind late code e ++ qs) tt tt a
+
+-- and as one whose word isn't looked at
+pub looked : (code : List ℕ) (e : Edit) (qs : List Refusal) → first (lookRefusals code e) ≡ accepted → first (wordRefusals code e ++ qs) ≡ first (fieldRefusals code e ++ qs)
+looked code e qs a = first-passed (readingRefusals code e) (formRefusal code e) (valueRefusals (rowOf (e .form)) (e .value) ++ qs) tt tt a
 
 -- an edit, by what the journal shows, that is refused where the code refuses it, and maybe elsewhere
 module _ (party places : ℕ) (code : List ℕ) (e : Edit) (refusals : List Refusal) (n : T (numbered refusals)) (takes : first refusals ≡ accepted → first (codeRefusals code e) ≡ accepted) where

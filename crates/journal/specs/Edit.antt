@@ -5,10 +5,11 @@ use mathlib.Core.Bool.{not}
 use mathlib.Core.List.{List, [], _∷_, _++_, dropLast}
 use lib.Dec.{eqb, ltb}
 use lib.ListN.{length}
-use Rattle.answer.specs.Answer.{Refusal, first, outcome, accepted, exhaustedInput, empty, stale, tooLong, badJournal, badOpcode}
+use Rattle.answer.specs.Answer.{Refusal, first, outcome, accepted, exhaustedInput, empty, stale, tooLong, badJournal, badOpcode, retired}
 use Rattle.bundle.specs.Bundle.{longestCode, numberAt, unitsIn, findRefusals, halvesOf, whole}
 use Rattle.choice.specs.Choice.{hasForm}
 use Rattle.form.specs.declared.Edit.{Edit}
+use Rattle.retired.specs.Retired.{isRetired}
 use Rattle.row.specs.Row.{rowOf}
 use Rattle.immediate.specs.Immediate.{rowRefusals, slotRefusals, valueRefusals}
 use Rattle.record.specs.Record.{sameHalves}
@@ -21,23 +22,30 @@ use Rattle.journal.specs.declared.Act.{Act}
 use Rattle.journal.specs.declared.Act.the-variants.{Edit as EditAct, Checked, Undo}
 use Rattle.journal.specs.declared.Edited.{Edited}
 
--- when the code refuses an edit of which more is asked between 5 and 6: 10, 1, 2, 3, 5, that, 6
-abbrev pub refusalsWith : List Refusal → List ℕ → Edit → List Refusal
-refusalsWith more code e =
-    let units = unitsIn (numberAt code (e .bundle)) in
+-- when a bundle refuses an edit of which more is asked between 3 and 5, and more between 5 and 6: 2, 3, the one, 5, the other, 6
+abbrev pub changeWith : List Refusal → List Refusal → ℕ → Edit → List Refusal
+changeWith early late n e =
     let row = rowOf (e .form) in
-    findRefusals code (e .bundle) ++ rowRefusals units row ++ slotRefusals units (e .slot) (e .form) ++ more ++ valueRefusals row (e .value)
+    rowRefusals (unitsIn n) row ++ early ++ slotRefusals (unitsIn n) (e .slot) (e .form) ++ late ++ valueRefusals row (e .value)
 
--- of a plain edit nothing more
+-- when the code does: as `find` does, 10 and 1, and then as the bundle does
+abbrev pub refusalsWith : List Refusal → List Refusal → List ℕ → Edit → List Refusal
+refusalsWith early late code e = findRefusals code (e .bundle) ++ changeWith early late (numberAt code (e .bundle)) e
+
+-- of every new edit that its form isn't retired: 15
+abbrev pub retiredRefusal : Edit → Refusal
+retiredRefusal e = (retired, isRetired (e .form))
+
+-- and of a plain edit nothing more
 abbrev pub codeRefusals : List ℕ → Edit → List Refusal
-codeRefusals code e = refusalsWith [] code e
+codeRefusals code e = refusalsWith (retiredRefusal e ∷ []) [] code e
 
 -- of a checked edit that the word in its slot has its form: 14
 abbrev pub formRefusal : List ℕ → Edit → Refusal
 formRefusal code e = (badOpcode, not (hasForm (numberAt code (e .bundle)) (e .slot) (e .form)))
 
 abbrev pub checkedRefusals : List ℕ → Edit → List Refusal
-checkedRefusals code e = refusalsWith (formRefusal code e ∷ []) code e
+checkedRefusals code e = refusalsWith (retiredRefusal e ∷ []) (formRefusal code e ∷ []) code e
 
 -- what a party's edit comes to with its journal of so many places
 abbrev pub editOf : ℕ → ℕ → List ℕ → Journal → Edit → Outcome

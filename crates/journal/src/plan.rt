@@ -1,9 +1,10 @@
 // What an act decides, on values alone: nothing is written here.
 ghost use mathlib.Core.Path.{_≡_};
+ghost use mathlib.Core.Bool.{cond};
 ghost use Rattle.answer.specs.Answer.{first};
 ghost use Rattle.journal.specs.Change.{roomRefusals};
 ghost use Rattle.journal.specs.Edit.{codeRefusals, checkedRefusals, undoRefusals};
-ghost use Rattle.journal.specs.inner.Plan.{refusedPlan, lookRefusals, editAnswer, editPlanOf, undoPlanOf, planOf};
+ghost use Rattle.journal.specs.inner.Plan.{refusedPlan, newRefusals, lookRefusals, fieldRefusals, wordRefusals, editAnswer, editPlanOf, undoPlanOf, planOf};
 use crate::Act;
 use answer::ACCEPTED;
 use answer::BAD_JOURNAL;
@@ -11,6 +12,7 @@ use answer::BAD_OPCODE;
 use answer::EMPTY;
 use answer::EXHAUSTED_INPUT;
 use answer::FULL;
+use answer::RETIRED;
 use answer::STALE;
 use answer::TOO_LONG;
 use bundle::Halves;
@@ -49,15 +51,49 @@ pub fn plan_of(code: &[u8], party: u64, own: Own, act: Act) -> Plan
 {
     let view = own.view;
     match act {
-        Act::Edit(edit) => edit_plan(code, party, own.places, view, edit),
-        Act::Checked(edit) => checked_plan(code, party, own.places, view, edit),
+        Act::Edit(edit) => new_plan(code, party, own.places, view, false, edit),
+        Act::Checked(edit) => new_plan(code, party, own.places, view, true, edit),
         Act::Undo => undo_plan(code, view),
     }
 }
 
+// A new edit is a question after its form, and then the edit, checked or not.
+fn new_plan(code: &[u8], party: u64, places: u64, view: View, checked: bool, edit: Edit) -> Plan
+    ensures { λ r. ⌜ r ≡ editPlanOf party (now (code .entry)) view edit (editAnswer places view (cond checked (checkedRefusals (now (code .entry)) edit) (codeRefusals (now (code .entry)) edit))) ⌝ }
+{
+    let answer = new_refusal(code, edit);
+    if answer != ACCEPTED {
+        return refused(answer);
+    }
+    if checked {
+        return checked_plan(code, party, places, view, edit);
+    }
+    edit_plan(code, party, places, view, edit)
+}
+
+// Why no new edit is taken of a form in a bundle, whatever the slot.
+fn new_refusal(code: &[u8], edit: Edit) -> u8
+    ensures { λ r. ⌜ r ≡ first (newRefusals (now (code .entry)) edit) ⌝ }
+{
+    let loaded = bundle::load(code, edit.bundle);
+    let missing = loaded.answer;
+    if missing != ACCEPTED {
+        return missing;
+    }
+    let form = edit.form;
+    let unfit = immediate::row_answer(loaded.halves, form);
+    if unfit != ACCEPTED {
+        return unfit;
+    }
+    if retired::is_retired(form) {
+        return RETIRED;
+    }
+    ACCEPTED
+}
+
 // A party's edit keeps its record at the first free one of so many places.
 fn edit_plan(code: &[u8], party: u64, places: u64, view: View, edit: Edit) -> Plan
-    ensures { λ r. ⌜ r ≡ editPlanOf party (now (code .entry)) view edit (editAnswer places view (codeRefusals (now (code .entry)) edit)) ⌝ }
+    ensures { λ r. ⌜ r ≡ editPlanOf party (now (code .entry)) view edit (editAnswer places view (fieldRefusals (now (code .entry)) edit)) ⌝ }
 {
     let bundle = edit.bundle;
     let loaded = bundle::load(code, bundle);
@@ -99,7 +135,7 @@ fn edit_plan(code: &[u8], party: u64, places: u64, view: View, edit: Edit) -> Pl
 
 // A checked edit is a look at the word, and then the edit.
 fn checked_plan(code: &[u8], party: u64, places: u64, view: View, edit: Edit) -> Plan
-    ensures { λ r. ⌜ r ≡ editPlanOf party (now (code .entry)) view edit (editAnswer places view (checkedRefusals (now (code .entry)) edit)) ⌝ }
+    ensures { λ r. ⌜ r ≡ editPlanOf party (now (code .entry)) view edit (editAnswer places view (wordRefusals (now (code .entry)) edit)) ⌝ }
 {
     let answer = look_refusal(code, edit);
     if answer != ACCEPTED {

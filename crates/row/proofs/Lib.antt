@@ -1,3 +1,4 @@
+pub mod Among
 pub mod Kind
 pub mod Lettered
 pub mod Named

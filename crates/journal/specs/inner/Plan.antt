@@ -3,14 +3,14 @@
 use Prim.Native.Nat.{ℕ, _+_, _-_}
 use mathlib.Core.List.{List, [], _∷_, _++_}
 use Rattle.answer.specs.Answer.{Refusal, first, outcome, accepted}
-use Rattle.bundle.specs.Bundle.{numberAt, findRefusals, halvesOf, whole}
+use Rattle.bundle.specs.Bundle.{numberAt, unitsIn, findRefusals, halvesOf, whole}
 use Rattle.form.specs.declared.Edit.{Edit}
 use Rattle.row.specs.Row.{rowOf}
-use Rattle.immediate.specs.Immediate.{readRefusals}
+use Rattle.immediate.specs.Immediate.{rowRefusals, readRefusals}
 use Rattle.record.specs.Record.{noRecord}
 use Rattle.records.specs.Journal.{Journal, withRecord}
 use Rattle.journal.specs.Change.{Outcome, rewritten, field, changeRecord, roomRefusals}
-use Rattle.journal.specs.Edit.{codeRefusals, formRefusal, checkedRefusals, undoRefusals}
+use Rattle.journal.specs.Edit.{refusalsWith, retiredRefusal, codeRefusals, formRefusal, checkedRefusals, undoRefusals}
 use Rattle.records.specs.declared.Own.{Own}
 use Rattle.records.specs.declared.View.{View}
 use Rattle.journal.specs.declared.Act.{Act}
@@ -21,13 +21,24 @@ use Rattle.journal.specs.declared.plan.Plan.{Plan}
 abbrev pub refusedPlan : ℕ → Plan
 refusedPlan answer = record { answer = answer; bundle = 0; halves = halvesOf 0; place = 0; kept = noRecord; count = 0 }
 
+-- what is asked of a new edit first: 10, 1, 2, 3, and then 15
+abbrev pub newRefusals : List ℕ → Edit → List Refusal
+newRefusals code e = findRefusals code (e .bundle) ++ rowRefusals (unitsIn (numberAt code (e .bundle))) (rowOf (e .form)) ++ retiredRefusal e ∷ []
+
 -- why an edit's number can't be read: 10, 1, 2, 3, 5
 abbrev pub readingRefusals : List ℕ → Edit → List Refusal
 readingRefusals code e = findRefusals code (e .bundle) ++ readRefusals (numberAt code (e .bundle)) (e .slot) (e .form) (rowOf (e .form))
 
--- what a checked edit asks before it is an edit: that, and then 14
+-- what is asked of a checked edit next: that, and then 14
 abbrev pub lookRefusals : List ℕ → Edit → List Refusal
 lookRefusals code e = readingRefusals code e ++ formRefusal code e ∷ []
+
+-- when the code refuses an edit that is asked neither, and one that is asked the second
+abbrev pub fieldRefusals : List ℕ → Edit → List Refusal
+fieldRefusals code e = refusalsWith [] [] code e
+
+abbrev pub wordRefusals : List ℕ → Edit → List Refusal
+wordRefusals code e = refusalsWith [] (formRefusal code e ∷ []) code e
 
 -- what an edit is answered, where the code has these reasons to refuse it
 abbrev pub editAnswer : ℕ → View → List Refusal → ℕ

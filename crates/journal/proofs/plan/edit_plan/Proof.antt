@@ -16,8 +16,7 @@ use Rattle.immediate.specs.Immediate.{changeRefusals, changedOf}
 use Rattle.immediate.specs.declared.outcome.Changed.{Changed}
 use Rattle.immediate.proofs.Laws.{changed-answer, changed-taken}
 use Rattle.journal.specs.Change.{roomRefusals}
-use Rattle.journal.specs.Edit.{codeRefusals}
-use Rattle.journal.specs.inner.Plan.{refusedPlan, editAnswer, editPlanOf}
+use Rattle.journal.specs.inner.Plan.{refusedPlan, fieldRefusals, editAnswer, editPlanOf}
 use Rattle.journal.proofs.Laws.{refused-is}
 use Rattle.journal.proofs.plan.edit_plan.Statement.{statement}
 use Rattle.journal.proofs.plan.edit_plan.Tie as tie
@@ -74,7 +73,7 @@ returns-2 c =
 -- what the journal answers, once the change is accepted
 answers : (c : tie.After-room-refusal) →
     let a = c .before .before .before .before .before .before .before .args in
-    editAnswer (a .places) (a .view) (codeRefusals (now (a .code)) (a .edit)) ≡ c .room-refusal .result
+    editAnswer (a .places) (a .view) (fieldRefusals (now (a .code)) (a .edit)) ≡ c .room-refusal .result
 unfolding finding changing room
 answers c =
     let p = c .before .before in

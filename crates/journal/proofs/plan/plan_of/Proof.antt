@@ -10,12 +10,12 @@ use Rattle.journal.proofs.plan.plan_of.Tie as tie
 returns : tie.Need-returns
 returns c =
     let a = c .before .before .before .before .before .before .args in
-    c .edit-plan .ensures ∙ ap (planOf (a .party) (now (a .code)) (a .own)) (sym (c .before .before .act .given .1))
+    c .new-plan .ensures ∙ ap (planOf (a .party) (now (a .code)) (a .own)) (sym (c .before .before .act .given .1))
 
 returns-2 : tie.Need-returns-2
 returns-2 c =
     let a = c .before .before .before .before .before .before .args in
-    c .checked-plan .ensures ∙ ap (planOf (a .party) (now (a .code)) (a .own)) (sym (c .before .before .act2 .given .1))
+    c .new-plan2 .ensures ∙ ap (planOf (a .party) (now (a .code)) (a .own)) (sym (c .before .before .act2 .given .1))
 
 returns-3 : tie.Need-returns-3
 returns-3 c =
