@@ -34,8 +34,7 @@ pub fn choose(unit: u64, word: u64) -> Chosen
         return refused(BAD_WORD);
     }
     match unit {
-        M => with_family(A, named_a(word)),
-        I => with_family(A, named_a(word)),
+        M | I => with_family(A, named_a(word)),
         B => with_family(B, named_b(word)),
         _ => refused(BAD_OPCODE),
     }

@@ -89,8 +89,9 @@ fn relative(word: u64) -> Named
     }
 }
 
-// 000's B table.
-pub fn named_b(word: u64) -> Named
+// Opcodes 0 to 3.
+fn from_0(word: u64) -> Named
+    requires { ⌜ T (holds ((39, 2, 0) ∷ []) word) ⌝ }
     ensures { λ r. ⌜ r ≡ short (chosen bTable word none) ⌝ }
 {
     let key = get(word, 37, 4);
@@ -98,9 +99,32 @@ pub fn named_b(word: u64) -> Named
         0 => miscellaneous(word),
         1 => Named(Opcode::Br_call, 5),
         2 => hints(word),
+        _ => NONE,
+    }
+}
+
+// Opcodes 4 to 7.
+fn from_4(word: u64) -> Named
+    requires { ⌜ T (holds ((39, 2, 1) ∷ []) word) ⌝ }
+    ensures { λ r. ⌜ r ≡ short (chosen bTable word none) ⌝ }
+{
+    let key = get(word, 37, 4);
+    match key {
         4 => relative(word),
         5 => Named(Opcode::Br_call, 3),
         7 => Named(Opcode::Brp_ipwh_ih, 6),
+        _ => NONE,
+    }
+}
+
+// 000's B table, by the opcode's upper half first: a few arms are compares, and many a table of jumps, which is slower.
+pub fn named_b(word: u64) -> Named
+    ensures { λ r. ⌜ r ≡ short (chosen bTable word none) ⌝ }
+{
+    let key = get(word, 39, 2);
+    match key {
+        0 => from_0(word),
+        1 => from_4(word),
         _ => NONE,
     }
 }

@@ -12,7 +12,7 @@ ghost use Rattle.bundle.specs.Bundle.{unitsIn, whole};
 ghost use Rattle.operand.specs.Pattern.{patternOf};
 ghost use Rattle.row.specs.Row.{rowOf};
 ghost use Rattle.row.specs.inner.Packed.{unpacked, Packs};
-ghost use Rattle.immediate.specs.Immediate.{rowRefusals, valueIn, noImmediate, immediateIn, immediateOf, noChange, changedOf, editByPattern, displacementIn, noTarget, targetIn, targetOf};
+ghost use Rattle.immediate.specs.Immediate.{rowRefusals, readRefusals, valueIn, noImmediate, immediateIn, immediateOf, noChange, changedOf, editByPattern, displacementIn, noTarget, targetIn, targetOf};
 ghost use Rattle.immediate.specs.inner.Sound.{SoundIn, editIfPattern};
 use answer::ACCEPTED;
 use answer::BAD_VALUE;
@@ -28,6 +28,13 @@ pub fn row_answer(bundle: Halves, form: Form) -> u8
     ensures { λ r. ⌜ r ≡ first (rowRefusals (unitsIn (whole bundle)) (rowOf form)) ⌝ }
 {
     fit::row_answer(bundle::units_of(bundle), row::packed_of(form))
+}
+
+// Whether a form's immediate can be read in a slot of a bundle: that, then 5.
+pub fn read_answer(bundle: Halves, slot: u64, form: Form) -> u8
+    ensures { λ r. ⌜ r ≡ first (readRefusals (whole bundle) slot form (rowOf form)) ⌝ }
+{
+    fit::read_answer(bundle, slot, form, row::packed_of(form))
 }
 
 // The immediate of a form in a slot of a code's bundle.

@@ -148,16 +148,19 @@ fn checked_plan(code: &[u8], party: u64, places: u64, view: View, edit: Edit) ->
 fn look_refusal(code: &[u8], edit: Edit) -> u8
     ensures { λ r. ⌜ r ≡ first (lookRefusals (now (code .entry)) edit) ⌝ }
 {
-    let bundle = edit.bundle;
+    let loaded = bundle::load(code, edit.bundle);
+    let missing = loaded.answer;
+    if missing != ACCEPTED {
+        return missing;
+    }
+    let halves = loaded.halves;
     let slot = edit.slot;
     let form = edit.form;
-    let read = immediate::immediate(code, bundle, slot, form);
-    let unread = read.answer;
+    let unread = immediate::read_answer(halves, slot, form);
     if unread != ACCEPTED {
         return unread;
     }
-    let loaded = bundle::load(code, bundle);
-    if !choice::has_form(loaded.halves, slot, form) {
+    if !choice::has_form(halves, slot, form) {
         return BAD_OPCODE;
     }
     ACCEPTED

@@ -274,17 +274,22 @@ fn place_among(list: u64, count: u64, entry: u64) -> Raw
     place_in(list, count, entry)
 }
 
-// The place of a number among the increments, 8 where they haven't it.
+// The place of a number among the increments, 8 where they haven't it; without a table of jumps, which is slower than compares.
 fn in_increments(entry: u64) -> u64
     ensures { λ r. ⌜ foundAt r ≡ placeIn increments 8 entry ⌝ }
 {
+    if entry % 8 == 0 {
+        return match entry {
+            16 => 0,
+            8 => 1,
+            0xF0 => 4,
+            0xF8 => 5,
+            _ => 8,
+        };
+    }
     match entry {
-        16 => 0,
-        8 => 1,
         4 => 2,
         1 => 3,
-        0xF0 => 4,
-        0xF8 => 5,
         0xFC => 6,
         0xFF => 7,
         _ => 8,
@@ -295,10 +300,15 @@ fn in_increments(entry: u64) -> u64
 fn in_shifts(entry: u64) -> u64
     ensures { λ r. ⌜ foundAt r ≡ placeIn shifts 4 entry ⌝ }
 {
+    if entry % 8 == 7 {
+        return match entry {
+            7 => 1,
+            15 => 2,
+            _ => 8,
+        };
+    }
     match entry {
         0 => 0,
-        7 => 1,
-        15 => 2,
         16 => 3,
         _ => 8,
     }

@@ -79,7 +79,7 @@ fn report_of(image: &[u8]) -> [u64; NUMBERS]
     ensures { λ r. ⌜ r ≡ reportOf (now (image .entry)) ⌝ }
 {
     let mut report = by_tag(image);
-    let shares = shares_of(report);
+    let shares = shares_of(&report);
     report[BUNDLES] = (image.len() / 16) as u64;
     report[RESERVED] = shares.reserved;
     report[STOPS] = shares.stops;
@@ -87,21 +87,26 @@ fn report_of(image: &[u8]) -> [u64; NUMBERS]
     report
 }
 
-// The counts of the tags, and zeros after them; two bundles a turn, which is faster.
+// The counts of the tags, and zeros after them; four bundles a turn, which is faster.
 fn by_tag(image: &[u8]) -> [u64; NUMBERS]
     requires { ⌜ length (now image) ≤ longestCode ⌝ }
     ensures { λ r. ⌜ r ≡ countsOf (tagsOf (now (image .entry))) ++ replicate 4 0 ⌝ }
 {
     let mut counts = [0u64; NUMBERS];
     let bundles = image.len() / 16;
-    let mut n = 0;
-    while n + 1 < bundles {
-        count(&mut counts, image, n);
-        count(&mut counts, image, n + 1);
-        n += 2;
+    let turns = bundles / 4;
+    let mut turn = 0;
+    while turn < turns {
+        count(&mut counts, image, 4 * turn);
+        count(&mut counts, image, 4 * turn + 1);
+        count(&mut counts, image, 4 * turn + 2);
+        count(&mut counts, image, 4 * turn + 3);
+        turn += 1;
     }
-    if n < bundles {
+    let mut n = 4 * turns;
+    while n < bundles {
         count(&mut counts, image, n);
+        n += 1;
     }
     counts
 }
@@ -122,9 +127,9 @@ pub struct Shares {
 }
 
 // What so many bundles of each tag add.
-fn shares_of(counts: [u64; NUMBERS]) -> Shares
-    requires { ⌜ Few counts ⌝ }
-    ensures { λ r. ⌜ r ≡ sharesOf counts ⌝ }
+fn shares_of(counts: &[u64; NUMBERS]) -> Shares
+    requires { ⌜ Few (now counts) ⌝ }
+    ensures { λ r. ⌜ r ≡ sharesOf (now (counts .entry)) ⌝ }
 {
     let mut reserved = 0;
     let mut stops = 0;

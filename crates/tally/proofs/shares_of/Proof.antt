@@ -27,19 +27,19 @@ unfolding below
 loop-holds c = (omega arith, refl, omega arith, refl, omega arith)
 
 -- what the bundles of a tag add
-adds : (c : tie.After-share Inv-loop μ-loop) → let many = getD (c .before .before .before .args .t1) (c .before .before .loop .tag) 0 in let one = c .share .result in
+adds : (c : tie.After-share Inv-loop μ-loop) → let many = getD (c .before .before .before .before .args .counts .now) (c .before .before .before .loop .tag) 0 in let one = c .share .result in
     (many * one .reserved ≤ 12288) × (many * one .stops ≤ 12288)
 adds c =
-    let l = c .before .before .loop in
-    let few = c .before .before .before .pre (l .tag) (c .before .loop-test .taken) in
+    let l = c .before .before .before .loop in
+    let few = c .before .before .before .before .pre (l .tag) (c .before .before .loop-test .taken) in
     let e = c .share .ensures in
     (mul-le-mul {m₂ = 3} few (omega (arith, e .1)), mul-le-mul few (e .2))
 
 loop-again : tie.Need-loop-again Inv-loop μ-loop
 loop-again c =
     let s = c .before .before in
-    let l = s .before .before .loop in
-    let counts = s .before .before .before .args .t1 in
+    let l = s .before .before .before .loop in
+    let counts = s .before .before .before .before .args .counts .now in
     let more : (w : ℕ → ℕ) (had one : ℕ) → had ≡ sum (map (λ t. getD counts t 0 * w t) (below (l .tag))) → one ≡ w (l .tag)
     → had + getD counts (l .tag) 0 * one ≡ sum (map (λ t. getD counts t 0 * w t) (below (l .tag + 1))) =
     λ w had one h e. rw (h, e) (sym (sum-more (λ t. getD counts t 0 * w t) (l .tag))) in
