@@ -46,6 +46,7 @@ extern "C" {
         party: u64,
         times: u64,
     ) -> u64;
+    fn bench_fold(parties: u64, lower: u64, upper: u64, records: *mut Record, places: usize, party: u64) -> u64;
     fn bench_sheet(
         parties: u64,
         lower: u64,
@@ -249,6 +250,42 @@ fn edits(random: &mut Random, model: &Model) {
     }
 }
 
+/// A full journal of so many bundles, each touched in turn, folded; both sides copy the records first.
+fn folds(random: &mut Random, model: &Model) {
+    let times = 200;
+    for (bundles, what) in [(1, "1 bundle"), (32, "32 bundles"), (1024, "1,024 bundles")] {
+        let mut code = code_of(random, 16);
+        let mut given = vec![NONE; PLACES];
+        let mut counts = Counts::opened(1);
+        for n in 0..PLACES as u64 {
+            let edited = model.edit(&mut code, counts, &mut given, 0, n % bundles, 2, b'B' as u64, 1, Value::Signed(16 * n as i64));
+            counts = counts.with(0, n + 1);
+            assert!(edited == (0, counts));
+        }
+        let (mut lent, mut records) = (given.clone(), given.clone());
+        let Counts { parties, lower, upper } = counts;
+        let ours = || {
+            let mut sum = 0;
+            for _ in 0..times {
+                lent.copy_from_slice(&given);
+                sum += unsafe { bench_fold(parties, lower, upper, lent.as_mut_ptr(), lent.len(), 0) };
+            }
+            sum
+        };
+        let theirs = || {
+            let mut sum = 0;
+            for _ in 0..times {
+                records.copy_from_slice(&given);
+                let (answer, left) = model.fold(counts, &mut records, 0);
+                sum += answer as u64 + left.lower;
+            }
+            sum
+        };
+        line(&format!("1,024 records of {what} folded"), times, "plain Rust", ours, theirs);
+        assert!(lent == records && records[bundles as usize - 1] != NONE, "the records differ, or too few are left");
+    }
+}
+
 /// With five fields a line, as sheets were before a record told of its edit.
 fn old_sheet(records: &[Record]) -> String {
     let halves = |[low, high]: [u64; 2]| format!("{low}\t{high}");
@@ -330,6 +367,7 @@ fn main() {
     choices(&mut random);
     immediates(&mut random, &model);
     edits(&mut random, &model);
+    folds(&mut random, &model);
     sheets(&mut random, &model);
     listing(&mut random, &model);
     report(&mut random, &model);

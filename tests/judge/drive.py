@@ -20,7 +20,7 @@ CHOSEN = sorted({form for form, *_ in OPCODES})
 
 # lines that have a party's number as their first field; the first two are of one kind
 EDITS = "edit", "checked"
-CALLS = *EDITS, "undo", "sheet", "sheetline", "load"
+CALLS = *EDITS, "undo", "fold", "sheet", "sheetline", "load"
 
 # how many parties a journal is for, and which of them calls
 SIDES = (1, 0), (2, 0), (2, 1)
@@ -108,7 +108,7 @@ def word_of(random, name):
 SAMPLES = (
     "code 40", "put 0 00ff10", "put 3 -", "get 0 4", "sum", "find 0", "cut 1", "join 20 16 1 2 3", "operands 77 49 0 0",
     "immediate 0 2 66 1", "target 0 2 66 1 16", "open 2", "journal 1 3 0", "journal 2 3 4 70", "place 2 1 2 B1 3 4 5 6 7 1", "records",
-    "choose 77 1099511627776", "edit 0 0 2 66 1 I-16", "checked 0 0 2 66 1 I-16", "undo 1", "sheet 0 100", "sheetline 0 1 100", "load 0 70617463686573093020", "meet 1 2 66 1 1 0 77 44",
+    "choose 77 1099511627776", "edit 0 0 2 66 1 I-16", "checked 0 0 2 66 1 I-16", "undo 1", "fold 1", "sheet 0 100", "sheetline 0 1 100", "load 0 70617463686573093020", "meet 1 2 66 1 1 0 77 44",
     "report", "clear", "clear " + " ".join(map(str, range(NUMBERS))),
 )
 
@@ -628,12 +628,17 @@ def long_runs(talk):
         talk.side(*side)
         busy, standing = begun(talk, 320, 12)
         stored(talk, standing, busy)
-        while talk.own().count < talk.room() - 2:
-            step(talk, standing, busy, 0.02)
+        climb(talk, standing, busy, 2)
         for _ in range(30):
             step(talk, standing, busy, 0.3)
             talk("records")
         undo_all(talk, standing)
+
+
+def climb(talk, standing, busy, free):
+    """Edits, and few undos, until so many places are free."""
+    while talk.own().count < talk.room() - free:
+        step(talk, standing, busy, 0.02)
 
 
 def step(talk, standing, busy, undoing):
@@ -1348,13 +1353,16 @@ def refused_loads(talk):
                 with_records(talk, f"load {text.hex()}")
 
 
-def again(talk):
-    """Loads the sheet, written as a whole or line by line."""
+def sheet_of(talk):
+    """The sheet, written as a whole or line by line."""
     if talk.random.random() < 0.5:
-        text = talk.call(f"sheet {LONGEST}").split(" ")[3]
-    else:
-        text = "".join(talk.call(f"sheetline {i} 116").split(" ")[3] for i in range(talk.own().count + 1))
-    talk.call(f"load {text}")
+        return talk.call(f"sheet {LONGEST}").split(" ")[3]
+    return "".join(talk.call(f"sheetline {i} 116").split(" ")[3] for i in range(talk.own().count + 1))
+
+
+def again(talk):
+    """Loads the sheet."""
+    talk.call(f"load {sheet_of(talk)}")
     shown(talk)
 
 
@@ -1365,16 +1373,15 @@ def again_old(talk, standing):
     shown(talk)
 
 
-def sheets_in_runs(talk, count, calls, free=None):
-    """Demand 3 with the sheet written and loaded between the calls of a run, from a fresh journal, or one with so many places free."""
+def runs_with(talk, does, count, calls, free=PLACES):
+    """Demand 3 where more than edits and undos is done in a run, from a fresh journal, or one with so many places free."""
     for _ in range(count):
         talk.any_side()
         busy, standing = begun(talk, 160, 10)
         stored(talk, standing, busy)
-        while free is not None and talk.own().count < talk.room() - free:
-            step(talk, standing, busy, 0.02)
+        climb(talk, standing, busy, free)
         for _ in range(calls):
-            step_or_sheet(talk, standing, busy)
+            does(talk, standing, busy)
         undo_all(talk, standing)
 
 
@@ -1405,7 +1412,7 @@ def zero_of_1(talk, i):
     put_record(talk, i, NONE)
 
 
-def unknown(talk):
+def unknown(talk, calls):
     """Calls of any party on journals for any number of parties: fresh ones, and ones with a record of party 0, of party 1, or of both."""
     branches(talk)
     for parties, party in itertools.product(ANY_PARTY, repeat=2):
@@ -1414,7 +1421,7 @@ def unknown(talk):
             if counts[-1] == "1":
                 zero_of_1(talk, 0)
             talk.side(parties, party)
-            for line in EVERY_CALL:
+            for line in calls:
                 with_records(talk, line)
             if parties < 4:
                 with_records(talk, f"load {sheet([NONE] * 513).hex()}")
@@ -1423,7 +1430,7 @@ def unknown(talk):
 SOME_COUNTS = 0, 1, 2, 511, 512, 513, 1023, 1024, 1025, HUGE - 1
 
 
-def some_counts(talk):
+def some_counts(talk, calls):
     """Counts of both parties, in range and out of it, with their records and without."""
     branches(talk)
     for lower, upper in sorted({*itertools.product(SOME_COUNTS, (0, 1, 2)), *itertools.product((0, 512), SOME_COUNTS)}):
@@ -1431,8 +1438,7 @@ def some_counts(talk):
             talk(f"journal {parties} {lower} {upper}")
             for i in range(filled):
                 zero_of_1(talk, i)
-            text = sheet([EXAMPLE]).hex()
-            for line in ("edit 0 2 66 1 I16", "checked 0 2 66 1 I32", "undo", f"sheet {LONGEST}", "sheetline 1 100", f"load {text}"):
+            for line in calls:
                 talk.side(parties, talk.random.randrange(2))
                 with_records(talk, line)
 
@@ -1513,13 +1519,13 @@ def written_out(talk, side):
     talk.call(f"sheet {LONGEST}")
 
 
-def mixings(talk):
-    """Two parties' calls, mixed, each party over its own code; then each party's alone, which are to be answered the same. Of runs with
-    nothing but edits, undos and own sheets, demand 3 is worked out for each party."""
-    for _ in range(30):
-        mixing(talk, [(stepped, 100), (undone, 4)])
-        mixing(talk, [(wandered, 100)])
-    mixing(talk, [(climbed, 1700), (stepped, 40), (undone, 4)])
+def mixings(talk, count, steps, wanders):
+    """Two parties' calls, mixed, each party over its own code; then each party's alone, which are to be answered the same. Of the steps, for
+    which demand 3 has standing edits, it is worked out for each party."""
+    for _ in range(count):
+        mixing(talk, [(steps, 100), (undone, 4)])
+        mixing(talk, [(wanders, 100)])
+    mixing(talk, [(climbed, 1700), (steps, 40), (undone, 4)])
 
 
 def mixing(talk, phases):
@@ -1549,11 +1555,200 @@ def sheets(talk):
     slices(talk, (*calls, "sheet 0", "sheetline 0 0", *(f"load {text.hex()}" for text in texts)))
     large(talk)
     refused_loads(talk)
-    sheets_in_runs(talk, 60, 60)
-    sheets_in_runs(talk, 2, 30, 5)
-    unknown(talk)
-    some_counts(talk)
-    mixings(talk)
+    runs_with(talk, step_or_sheet, 60, 60)
+    runs_with(talk, step_or_sheet, 2, 30, 5)
+    unknown(talk, EVERY_CALL)
+    one = f"load {sheet([EXAMPLE]).hex()}"
+    some_counts(talk, ("edit 0 2 66 1 I16", "checked 0 2 66 1 I32", "undo", f"sheet {LONGEST}", "sheetline 1 100", one))
+    mixings(talk, 30, stepped, wandered)
+
+
+# ---- folds
+
+def folds(talk):
+    tuned(talk)
+    every_form(talk)
+    set_and_folded(talk, 1000)
+    full_folds(talk)
+    any_folds(talk, 1000)
+    wrong_in_one(talk, ("fold", "undo"))
+    slices(talk, ("fold", "edit 0 2 66 1 I-16", "fold", "undo"))
+    runs_with(talk, step_or_fold, 100, 60)
+    refilled(talk)
+    calls = "edit 0 2 66 1 I16", "edit 0 2 66 1 I32", "fold", "undo"
+    unknown(talk, calls)
+    some_counts(talk, calls)
+    mixings(talk, 15, fold_stepped, fold_wandered)
+
+
+def fold(talk):
+    """A fold, and a second one straight after, which changes nothing."""
+    said = talk.call("fold")
+    now = talk("records")
+    assert (talk.call("fold"), talk("records")) == (said, now), "a second fold changes something"
+    talk("sum")
+    return said
+
+
+def fold_in_run(talk, standing):
+    same(talk, standing, fold(talk) == "fold 0", standing.fold(), None)
+
+
+def step_or_fold(talk, standing, busy):
+    """An edit or undo, maybe with a sheet, and before it, now and then, a fold."""
+    if talk.random.random() < 0.1:
+        fold_in_run(talk, standing)
+    step_or_sheet(talk, standing, busy)
+
+
+def fold_stepped(talk, side):
+    step_or_fold(talk, side.standing, side.busy)
+
+
+def fold_wandered(talk, side):
+    if talk.random.random() < 0.15:
+        fold(talk)
+    wandered(talk, side)
+
+
+def refilled(talk):
+    """Runs up to the limit and past it, folded, and up again over the places that this freed; then back."""
+    for side in SIDES:
+        talk.side(*side)
+        busy, standing = begun(talk, 320, 12)
+        stored(talk, standing, busy)
+        for _ in range(2):
+            climb(talk, standing, busy, 0)
+            step(talk, standing, busy, 0)
+            fold_in_run(talk, standing)
+        undo_all(talk, standing)
+
+
+def tuned(talk):
+    """One number set often, and at last to what it was: its bundle's record stays, whatever the code is; then edits and folds by turns."""
+    for side, count in itertools.product(SIDES, (0, 1, 2, 100)):
+        talk.side(*side)
+        branches(talk)
+        put_journal(talk, [])
+        first = talk("immediate 5 2 66 1").split(" ")[2]
+        for value in (*(f"I{16 * i}" for i in range(count)), first):
+            talk.call(f"edit 5 2 66 1 {value}")
+        for length in (0, 65536, 65537):
+            talk(f"code {length}")
+            fold(talk)
+        branches(talk)
+        for line in ("edit 6 2 66 1 I16", "edit 5 2 66 1 I16", "fold", "edit 7 2 66 1 I16", "edit 6 2 66 1 I32", "fold", *["undo"] * 4):
+            with_records(talk, line)
+
+
+def every_form(talk):
+    """Of each form with a row, retired or not, in every slot that it fits, a record or two: one of the whole bundle is left."""
+    random = talk.random
+    talk("code 16")
+    for name, tag, slot in slots_of_rows():
+        talk.any_side()
+        talk.bundle(0, tag)
+        last = field_record(random, 0, number_at(talk.model.code, 0), name, slot)
+        before = field_record(random, 0, number_at(joined(*last[4:6]), 0), name, slot)
+        fold_records(talk, random.choice(([last], [before, last])))
+
+
+def following(random, code, ns):
+    """Records of those bundles in order, each of which goes on from the one before, up to what the code has."""
+    code, records = bytearray(code), []
+    for n in reversed(ns):
+        records.append(any_record(random, n, number_at(code, n)))
+        code[16 * n:16 * n + 16] = joined(*records[-1][4:6])
+    return records[::-1]
+
+
+def returning(random, code, ns):
+    """Two records of each of those bundles: away from what the code has, and back."""
+    back = following(random, code, dict.fromkeys(ns))
+    return [(one[0], 0, "-", 0, *one[6:], *one[4:6]) for one in back] + back
+
+
+def loose(random, code, ns):
+    """Records of those bundles in order, few of them outside the code, that don't go on from one another; most give what the code has."""
+    ns = [n if random.random() < 0.99 else random.randrange(4096) for n in ns]
+    return [any_record(random, n, number_at(code, n) if random.random() < 0.9 else with_tag(random, random.randrange(32))) for n in ns]
+
+
+def set_and_folded(talk, count):
+    """Journals whose records go on from one another, return or do neither, beside many of the other party's."""
+    random = talk.random
+    for _ in range(count):
+        talk.any_side()
+        talk.fill(16 * random.choice((1, 2, 5, 20, 60)))
+        code, each = talk.model.code, range(len(talk.model.code) // 16)
+        some, others = (random.choices(each, k=random.choice((0, 1, 2, 3, 10, 60))) for _ in range(2))
+        fold_records(talk, random.choice((following, returning, loose))(random, code, some), following(random, code, others))
+
+
+def full_folds(talk):
+    """Full journals of one bundle, of some, and of as many as there are places; of two parties both parts are full."""
+    random = talk.random
+    for side in SIDES:
+        talk.side(*side)
+        room = talk.room()
+        for count in (1, 2, 32, room - 1, room):
+            talk.fill(65536)
+            talk.bundle(0, 16)
+            some, others = (touches(random, room, bundles) for bundles in (count, random.choice((1, 40, room))))
+            fold_records(talk, following(random, talk.model.code, some), following(random, talk.model.code, others))
+
+
+def touches(random, count, bundles):
+    """So many touches of so many bundles, the last and the first among them."""
+    ns = [4095, 0, *random.sample(range(1, 4095), bundles)][:bundles]
+    return random.sample([*ns, *random.choices(ns, k=count - bundles)], count)
+
+
+def fold_records(talk, records, others=()):
+    """A journal that has those records, set or loaded, and those of the other party, is folded and, maybe, edited and loaded from its sheet.
+    Undoing it writes the oldest old bundles where the code has the newest new ones, and is refused where it hasn't."""
+    random, code = talk.random, bytearray(talk.model.code)
+    fits = all(code[16 * n:16 * n + 16] == new for n, new in {one[0]: joined(*one[6:]) for one in records}.items())
+    had(talk, records, random.choice(WAYS))
+    with as_party(talk, 1 - talk.party):
+        load(talk, sheet(others))
+    talk("records")
+    fold(talk)
+    if talk.call("edit 0 2 66 1 I16") == "edit 0":
+        talk("records")
+        talk.call("undo")
+    if random.random() < 0.5:
+        anew(talk)
+    while (said := talk.call("undo")) == "undo 0":
+        talk("sum")
+    for one in reversed(records):
+        code[16 * one[0]:16 * one[0] + 16] = joined(*one[4:6])
+    assert (said == "undo 8") == fits and (talk.model.code == code or not fits), "undoing a fold doesn't write the oldest old bundles"
+    with as_party(talk, 1 - talk.party):
+        fold(talk)
+
+
+def anew(talk):
+    """Loads the sheet into a journal without the party's records."""
+    text = sheet_of(talk)
+    put_journal(talk, [])
+    talk.call(f"load {text}")
+    talk("records")
+
+
+def any_folds(talk, count):
+    """Folds of journals and codes of every kind, and after an edit and undos."""
+    random = talk.random
+    for _ in range(count):
+        talk.random_code()
+        any_journal(talk)
+        fold(talk)
+        n, slot, family, number = talk.random_place()
+        talk.call(f"edit {n} {slot} {family} {number} {value_for(random, family, number)}")
+        fold(talk)
+        talk.call("undo")
+        talk.call("undo")
+        shown(talk)
 
 
 # ---- stages, by the crate that brings them
@@ -1566,6 +1761,7 @@ STAGES = {
     "choice": (("choose", "checked"), choices),
     "meet": (("meet",), meetings),
     "sheet": (("sheet", "sheetline", "load"), sheets),
+    "fold": (("fold",), folds),
     "tally": (("report", "clear"), reports),
 }
 
@@ -1577,6 +1773,7 @@ TOGETHER = {
     **{f"edit of {parties}": "10 1 2 3 15 5 6 11 7" for parties in (1, 2)},
     **{f"checked of {parties}": "10 1 2 3 15 5 14 6 11 7" for parties in (1, 2)},
     **{f"undo of {parties}": "10 11 8 1 9" for parties in (1, 2)},
+    **{f"fold of {parties}": "11" for parties in (1, 2)},
     **{f"{call} of {parties}": "11 12" for parties in (1, 2) for call in ("sheet", "sheetline")},
     "load of 1": "11 13", "load of 2": "11 13 7",
     "meet": "3 5", "report": "10 6",

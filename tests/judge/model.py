@@ -210,6 +210,15 @@ def may_stand(one):
     return one[0] <= 4095 and passes(*one[1:])
 
 
+def folded(records):
+    """One record of each whole bundle that they touch, in order of first touch: from its oldest old to its newest new."""
+    oldest, newest = {}, {}
+    for n, _, _, _, *halves in records:
+        oldest.setdefault(n, halves[:2])
+        newest[n] = halves[2:]
+    return [(n, 0, "-", 0, *old, *newest[n]) for n, old in oldest.items()]
+
+
 # ---- sheets
 
 DECIMAL = rb"(0|[1-9][0-9]{0,19})"
@@ -526,6 +535,14 @@ class Model:
         part = self.part_of(party)
         return [one for one, _ in self.places[part.first:part.first + min(part.count, part.places)]] if part else []
 
+    def replace(self, part, records):
+        """The part's records are these, and its other places free."""
+        for i in list(part.used):
+            self.place(i, *FREE)
+        for i, one in enumerate(records, part.first):
+            self.place(i, one, part.party)
+        part.count = len(records)
+
     def halves(self, n):
         given = self.code[16 * n:16 * n + 16]
         return int.from_bytes(given[:8], "little"), int.from_bytes(given[8:], "little")
@@ -603,6 +620,14 @@ class Model:
             self.place(part.end(), *FREE)
         return f"undo {answer}"
 
+    def on_fold(self, party):
+        party = number(party)
+        invalid, part = self.of_journal(party)
+        answer = self.refused([invalid])
+        if not answer:
+            self.replace(part, folded(self.standing(party)))
+        return f"fold {answer}"
+
     # sheets
 
     def put_out(self, name, party, wanted, length):
@@ -631,11 +656,7 @@ class Model:
         invalid, part = self.of_journal(party)
         answer = self.refused([invalid, (13, records is None), (7, part and records is not None and len(records) > part.places)])
         if not answer:
-            for i in list(part.used):
-                self.place(i, *FREE)
-            for i, one in enumerate(records, part.first):
-                self.place(i, one, party)
-            part.count = len(records)
+            self.replace(part, records)
         return f"load {answer}"
 
 

@@ -6,14 +6,14 @@ from model import HUGE, MOST, ROWS, bundle_at, is_retired, other_form, row_of, t
 
 
 def made(data, edit):
-    """Sixteen bytes with an edit made."""
+    """Sixteen bytes with an edit made; what a fold left sets them all."""
     _, slot, form, value = edit
-    return bundle_at(data, 0).with_value(slot, ROWS[form], value)
+    return value if form == "-" else bundle_at(data, 0).with_value(slot, ROWS[form], value)
 
 
 class Standing:
-    """The edits that stand, for which there are so many places. Of the first `whole` of them an old sheet was loaded, which doesn't tell
-    them."""
+    """The edits that stand, for which there are so many places. The records of the first `whole` of them don't tell them: an old sheet of
+    them was loaded, or a fold left them."""
 
     def __init__(self, code, places):
         self.first, self.code, self.edits, self.whole, self.places = bytes(code), bytearray(code), [], 0, places
@@ -43,6 +43,13 @@ class Standing:
             return False
         self.remake(self.edits.pop()[0])
         self.whole = min(self.whole, len(self.edits))
+        return True
+
+    def fold(self):
+        """In place of all that stand, for each bundle that they touch, in order of first touch: it is set to what it now is."""
+        touched = dict.fromkeys(n for n, _, _, _ in self.edits)
+        self.edits = [(n, 0, "-", bytes(self.code[16 * n:16 * n + 16])) for n in touched]
+        self.whole = len(touched)
         return True
 
     def told(self):

@@ -1,4 +1,4 @@
-//! Records of one party or two in a slice that is lent, edit and undo.
+//! Records of one party or two in a slice that is lent, edit, undo and fold.
 
 use super::immediate::Value;
 use super::{load, Model, MOST};
@@ -162,5 +162,29 @@ impl Model {
         write(code, last.bundle, whole(last.old));
         *last = NONE;
         (0, counts.with(party, count - 1))
+    }
+
+    /// The answer and the counts.
+    pub fn fold(&self, counts: Counts, records: &mut [Record], party: u64) -> (u8, Counts) {
+        if !self.valid(counts, records, party) {
+            return (11, counts);
+        }
+        let (count, places) = (counts.of(party) as usize, part_mut(counts, party, records));
+        // by bundle: the place of the record that is left of it, and past all places while there is none
+        let mut left_at = [PLACES as u16; MOST / 16];
+        let mut left = 0;
+        for i in 0..count {
+            let one = places[i];
+            let at = &mut left_at[one.bundle as usize];
+            if *at == PLACES as u16 {
+                *at = left as u16;
+                places[left] = Record::whole(party, one.bundle, one.old, one.new);
+                left += 1;
+            } else {
+                places[*at as usize].new = one.new;
+            }
+        }
+        places[left..count].fill(NONE);
+        (0, counts.with(party, left as u64))
     }
 }

@@ -1,4 +1,4 @@
-// Calls that write: immediates, `edit` and `undo`, and sheets.
+// Calls that write: immediates, `edit` and `undo`, `fold`, and sheets.
 use crate::sum;
 use crate::sum::plus;
 use form::B;
@@ -90,6 +90,24 @@ pub extern "C" fn bench_edit(
         left -= 1;
     }
     sum
+}
+
+// A party's records folded, once: the answer, and how many are left of party 0.
+#[no_mangle]
+pub extern "C" fn bench_fold(
+    parties: u64,
+    lower: u64,
+    upper: u64,
+    records: &mut [Record],
+    party: u64,
+) -> u64 {
+    let counts = Counts {
+        parties,
+        lower,
+        upper,
+    };
+    let folded = fold::fold(counts, records, party);
+    plus(folded.answer as u64, folded.counts.lower)
 }
 
 // The sheet of a party's journal, written so many times.

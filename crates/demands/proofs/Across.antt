@@ -15,7 +15,7 @@ use Rattle.bits.proofs.Laws.{part-lt}
 use Rattle.bundle.specs.Bundle.{longestCode, halvesOf}
 use Rattle.bundle.proofs.Bytes.{Bytes}
 use Rattle.records.specs.Journal.{limit}
-use Rattle.journal.specs.Change.{Outcome}
+use Rattle.journal.specs.Change.{Outcome, JournalOutcome}
 use Rattle.demands.specs.Demand3.{Call, step, run}
 use Rattle.demands.proofs.Changes.{OfChanges}
 use Rattle.demands.proofs.Run.{same-step, holds, run-valid, run-all}
@@ -25,7 +25,7 @@ use Rattle.text.specs.Whole.{wroteOf, wholeRefusals}
 use Rattle.sheet.specs.RoundTrip.{HasSheet}
 use Rattle.sheet.specs.Sheet.{tells, sheetOf}
 use Rattle.sheet.specs.declared.line.Kind.the-variants.{Full}
-use Rattle.sheet.specs.Load.{Loaded, loadOf}
+use Rattle.sheet.specs.Load.{loadOf}
 use Rattle.demands.specs.Across.{SheetCall, call, write, writeLine, load, loadText, Wrote, nothing, sheet, line, wroteAs, loaded, across, plain, ownSheets, Demand3Across}
 use Rattle.sheet.proofs.Held.{are-words}
 use Rattle.sheet.proofs.Inverse.{load-written}
@@ -89,7 +89,7 @@ module _ (party places : ℕ) (o : Outcome) where
     after-load : (calls : List SheetCall) → Sheets (plain calls) → Reached calls → (w : Wrote) → across party places o calls .wrote ≡ w
         → (loaded party places (across party places o calls .after) w .code ≡ from (plain calls) .code) × (loaded party places (across party places o calls .after) w .journal ≡ from (plain calls) .journal)
     after-load calls h r nothing e = (r .codes, r .journals)
-    after-load calls h r (sheet text) e = (r .codes, ap (λ (l : Loaded). l .journal) (loads-own calls h r text e))
+    after-load calls h r (sheet text) e = (r .codes, ap (λ (l : JournalOutcome). l .journal) (loads-own calls h r text e))
     after-load calls h r (line text) e = (r .codes, r .journals)
 
     pub reached : (calls : List SheetCall) → T (ownSheets calls) → Sheets (plain calls) → Reached calls
@@ -137,6 +137,6 @@ demand-3-across party places code within b short calls own =
       answers = λ c. ap (λ (o : Outcome). o .answer) (same-next party places o calls r c ∙ is (c ∷ plain calls));
       loads = λ text e.
           ap (λ (w : Wrote). loaded party places (across party places o calls .after) w .answer) e
-          ∙ ap (λ (l : Loaded). l .answer) (loads-own party places o within calls h r text e);
+          ∙ ap (λ (l : JournalOutcome). l .answer) (loads-own party places o within calls h r text e);
       holds = holds party places code b short (plain calls);
     }

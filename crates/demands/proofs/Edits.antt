@@ -21,8 +21,9 @@ use Rattle.journal.specs.Edit.{codeRefusals, undoRefusals, undoOf}
 use Rattle.journal.proofs.Laws.{taken-found, taken-changes, taken-lt, first-past}
 use Rattle.journal.proofs.Rewritten.{rewritten-before, rewritten-past, rewritten-number}
 use Rattle.records.proofs.Standing.{journal-stands, journal-shows}
-use Rattle.journal.specs.Change.{rewritten, Change, madeAll, recordsOf, makeOf}
+use Rattle.journal.specs.Change.{rewritten, Change, madeAll, recordsOf, withCode, makeOf}
 use Rattle.demands.specs.Sets.{SetsOnlyItsBits}
+use Rattle.fold.specs.Fold.{folded, foldOf}
 
 -- the code takes the edit
 abbrev pub Fits : List ℕ → Edit → Type 0
@@ -65,3 +66,8 @@ module _ (party places : ℕ) (code : List ℕ) (rs : List Record) (valid : vali
       ≡ outcome a (record { answer = accepted; journal = journalOf places (dropLast rs); code = rewritten code (last .bundle) (whole (last .old)) }) (record { answer = a; journal = journalOf places rs; code = code })
   unfolding undoOf
   undo-of last a e q = rw (shown, journal-stands, e, q)
+
+  -- a fold
+  pub fold-of : withCode code (foldOf party places (journalOf places rs)) ≡ record { answer = accepted; journal = journalOf places (folded rs); code = code }
+  unfolding foldOf
+  fold-of = rw (valid, journal-stands)

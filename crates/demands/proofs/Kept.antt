@@ -1,7 +1,7 @@
 -- What calls keep: a refused one the journal and the code, and any one a valid journal valid and the code bytes. By the definitions' cases.
 -- Assumes nothing.
 use mathlib.Core.Path.{_≡_, refl, sym, ap, ap₂, _∙_, subst}
-use mathlib.Core.Bool.{Bool, true, _&&_}
+use mathlib.Core.Bool.{Bool, true, false, cond, _&&_}
 use mathlib.Core.List.{List, [], _∷_, _++_, dropLast}
 use Prim.Native.Nat.{ℕ, _+_, _≤_}
 use native.Mathlib.Decide.{ℕ-discrete}
@@ -11,7 +11,7 @@ use lib.Dec.{T}
 use lib.Ieee.Bits.{is-true}
 use lib.ListN.{length, length-append}
 use mir.Facts.{and-yes, yes-and}
-use Rattle.answer.specs.Answer.{Refusal, accepted, first, outcome}
+use Rattle.answer.specs.Answer.{Refusal, accepted, badJournal, first, outcome}
 use Rattle.answer.proofs.Laws.{numbered, none-applies, accepts, refuses, answered}
 use Rattle.bundle.specs.Bundle.{whole}
 use Rattle.bundle.proofs.Bytes.{Bytes}
@@ -21,11 +21,14 @@ use Rattle.record.specs.declared.Record.{Record}
 use Rattle.records.specs.Journal.{Journal, all, standing, journalOf, validOf, viewOf}
 use Rattle.records.proofs.Standing.{journal-valid, all-append, view-shows, view-counts, valid-counts, valid-few, valid-stand}
 use Rattle.journal.specs.Edit.{undoRefusals, undoOf}
-use Rattle.demands.specs.Demand3.{refusalsOf, changesOf, Call, make, undo, step}
-use Rattle.journal.specs.Change.{Change, madeAll, recordsOf, Outcome, roomRefusals, makeOf}
+use Rattle.demands.specs.Demand3.{refusalsOf, changesOf, Call, make, undo, fold, step}
+use Rattle.journal.specs.Change.{Change, madeAll, recordsOf, Outcome, JournalOutcome, withCode, roomRefusals, makeOf}
+use Rattle.fold.specs.Fold.{folded, foldOf}
 use Rattle.journal.proofs.Laws.{parts-accept}
 use Rattle.journal.proofs.Rewritten.{rewritten-bytes}
 use Rattle.demands.proofs.Changes.{OfChanges, Stand, changes-stand, all-bytes, all-records, records-length, making-stands, making-numbered}
+use Rattle.fold.proofs.Laws.{may-folded}
+use Rattle.demands.proofs.Newest.{folds}
 
 -- an outcome that is what a call makes of it or, refused, what it was
 module _ (a : ℕ) (done : Outcome) (code : List ℕ) (j : Journal) (is : done .answer ≡ accepted) where
@@ -59,6 +62,22 @@ module _ (party places : ℕ) (code : List ℕ) (j : Journal) where
         let n = none-applies room tt (p .1) in
         let valid = sym (view-shows party places j) ∙ not-false _ (n .0) in
         (p .0, valid, omega (arith, ltb-false places (view .count + length cs) (n .1 .0), view-counts party places j valid, valid-counts party places j valid), accepts _ _ _ a)
+
+  -- a fold, by whether the journal is valid
+  abbrev foldIf : Bool → JournalOutcome
+  foldIf valid = cond valid (record { answer = accepted; journal = journalOf places (folded (standing j)) }) (record { answer = badJournal; journal = j })
+
+  pub fold-kept : (foldOf party places j .answer ≡ accepted → ⊥) → foldOf party places j .journal ≡ j
+  unfolding foldOf
+  fold-kept = elim (validOf party places j) as (λ v. (foldIf v .answer ≡ accepted → ⊥) → foldIf v .journal ≡ j) [ true ↦ λ d. absurd (d refl) | false ↦ λ d. refl ]
+
+  pub fold-taken : foldOf party places j .answer ≡ accepted → validOf party places j ≡ true
+  unfolding foldOf
+  fold-taken = elim (validOf party places j) as (λ v. foldIf v .answer ≡ accepted → v ≡ true) [ true ↦ λ q. refl | false ↦ λ q. absurd (omega (arith, q)) ]
+
+  pub fold-valid : validOf party places j ≡ true → foldOf party places j ≡ foldIf true
+  unfolding foldOf
+  fold-valid v = rw v
 
   pub undo-kept : (undoOf party places code j .answer ≡ accepted → ⊥) → (undoOf party places code j .journal ≡ j) × (undoOf party places code j .code ≡ code)
   unfolding undoOf
@@ -113,6 +132,16 @@ module _ (party places : ℕ) (o : Outcome) (g : Good party places o) where
           let k = make-kept party places (o .code) j refusals cs d in
           record { valid = ap (validOf party places) (k .0) ∙ g .valid; bytes = subst Bytes (sym (k .1)) (g .bytes) }
 
+  fold-good : Good party places (withCode (o .code) (foldOf party places j))
+  fold-good =
+      let rs = folded (standing j) in
+      let few : length rs ≤ places = omega (arith, folds (standing j) .fewer, valid-few party places j (g .valid)) in
+      subst (λ (k : JournalOutcome). Good party places (withCode (o .code) k)) (sym (fold-valid party places (o .code) j (g .valid)))
+      (record {
+        valid = journal-valid party places rs ∙ ap₂ (λ (t u : Bool). t && u) (le-leb _ places few) (is-true _ (may-folded party (standing j) (valid-stand party places j (g .valid))));
+        bytes = g .bytes;
+      })
+
   undo-good : Good party places (undoOf party places (o .code) j)
   unfolding undoOf
   undo-good = go (ℕ-discrete (undoOf party places (o .code) j .answer) accepted)
@@ -138,13 +167,16 @@ module _ (party places : ℕ) (o : Outcome) (g : Good party places o) where
   pub step-good : (c : Call) → Good party places (step party places o c)
   step-good (make m) = make-good (refusalsOf (o .code) m) (changesOf m) (making-numbered (o .code) m) (making-stands (o .code) m)
   step-good undo = undo-good
+  step-good fold = fold-good
 
 -- any call: a refused one keeps the code and the journal, and one that is taken goes by a valid journal
 module _ (party places : ℕ) (o : Outcome) where
   pub step-kept : (c : Call) → (step party places o c .answer ≡ accepted → ⊥) → (step party places o c .journal ≡ o .journal) × (step party places o c .code ≡ o .code)
   step-kept (make m) = make-kept party places (o .code) (o .journal) (refusalsOf (o .code) m) (changesOf m)
   step-kept undo = undo-kept party places (o .code) (o .journal)
+  step-kept fold = λ d. (fold-kept party places (o .code) (o .journal) d, refl)
 
   pub step-valid : (c : Call) → step party places o c .answer ≡ accepted → validOf party places (o .journal) ≡ true
   step-valid (make m) a = make-taken party places (o .code) (o .journal) (refusalsOf (o .code) m) (changesOf m) (making-numbered (o .code) m) a .1
   step-valid undo a = undo-taken party places (o .code) (o .journal) a .0
+  step-valid fold a = fold-taken party places (o .code) (o .journal) a

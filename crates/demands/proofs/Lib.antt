@@ -2,7 +2,11 @@ pub mod Across
 pub mod Changes
 pub mod Checked
 pub mod Edits
+pub mod Fold
+pub mod Folding
 pub mod Kept
+pub mod Loaded
+pub mod Newest
 pub mod Old
 pub mod Order
 pub mod Parties

@@ -14,7 +14,7 @@ use lib.ListN.{length}
 use Rattle.answer.specs.Answer.{accepted, full, badJournal}
 use Rattle.answer.proofs.Laws.{accepts, refuses}
 use Rattle.bundle.proofs.Bytes.{Bytes}
-use Rattle.journal.specs.Change.{Outcome}
+use Rattle.journal.specs.Change.{Outcome, JournalOutcome}
 use Rattle.demands.specs.Demand3.{Call, step}
 use Rattle.demands.proofs.Kept.{Good, step-good, step-kept, step-valid}
 use Rattle.demands.proofs.Run.{same-step}
@@ -25,7 +25,7 @@ use Rattle.records.proofs.Sharing.{Serving, serving, serves-when, by-party, ser
 use Rattle.records.proofs.Standing.{view-shows}
 use Rattle.text.specs.Whole.{wroteOf}
 use Rattle.sheet.specs.Sheet.{sheetOf, sheetLine, writeRefusals}
-use Rattle.sheet.specs.Load.{Loaded, loadedWith, recordsIn, loadOf}
+use Rattle.sheet.specs.Load.{loadedWith, recordsIn, loadOf}
 use Rattle.demands.specs.Across.{SheetCall, call, write, writeLine, load, loadText, Wrote, nothing, sheet, line, State, loaded, afterWriting, next, across}
 use Rattle.demands.specs.Parties.{Mixed, left, loadedBy, ByContract, calledBy, mixed, seenBy, callsOf, aloneOf, AreCodes, Independent, Demand3Parties}
 use Rattle.demands.proofs.Across.{demand-3-across}
@@ -37,11 +37,11 @@ module _ (party places : ℕ) (given : Journal) (text : List ℕ) where
   unfolding loadOf
   load-kept = go (validOf party places given) (recordsIn limit party text)
     where
-      full-or : (rs : List Record) (t : Bool) → let l : Loaded = cond t (record { answer = accepted; journal = journalOf places rs }) (record { answer = full; journal = given }) in (l .answer ≡ accepted → ⊥) → l .journal ≡ given
+      full-or : (rs : List Record) (t : Bool) → let l : JournalOutcome = cond t (record { answer = accepted; journal = journalOf places rs }) (record { answer = full; journal = given }) in (l .answer ≡ accepted → ⊥) → l .journal ≡ given
       full-or rs true d = absurd (d refl)
       full-or rs false d = refl
 
-      go : (v : Bool) (o : Option (List Record)) → let l : Loaded = cond v (loadedWith places given o) (record { answer = badJournal; journal = given }) in (l .answer ≡ accepted → ⊥) → l .journal ≡ given
+      go : (v : Bool) (o : Option (List Record)) → let l : JournalOutcome = cond v (loadedWith places given o) (record { answer = badJournal; journal = given }) in (l .answer ≡ accepted → ⊥) → l .journal ≡ given
       go true (some rs) d = full-or rs (leb (length rs) places) d
       go true none d = refl
       go false o d = refl
@@ -80,7 +80,7 @@ module _ (s : Shared) (party : ℕ) (v : Serving s party) (j : Journal) where
       }
 
 pub by-contract : (code : List ℕ) (s : Shared) (party : ℕ) → ByContract code s party
-by-contract code s party = record { edits = λ e. refl; checks = λ e. refl; undoes = refl }
+by-contract code s party = record { edits = λ e. refl; checks = λ e. refl; undoes = refl; folds = refl }
 
 -- one call of a party
 module _ (m : Mixed) (party : ℕ) (bytes : (q : ℕ) → Bytes (m .code q)) where

@@ -22,15 +22,23 @@ use Rattle.records.specs.Journal.{Journal, all, standing, journalOf, validOf}
 use Rattle.records.proofs.Standing.{journal-stands, journal-valid, drop-last-snoc, last-snoc}
 use Rattle.journal.specs.Edit.{undoRefusals, undoOf}
 use Rattle.journal.proofs.Laws.{parts-accept}
-use Rattle.journal.specs.Change.{rewritten, Change, changed, bundleOf, newNumber, changeRecord, madeAll, recordsOf, Outcome}
-use Rattle.demands.specs.Demand3.{makingOf, refusalsOf, changesOf, Call, make, undo, step, run, answerTo, taken, after, standingChanges, expected, thenUndo, Holds, Demand3}
+use Rattle.journal.specs.Change.{rewritten, Change, changed, bundleOf, newNumber, changeRecord, madeAll, recordsOf, Outcome, withCode}
+use Rattle.demands.specs.Demand3.{makingOf, refusalsOf, changesOf, Call, make, undo, fold, step, run, touched, asIn, answerTo, taken, after, standingChanges, expected, thenUndo, Holds, Demand3}
 use Rattle.demands.proofs.Changes.{OfChanges, changes-stand, record-bundle, record-old, record-new, changed-lies, changed-number, changed-back, Stand, all-bytes, each-sets-its-own, all-records, records-length, made-after, records-after, stand-after, making-stands, making-numbered}
-use Rattle.demands.proofs.Edits.{make-of, undo-of}
+use Rattle.demands.proofs.Edits.{make-of, undo-of, fold-of}
+use Rattle.fold.specs.Fold.{folded, foldOf}
+use Rattle.demands.proofs.Newest.{folds}
+use Rattle.demands.proofs.Folding.{touched-few, fold-code, fold-records, fold-stands}
+
+as-length : (code : List ℕ) (ks : List ℕ) → length (asIn code ks) ≡ length ks
+as-length code [] = refl
+as-length code (k ∷ ks) = omega (arith, as-length code ks)
 
 -- a call comes to the same from the same code and journal
 pub same-step : (party places : ℕ) (s t : Outcome) → s .code ≡ t .code → s .journal ≡ t .journal → (c : Call) → step party places s c ≡ step party places t c
 same-step party places s t p q (make m) = ap₂ (λ (code : List ℕ) (journal : Journal). makingOf party places code journal m) p q
 same-step party places s t p q undo = ap₂ (undoOf party places) p q
+same-step party places s t p q fold = ap₂ (λ (code : List ℕ) (journal : Journal). withCode code (foldOf party places journal)) p q
 
 -- what changes do that stand in so many places
 pub record Standing (places : ℕ) (code : List ℕ) (cs : List Change) : Type 0 where
@@ -109,6 +117,9 @@ module _ (party places : ℕ) (code : List ℕ) (b : Bytes code) (short : length
         ∙ ap₂ (λ (rs : List Record) (c : List ℕ). outcome a (record { answer = accepted; journal = journalOf places rs; code = c }) (So a cs)) (records-after code party ds cs) (made-after code ds cs)
         ∙ so-after a (ds ++ cs) cs
     as-expected undo = undo-as-expected cs s
+    as-expected fold =
+        fold-of party places now (recordsOf party code cs) (valid cs s)
+        ∙ (λ i. record { answer = accepted; journal = journalOf places (fold-records code b party cs (s .stand) i); code = sym (fold-code code b party cs (s .stand)) i })
 
     call-stands : (call : Call) → Standing places code (after places code cs call)
     call-stands (make m) =
@@ -122,6 +133,7 @@ module _ (party places : ℕ) (code : List ℕ) (b : Bytes code) (short : length
         fewer : (cs : List Change) → Standing places code cs → Standing places code (drop 1 cs)
         fewer [] s = s
         fewer (c ∷ cs) s = record { stand = s .stand .1; few = let h = s .few in omega arith }
+    call-stands fold = record { stand = fold-stands code b party cs (s .stand); few = omega (arith, as-length now (touched cs), touched-few cs, s .few) }
 
   all-stand : (calls : List Call) → Standing places code (standingChanges places code calls)
   all-stand [] = record { stand = tt; few = omega arith }
@@ -155,6 +167,25 @@ module _ (party places : ℕ) (code : List ℕ) (b : Bytes code) (short : length
   none-left [] d = refl
   none-left (c ∷ cs) d = absurd (d (undo-answer c cs))
 
+  -- what a fold leaves, by the records that it folds
+  after-fold : (calls : List Call) → run party places code (fold ∷ calls) ≡ record { answer = accepted; journal = journalOf places (folded (recordsOf party code (standingChanges places code calls))); code = run party places code calls .code }
+  after-fold calls =
+      let cs = standingChanges places code calls in
+      let s = all-stand calls in
+      next calls fold
+      ∙ (λ i. record { answer = accepted; journal = journalOf places (sym (fold-records code b party cs (s .stand)) i); code = (fold-code code b party cs (s .stand) ∙ sym (reached calls .0)) i })
+
+  folds-twice : (calls : List Call) → run party places code (fold ∷ fold ∷ calls) ≡ run party places code (fold ∷ calls)
+  folds-twice calls =
+      let cs = standingChanges places code calls in
+      after-fold (fold ∷ calls)
+      ∙ (λ i. record {
+        answer = accepted;
+        journal = journalOf places ((ap folded (sym (fold-records code b party cs (all-stand calls .stand))) ∙ folds (recordsOf party code cs) .twice) i);
+        code = ap (λ (o : Outcome). o .code) (after-fold calls) i;
+      })
+      ∙ sym (after-fold calls)
+
   pub holds : (calls : List Call) → Holds party places code calls
   holds calls =
       record {
@@ -167,6 +198,13 @@ module _ (party places : ℕ) (code : List ℕ) (b : Bytes code) (short : length
               ap (λ (o : Outcome). o .code) (next calls call) ∙ ap (madeAll code) same ∙ sym (reached calls .0),
               ap (λ (o : Outcome). o .journal) (next calls call) ∙ ap (λ (ds : List Change). journalOf places (recordsOf party code ds)) same ∙ sym (reached calls .1),
             );
+        fold-keeps = ap (λ (o : Outcome). o .code) (after-fold calls);
+        fold-counts =
+            ap (λ (j : Journal). length (standing j)) (reached (fold ∷ calls) .1)
+            ∙ ap length (journal-stands places _)
+            ∙ records-length code party (asIn (madeAll code cs) (touched cs))
+            ∙ as-length (madeAll code cs) (touched cs);
+        fold-twice = folds-twice calls;
         undo-refused = λ d. none-left cs (λ a. d (answer undo ∙ a));
         undone = reached (thenUndo (length cs) calls) .0 ∙ ap (madeAll code) (undos-drop (length cs) calls ∙ drop-length cs);
       }

@@ -10,7 +10,7 @@ use lib.ListN.{length, getD, take}
 use Rattle.answer.specs.Answer.{accepted, outcome}
 use Rattle.bundle.specs.Bundle.{longestCode}
 use Rattle.records.specs.Journal.{limit}
-use Rattle.journal.specs.Change.{Outcome}
+use Rattle.journal.specs.Change.{Outcome, withCode}
 use Rattle.demands.specs.Demand3.{Call, step, run, Holds}
 use Rattle.text.specs.Whole.{wroteOf}
 use Rattle.text.specs.declared.whole.Written.{Written}
@@ -44,7 +44,7 @@ wroteAs kind w = outcome (w .0 .answer) (kind (take (w .0 .length) (w .1))) noth
 -- loading what was written: a sheet; where the call straight before wrote none, loading is no call of a run
 abbrev pub loaded : ℕ → ℕ → Outcome → Wrote → Outcome
 loaded party places o nothing = o
-loaded party places o (sheet text) = let l = loadOf limit party places (o .journal) text in record { answer = l .answer; journal = l .journal; code = o .code }
+loaded party places o (sheet text) = withCode (o .code) (loadOf limit party places (o .journal) text)
 loaded party places o (line text) = o
 
 -- after writing, which leaves journal and code as they are

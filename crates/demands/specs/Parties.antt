@@ -1,5 +1,5 @@
 -- Parties that share a journal: each has what it would have had alone, and demand 3 holds for each. A run is one list of calls, each with its
--- party; it is about what the contracts of the calls equate all with that they do (`editBy`, `checkedBy`, `undoBy`, `writeBy`, `loadBy`, and so on), and each
+-- party; it is about what the contracts of the calls equate all with that they do (`editBy`, `checkedBy`, `undoBy`, `foldBy`, `writeBy`, `loadBy`, and so on), and each
 -- party's code is written by that party alone. Proved in `proofs/Parties.antt`. Assumes nothing.
 use Prim.Native.Nat.{ℕ, _<_, _^_, _≤_}
 use mathlib.Core.Path.{_≡_}
@@ -10,8 +10,9 @@ use lib.ListN.{length, getD}
 use Rattle.answer.specs.Answer.{accepted}
 use Rattle.bundle.specs.Bundle.{longestCode}
 use Rattle.form.specs.declared.Edit.{Edit}
-use Rattle.journal.specs.Edit.{SharedOutcome, byParty, editBy, checkedBy, undoBy}
-use Rattle.demands.specs.Demand3.{Call, edit, checked, make, undo, step}
+use Rattle.journal.specs.Edit.{SharedOutcome, SharedJournalOutcome, byParty, editBy, checkedBy, undoBy}
+use Rattle.fold.specs.Fold.{foldBy}
+use Rattle.demands.specs.Demand3.{Call, edit, checked, make, undo, fold, step}
 use Rattle.records.specs.Shared.{Shared, ownOf, placesOf, serves, servedOf, isOpened, fresh}
 use Rattle.sheet.specs.Sheet.{writeBy, writeLineBy}
 use Rattle.sheet.specs.Load.{loadBy}
@@ -43,14 +44,20 @@ loadedBy m party (line text) = left m party (m .journal) (m .answer party) (m .c
 abbrev pub callBy : List ℕ → Shared → ℕ → Call → SharedOutcome
 callBy code s party c = byParty s party (step party (placesOf (s .parties) party) (record { answer = accepted; journal = servedOf s party; code = code }) c)
 
+-- beside a code, which such a call leaves
+abbrev pub sharedWithCode : List ℕ → SharedJournalOutcome → SharedOutcome
+sharedWithCode code o = record { answer = o .answer; journal = o .journal; code = code }
+
 -- which is what the contracts say
 pub record ByContract (code : List ℕ) (s : Shared) (party : ℕ) : Type 0 where
   -- of an edit
   pub edits : (e : Edit) → callBy code s party (make (edit e)) ≡ editBy code s party e
   -- of a checked edit
   pub checks : (e : Edit) → callBy code s party (make (checked e)) ≡ checkedBy code s party e
-  -- and of an undo
+  -- of an undo
   pub undoes : callBy code s party undo ≡ undoBy code s party
+  -- and of a fold, which leaves the code
+  pub folds : callBy code s party fold ≡ sharedWithCode code (foldBy s party)
 
 -- one call of a party
 abbrev pub calledBy : Mixed → ℕ → SheetCall → Mixed

@@ -57,6 +57,15 @@ pub record Outcome : Type 0 where
   pub journal : Journal
   pub code : List ℕ
 
+-- what a call that has no code answers, and the journal after it
+pub record JournalOutcome : Type 0 where
+  pub answer : ℕ
+  pub journal : Journal
+
+-- the same beside a code, which it leaves
+abbrev pub withCode : List ℕ → JournalOutcome → Outcome
+withCode code o = record { answer = o .answer; journal = o .journal; code = code }
+
 -- when so many places have no room for n records more, by what the journal shows
 abbrev pub roomRefusals : ℕ → View → ℕ → List Refusal
 roomRefusals places view n = (badJournal, not (view .valid)) ∷ (full, ltb places (view .count + n)) ∷ []

@@ -17,7 +17,7 @@ use Rattle.record.specs.declared.Record.{Record}
 use Rattle.records.specs.Journal.{Journal, standing, journalOf, viewOf}
 use Rattle.records.specs.Shared.{Shared, sharing, placesOf, servedOf, afterBy}
 use Rattle.records.specs.declared.View.{View}
-use Rattle.journal.specs.Change.{Outcome, rewritten, field, makeOf}
+use Rattle.journal.specs.Change.{Outcome, JournalOutcome, rewritten, field, makeOf}
 use Rattle.journal.specs.declared.Act.{Act}
 use Rattle.journal.specs.declared.Act.the-variants.{Edit as EditAct, Checked, Undo}
 use Rattle.journal.specs.declared.Edited.{Edited}
@@ -89,6 +89,17 @@ outcomeOf r records code = record { answer = r .answer; journal = sharing (r .co
 -- what a party's call comes to, by what it comes to with that party's journal
 abbrev pub byParty : Shared → ℕ → Outcome → SharedOutcome
 byParty s party o = record { answer = o .answer; journal = afterBy s party (o .answer) (o .journal); code = o .code }
+
+-- the same of a call that has no code
+pub record SharedJournalOutcome : Type 0 where
+  pub answer : ℕ
+  pub journal : Shared
+
+abbrev pub journalOutcomeOf : Edited → List Record → SharedJournalOutcome
+journalOutcomeOf r records = record { answer = r .answer; journal = sharing (r .counts) records }
+
+abbrev pub journalByParty : Shared → ℕ → JournalOutcome → SharedJournalOutcome
+journalByParty s party o = record { answer = o .answer; journal = afterBy s party (o .answer) (o .journal) }
 
 -- what `edit` comes to
 abbrev pub editBy : List ℕ → Shared → ℕ → Edit → SharedOutcome

@@ -19,6 +19,7 @@ pub enum Call {
     Sheet(u64),
     Line(u64, u64),
     Load(u64),
+    Fold(u64),
 }
 
 // What a call gave.
@@ -74,6 +75,7 @@ pub fn make(
             Given::Written(sheet::write_line(i, counts, records, party, lent))
         }
         Call::Load(party) => Given::Edited(sheet::load(counts, records, party, lent)),
+        Call::Fold(party) => Given::Edited(fold::fold(counts, records, party)),
     }
 }
 

@@ -42,12 +42,12 @@ struct Line {
 // No answer ends there, since each starts with a word: the line doesn't read.
 pub const UNREAD: usize = 0;
 
-const NAMES: [u8; 147] =
-    *b"code get sum find cut join operands immediate target put report clear records undo edit load open journal place sheet sheetline meet choose checked";
+const NAMES: [u8; 152] =
+    *b"code get sum find cut join operands immediate target put report clear records undo edit load open journal place sheet sheetline meet choose checked fold";
 
 // The words that the answers start with.
-const WORDS: [u8; 133] =
-    *b"ok bytes sum find cut join operands immediate target ok report ok records undo edit load ok ok ok sheet sheetline meet choose checked";
+const WORDS: [u8; 138] =
+    *b"ok bytes sum find cut join operands immediate target ok report ok records undo edit load ok ok ok sheet sheetline meet choose checked fold";
 
 // Places in both lists.
 const CODE: u64 = 0;
@@ -97,6 +97,8 @@ const MEET: u64 = 21;
 const CHOOSE: u64 = 22;
 
 const CHECKED: u64 = 23;
+
+const FOLD: u64 = 24;
 
 // Answers a line on a code, in its room, from `at` on. Where it calls for the records, only its word is written.
 pub fn answer(
@@ -171,6 +173,7 @@ fn asked(command: u64, of: Six, rest: &[u8], lent: &mut [u8], kept: &mut [u64]) 
         UNDO => Call::Act(of.0, Act::Undo),
         EDIT | CHECKED => edit::asked(command == CHECKED, of, rest),
         LOAD => load::asked(of.0, rest, lent, kept),
+        FOLD => Call::Fold(of.0),
         OPEN => journals::open_asked(of.0),
         JOURNAL => journals::asked(of, rest),
         PLACE => place::asked(of, rest, kept),
@@ -208,7 +211,7 @@ fn told(command: u64, lent: &[u8], kept: &[u64], out: &mut [u8], at: usize) -> u
     match command {
         RECORDS => recorded::told(lent, kept, out, at),
         SHEET | SHEETLINE => sheets::told(lent, kept, out, at),
-        UNDO | EDIT | CHECKED | LOAD => out::number(out, at, kept::get(kept, kept::ANSWER)),
+        UNDO | EDIT | CHECKED | LOAD | FOLD => out::number(out, at, kept::get(kept, kept::ANSWER)),
         _ => at,
     }
 }

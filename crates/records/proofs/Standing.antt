@@ -8,8 +8,8 @@ use native.Mathlib.Numerals.{add-one}
 use native.Mathlib.Omega.{arith}
 use borrow.Author.Tests.{leb-true, eq-eqb}
 use lib.Dec.{T, eqb, leb, leb→le, eqb→eq}
-use lib.ListN.{length, getD, set, take, drop, replicate, length-append, length-replicate, length-drop, take-append-drop}
-use lib.Seq.{set-at, take-suc, take-append-seam, drop-append-seam, length-take-le}
+use lib.ListN.{length, getD, set, take, drop, replicate, length-append, length-set, length-replicate, replicate-append-replicate, length-drop, take-append-drop}
+use lib.Seq.{set-at, set-append-left, take-suc, take-append-seam, drop-append-seam, length-take-le}
 use lib.Ieee.Fits.{and-l, and-r}
 use mir.Facts.{and-yes}
 use Rattle.record.specs.Record.{noRecord, isFree, mayStand}
@@ -39,6 +39,19 @@ standing-places j = refl
 pub journal-counts : (places : ℕ) (rs : List Record) → journalOf places rs .count ≡ length rs
 unfolding journalOf
 journal-counts places rs = refl
+
+-- it has so many, where there are places for them
+pub journal-places : (places : ℕ) (rs : List Record) → length rs ≤ places → length (journalOf places rs .records) ≡ places
+unfolding journalOf
+journal-places places rs few = simp (length-append, length-replicate) (omega arith)
+
+-- free places more
+pub journal-wider : (places more : ℕ) (rs : List Record) → length rs ≤ places → journalOf places rs .records ++ replicate more noRecord ≡ journalOf (places + more) rs .records
+unfolding journalOf
+journal-wider places more rs few =
+    let n : (places - length rs) + more ≡ places + more - length rs = omega arith in
+    append-assoc rs (free places (length rs)) (replicate more noRecord)
+    ∙ ap (λ (qs : List Record). rs ++ qs) (replicate-append-replicate (places - length rs) more noRecord ∙ ap (λ (n : ℕ). replicate n noRecord) n)
 
 pub all-append : (test : Record → Bool) (rs qs : List Record) → all test (rs ++ qs) ≡ all test rs && all test qs
 all-append test [] qs = refl
@@ -106,6 +119,12 @@ journal-pushes places rs r h =
     ∙ sym (append-assoc rs (r ∷ []) (free places (length rs + 1)))
     ∙ ap (λ (n : ℕ). (rs ++ (r ∷ [])) ++ free places n) long in
     λ i. record { count = long i; records = records i }
+
+-- another record in the place of one
+pub journal-renews : (places : ℕ) (rs : List Record) (i : ℕ) (r : Record) → i < length rs → set (journalOf places rs .records) i r ≡ journalOf places (set rs i r) .records
+unfolding journalOf
+journal-renews places rs i r h =
+    set-append-left rs (free places (length rs)) i r h ∙ ap (λ (n : ℕ). set rs i r ++ free places n) (sym (length-set rs i r))
 
 -- some records are all but the last and the last
 pub but-last : (r : Record) (rs : List Record) → r ∷ rs ≡ dropLast (r ∷ rs) ++ (getLastD (r ∷ rs) noRecord ∷ [])
@@ -180,6 +199,14 @@ module _ (party places : ℕ) (j : Journal) (v : validOf party places j ≡ true
 
   pub valid-reads : (i : ℕ) → recordAt j i ≡ getD (standing j) i noRecord
   valid-reads i = ap (λ (j : Journal). recordAt j i) (sym (valid-is-journal party places j v)) ∙ journal-reads places (standing j) i
+
+  -- the places past the count are free
+  pub valid-free : drop (j .count) (j .records) ≡ replicate (places - j .count) noRecord
+  unfolding journalOf
+  valid-free =
+      ap (λ (i : Journal). drop (i .count) (i .records)) (sym (valid-is-journal party places j v))
+      ∙ drop-append-seam (standing j) _
+      ∙ ap (λ (n : ℕ). replicate (places - n) noRecord) (sym valid-counts)
 
   valid-last : recordAt j (j .count - 1) ≡ getLastD (standing j) noRecord
   valid-last = ap (λ (n : ℕ). recordAt j (n - 1)) valid-counts ∙ valid-reads (length (standing j) - 1) ∙ sym (last-at (standing j))

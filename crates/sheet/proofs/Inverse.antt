@@ -9,7 +9,7 @@ use native.Mathlib.Omega.{arith}
 use native.Mathlib.Decide.{decLt, ℕ-discrete}
 use lib.Dec.{T}
 use lib.Ieee.Bits.{is-true}
-use lib.ListN.{length, drop, length-append, length-replicate}
+use lib.ListN.{length, drop}
 use lib.Seq.{drop-length}
 use mir.Facts.{and-yes, yes-and}
 use borrow.Author.Tests.{eq-eqb, le-leb, lt-leb}
@@ -219,11 +219,6 @@ load-written most party places kind given j short within valid s =
 pub refuses-invalid : RefusesInvalid
 unfolding loadOf
 refuses-invalid most party places given text v = rw v
-
--- a journal of records that there are places for has so many
-pub journal-places : (places : ℕ) (rs : List Record) → length rs ≤ places → length (journalOf places rs .records) ≡ places
-unfolding journalOf
-journal-places places rs few = simp (length-append, length-replicate) (omega arith)
 
 -- loading that is accepted: over a valid journal, of records that there are places for
 pub record Taken (most party places : ℕ) (given : Journal) (text : List ℕ) : Type 0 where

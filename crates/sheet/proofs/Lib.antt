@@ -7,5 +7,4 @@ pub mod Made
 pub mod OneKind
 pub mod Reading
 pub mod Sheets
-pub mod Unique
 mod Writing

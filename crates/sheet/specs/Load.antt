@@ -8,12 +8,13 @@ use lib.ListN.{length, getD}
 use Rattle.answer.specs.Answer.{accepted, full, badJournal, badSheet}
 use Rattle.bundle.specs.declared.half.Halves.{Halves}
 use Rattle.form.specs.declared.Form.{Form}
-use Rattle.journal.specs.declared.Edited.{Edited}
+use Rattle.journal.specs.Change.{JournalOutcome}
+use Rattle.journal.specs.Edit.{SharedJournalOutcome, journalByParty}
 use Rattle.name.specs.Name.{afterName, namedAt}
 use Rattle.record.specs.Record.{wholeRecord, mayStand}
 use Rattle.record.specs.declared.Record.{Record}
 use Rattle.records.specs.Journal.{Journal, limit, journalOf, validOf}
-use Rattle.records.specs.Shared.{Shared, sharing, placesOf, servedOf, afterBy}
+use Rattle.records.specs.Shared.{Shared, placesOf, servedOf}
 use Rattle.table.specs.Ascii.{ascii}
 use Rattle.text.specs.Ascii.{tab, newline, startsWith}
 use Rattle.text.specs.Fields.{afterNumber, fieldAt, fieldsAt}
@@ -93,33 +94,17 @@ orElse none other = other
 abbrev pub recordsIn : ℕ → ℕ → List ℕ → Option (List Record)
 recordsIn most party text = orElse (recordsAs most party Full text) (recordsAs most party Old text)
 
--- what loading answers, and the journal after it
-pub record Loaded : Type 0 where
-  pub answer : ℕ
-  pub journal : Journal
-
 -- the journal of the records; or that there aren't as many places, or that the text is no sheet, and the journal as it was given
-abbrev pub loadedWith : ℕ → Journal → Option (List Record) → Loaded
+abbrev pub loadedWith : ℕ → Journal → Option (List Record) → JournalOutcome
 loadedWith places given (some rs) =
     cond (leb (length rs) places) (record { answer = accepted; journal = journalOf places rs }) (record { answer = full; journal = given })
 loadedWith places given none = record { answer = badSheet; journal = given }
 
 -- what a party's loading comes to with its journal of so many places, where a sheet has at most so many records
-unfoldable pub loadOf : ℕ → ℕ → ℕ → Journal → List ℕ → Loaded
+unfoldable pub loadOf : ℕ → ℕ → ℕ → Journal → List ℕ → JournalOutcome
 loadOf most party places given text =
     cond (validOf party places given) (loadedWith places given (recordsIn most party text)) (record { answer = badJournal; journal = given })
 
--- the same with a journal that parties share
-pub record SharedLoaded : Type 0 where
-  pub answer : ℕ
-  pub journal : Shared
-
--- what loading hands back, with the records that it leaves
-abbrev pub loadOutcome : Edited → List Record → SharedLoaded
-loadOutcome r records = record { answer = r .answer; journal = sharing (r .counts) records }
-
 -- what `load` comes to
-abbrev pub loadBy : Shared → ℕ → List ℕ → SharedLoaded
-loadBy s party text =
-    let l = loadOf limit party (placesOf (s .parties) party) (servedOf s party) text in
-    record { answer = l .answer; journal = afterBy s party (l .answer) (l .journal) }
+abbrev pub loadBy : Shared → ℕ → List ℕ → SharedJournalOutcome
+loadBy s party text = journalByParty s party (loadOf limit party (placesOf (s .parties) party) (servedOf s party) text)

@@ -10,10 +10,11 @@ ghost use lib.Dec.{leb};
 ghost use lib.ListN.{length};
 ghost use Rattle.records.specs.Journal.{lent};
 ghost use Rattle.records.specs.Shared.{sharing};
+ghost use Rattle.journal.specs.Edit.{journalOutcomeOf};
 ghost use Rattle.text.specs.Put.{Put};
 ghost use Rattle.text.specs.Whole.{wroteOf};
 ghost use Rattle.sheet.specs.Sheet.{sheetOf, capacity, writeBy, writeLineBy};
-ghost use Rattle.sheet.specs.Load.{loadOutcome, loadBy};
+ghost use Rattle.sheet.specs.Load.{loadBy};
 ghost use Rattle.sheet.specs.inner.Finds.{Fills};
 use answer::ACCEPTED;
 use answer::BAD_JOURNAL;
@@ -109,7 +110,7 @@ pub fn write_line(i: u64, counts: Counts, records: &[Record], party: u64, out: &
 
 // The party's journal whose sheet the text is, in place of the one given. The text is gone through twice, so that a refused one changes nothing.
 pub fn load(counts: Counts, records: &mut [Record], party: u64, text: &[u8]) -> Edited
-    ensures { λ r. ⌜ loadOutcome r (now (records .exit)) ≡ loadBy (sharing counts (now (records .entry))) party (now (text .entry)) ⌝ }
+    ensures { λ r. ⌜ journalOutcomeOf r (now (records .exit)) ≡ loadBy (sharing counts (now (records .entry))) party (now (text .entry)) ⌝ }
 {
     let own = records::own_of(counts, records, party);
     let view = own.view;

@@ -14,10 +14,9 @@ use lib.Seq.{take-suc, take-suc-set, take-length, getD-drop, drop-drop}
 use Rattle.record.specs.Record.{noRecord}
 use Rattle.record.specs.declared.Record.{Record}
 use Rattle.records.specs.Journal.{journalOf}
-use Rattle.records.proofs.Standing.{journal-reads}
+use Rattle.records.proofs.Standing.{journal-places, journal-reads}
 use Rattle.sheet.specs.inner.Finds.{linesFrom, Gives}
 use Rattle.sheet.specs.declared.look.Found.{Found}
-use Rattle.sheet.proofs.Inverse.{journal-places}
 use Rattle.sheet.proofs.fill.Statement.{statement}
 use Rattle.sheet.proofs.fill.Proof.Tie as tie
 

@@ -17,11 +17,12 @@ use Rattle.records.specs.inner.Shows.{withCount, Lent, Shows}
 use Rattle.records.specs.declared.Counts.{Counts}
 use Rattle.records.specs.declared.Own.{Own}
 use Rattle.records.proofs.Sharing.{part-put}
-use Rattle.records.proofs.Standing.{valid-places}
-use Rattle.sheet.specs.Load.{loadOf, loadOutcome, loadBy}
+use Rattle.records.proofs.Standing.{journal-places, valid-places}
+use Rattle.journal.specs.Edit.{journalOutcomeOf}
+use Rattle.sheet.specs.Load.{loadOf, loadBy}
 use Rattle.sheet.specs.inner.Finds.{FindsFor, Fills}
 use Rattle.sheet.specs.declared.look.Found.{Found}
-use Rattle.sheet.proofs.Inverse.{journal-places, Taken, load-taken}
+use Rattle.sheet.proofs.Inverse.{Taken, load-taken}
 use Rattle.sheet.proofs.load.Statement.{statement}
 use Rattle.sheet.proofs.load.Proof.Tie as tie
 
@@ -38,7 +39,7 @@ module _ {c : Counts} {rs : List Record} {party : ℕ} {o : Own} (shows : Shows 
       let is : o .places ≡ places = ap (λ (o : Own). o .places) (shows .is) in
       rw is at (finds .answers journal (rw is (sym (shows .valid-is))))
 
-  refused : (f .answer ≡ accepted → ⊥) → loadOutcome (record { answer = f .answer; counts = c }) rs ≡ loadBy (sharing c rs) party text
+  refused : (f .answer ≡ accepted → ⊥) → journalOutcomeOf (record { answer = f .answer; counts = c }) rs ≡ loadBy (sharing c rs) party text
   refused d = rw (← answers, ne-eqb (f .answer) accepted d)
 
   module _ (yes : f .answer ≡ accepted) where
@@ -49,7 +50,7 @@ module _ {c : Counts} {rs : List Record} {party : ℕ} {o : Own} (shows : Shows 
     part = shows .part (shows .valid-is ∙ taken .valid)
 
     filled : (counts : Counts) (out : List Record) → counts ≡ withCount c party (f .count) → Fills party text f (midOf (o .first) (o .first + o .places - o .first) rs) out
-        → loadOutcome (record { answer = f .answer; counts = counts }) (putMid (o .first) (o .first + o .places - o .first) rs out) ≡ loadBy (sharing c rs) party text
+        → journalOutcomeOf (record { answer = f .answer; counts = counts }) (putMid (o .first) (o .first + o .places - o .first) rs out) ≡ loadBy (sharing c rs) party text
     unfolding journalOf
     filled counts out count fills =
         let qs = taken .records in

@@ -195,7 +195,7 @@ ty4·0 = (Syntax.tyEnum (List._∷_ 112 (List._∷_ 114 (List._∷_ 111 (List._�
     (Syntax.ttcons (Syntax.tcons (Syntax.tyInt Syntax.w64) (Syntax.tcons ty1·1 Syntax.tnil)) (Syntax.ttcons Syntax.tnil (Syntax.ttcons (Syntax.tcons
     (Syntax.tyInt Syntax.w64) (Syntax.tcons ty3·0 Syntax.tnil)) (Syntax.ttcons (Syntax.tcons (Syntax.tyInt Syntax.w64) Syntax.tnil) (Syntax.ttcons
     (Syntax.tcons (Syntax.tyInt Syntax.w64) (Syntax.tcons (Syntax.tyInt Syntax.w64) Syntax.tnil)) (Syntax.ttcons (Syntax.tcons (Syntax.tyInt
-    Syntax.w64) Syntax.tnil) Syntax.ttnil)))))))))
+    Syntax.w64) Syntax.tnil) (Syntax.ttcons (Syntax.tcons (Syntax.tyInt Syntax.w64) Syntax.tnil) Syntax.ttnil))))))))))
 
 abbrev row·0 : Row.Entry
 row·0 = (0, Rows.any-gone ty2·0)
@@ -252,375 +252,408 @@ abbrev row·17 : Row.Entry
 row·17 = (9, Rows.any-gone ty1·1)
 
 abbrev row·18 : Row.Entry
-row·18 = (27, Mut.msleft (Referent.rtF (Referent.fInt Syntax.w8)) (Syntax.tyRef Syntax.erased Syntax.mut (Syntax.tyInt Syntax.w8)))
+row·18 = (28, Mut.msleft (Referent.rtF (Referent.fInt Syntax.w8)) (Syntax.tyRef Syntax.erased Syntax.mut (Syntax.tyInt Syntax.w8)))
 
 abbrev row·19 : Row.Entry
-row·19 = (27, Mut.mslice (Referent.rtF (Referent.fInt Syntax.w8)) (Syntax.tyRef Syntax.erased Syntax.mut (Syntax.tyInt Syntax.w8)) 6)
+row·19 = (28, Mut.mslice (Referent.rtF (Referent.fInt Syntax.w8)) (Syntax.tyRef Syntax.erased Syntax.mut (Syntax.tyInt Syntax.w8)) 6)
 
 abbrev row·20 : Row.Entry
-row·20 = (27, Rows.any-gone ty0·14)
+row·20 = (28, Rows.any-gone ty0·14)
 
 abbrev row·21 : Row.Entry
-row·21 = (28, Rows.any-gone ty1·2)
+row·21 = (29, Rows.any-gone ty1·2)
 
 abbrev row·22 : Row.Entry
-row·22 = (29, Relend.msptr (Referent.rtF (Referent.fInt Syntax.w8)) (Syntax.tyRef Syntax.erased Syntax.mut (Syntax.tyInt Syntax.w8)) 7)
+row·22 = (30, Relend.msptr (Referent.rtF (Referent.fInt Syntax.w8)) (Syntax.tyRef Syntax.erased Syntax.mut (Syntax.tyInt Syntax.w8)) 7)
 
 abbrev row·23 : Row.Entry
-row·23 = (29, Rows.any-gone (Syntax.tyRef Syntax.erased Syntax.mut (Syntax.tyInt Syntax.w8)))
+row·23 = (30, Rows.any-gone (Syntax.tyRef Syntax.erased Syntax.mut (Syntax.tyInt Syntax.w8)))
 
 abbrev row·24 : Row.Entry
-row·24 = (30, Mut.msleft (Referent.rtF (Referent.fInt Syntax.w8)) (Syntax.tyRef Syntax.erased Syntax.mut (Syntax.tyInt Syntax.w8)))
+row·24 = (31, Mut.msleft (Referent.rtF (Referent.fInt Syntax.w8)) (Syntax.tyRef Syntax.erased Syntax.mut (Syntax.tyInt Syntax.w8)))
 
 abbrev row·25 : Row.Entry
-row·25 = (30, Mut.mslice (Referent.rtF (Referent.fInt Syntax.w8)) (Syntax.tyRef Syntax.erased Syntax.mut (Syntax.tyInt Syntax.w8)) 7)
+row·25 = (31, Mut.mslice (Referent.rtF (Referent.fInt Syntax.w8)) (Syntax.tyRef Syntax.erased Syntax.mut (Syntax.tyInt Syntax.w8)) 7)
 
 abbrev row·26 : Row.Entry
-row·26 = (30, Rows.any-gone ty0·14)
+row·26 = (31, Rows.any-gone ty0·14)
 
 abbrev row·27 : Row.Entry
-row·27 = (31, Relend.msptr (Record.the-row) (Syntax.tyRef Syntax.erased Syntax.mut (Memory·.pointee (Record.the-row .written))) 8)
+row·27 = (38, Mut.msleft (Referent.rtF (Referent.fInt Syntax.w8)) (Syntax.tyRef Syntax.erased Syntax.mut (Syntax.tyInt Syntax.w8)))
 
 abbrev row·28 : Row.Entry
-row·28 = (31, Rows.any-gone (Syntax.tyRef Syntax.erased Syntax.mut (Memory·.pointee (Record.the-row .written))))
+row·28 = (38, Mut.mslice (Referent.rtF (Referent.fInt Syntax.w8)) (Syntax.tyRef Syntax.erased Syntax.mut (Syntax.tyInt Syntax.w8)) 10)
 
 abbrev row·29 : Row.Entry
-row·29 = (37, Mut.msleft (Referent.rtF (Referent.fInt Syntax.w8)) (Syntax.tyRef Syntax.erased Syntax.mut (Syntax.tyInt Syntax.w8)))
+row·29 = (38, Rows.any-gone ty0·14)
 
 abbrev row·30 : Row.Entry
-row·30 = (37, Mut.mslice (Referent.rtF (Referent.fInt Syntax.w8)) (Syntax.tyRef Syntax.erased Syntax.mut (Syntax.tyInt Syntax.w8)) 10)
+row·30 = (39, Rows.any-gone ty0·10)
 
 abbrev row·31 : Row.Entry
-row·31 = (37, Rows.any-gone ty0·14)
+row·31 = (40, Relend.ssptr (Record.the-row) (Syntax.tyRef Syntax.erased Syntax.imm (Memory·.pointee (Record.the-row .written))) 11)
 
 abbrev row·32 : Row.Entry
-row·32 = (38, Rows.any-gone ty0·10)
+row·32 = (40, Rows.any-gone (Syntax.tyRef Syntax.erased Syntax.imm (Memory·.pointee (Record.the-row .written))))
 
 abbrev row·33 : Row.Entry
-row·33 = (39, Relend.ssptr (Record.the-row) (Syntax.tyRef Syntax.erased Syntax.imm (Memory·.pointee (Record.the-row .written))) 11)
+row·33 = (41, Rows.any-gone ty0·11)
 
 abbrev row·34 : Row.Entry
-row·34 = (39, Rows.any-gone (Syntax.tyRef Syntax.erased Syntax.imm (Memory·.pointee (Record.the-row .written))))
+row·34 = (41, Rows.sslice (Record.the-row) (Syntax.tyRef Syntax.erased Syntax.imm (Memory·.pointee (Record.the-row .written))) 11)
 
 abbrev row·35 : Row.Entry
-row·35 = (40, Rows.any-gone ty0·11)
+row·35 = (42, Relend.msptr (Referent.rtF (Referent.fInt Syntax.w8)) (Syntax.tyRef Syntax.erased Syntax.mut (Syntax.tyInt Syntax.w8)) 12)
 
 abbrev row·36 : Row.Entry
-row·36 = (40, Rows.sslice (Record.the-row) (Syntax.tyRef Syntax.erased Syntax.imm (Memory·.pointee (Record.the-row .written))) 11)
+row·36 = (42, Rows.any-gone (Syntax.tyRef Syntax.erased Syntax.mut (Syntax.tyInt Syntax.w8)))
 
 abbrev row·37 : Row.Entry
-row·37 = (41, Relend.msptr (Referent.rtF (Referent.fInt Syntax.w8)) (Syntax.tyRef Syntax.erased Syntax.mut (Syntax.tyInt Syntax.w8)) 12)
+row·37 = (43, Mut.msleft (Referent.rtF (Referent.fInt Syntax.w8)) (Syntax.tyRef Syntax.erased Syntax.mut (Syntax.tyInt Syntax.w8)))
 
 abbrev row·38 : Row.Entry
-row·38 = (41, Rows.any-gone (Syntax.tyRef Syntax.erased Syntax.mut (Syntax.tyInt Syntax.w8)))
+row·38 = (43, Mut.mslice (Referent.rtF (Referent.fInt Syntax.w8)) (Syntax.tyRef Syntax.erased Syntax.mut (Syntax.tyInt Syntax.w8)) 12)
 
 abbrev row·39 : Row.Entry
-row·39 = (42, Mut.msleft (Referent.rtF (Referent.fInt Syntax.w8)) (Syntax.tyRef Syntax.erased Syntax.mut (Syntax.tyInt Syntax.w8)))
+row·39 = (43, Rows.any-gone ty0·14)
 
 abbrev row·40 : Row.Entry
-row·40 = (42, Mut.mslice (Referent.rtF (Referent.fInt Syntax.w8)) (Syntax.tyRef Syntax.erased Syntax.mut (Syntax.tyInt Syntax.w8)) 12)
+row·40 = (44, Rows.any-gone ty1·2)
 
 abbrev row·41 : Row.Entry
-row·41 = (42, Rows.any-gone ty0·14)
+row·41 = (45, Relend.msptr (Record.the-row) (Syntax.tyRef Syntax.erased Syntax.mut (Memory·.pointee (Record.the-row .written))) 13)
 
 abbrev row·42 : Row.Entry
-row·42 = (43, Rows.any-gone ty1·2)
+row·42 = (45, Rows.any-gone (Syntax.tyRef Syntax.erased Syntax.mut (Memory·.pointee (Record.the-row .written))))
 
 abbrev row·43 : Row.Entry
-row·43 = (44, Relend.msptr (Record.the-row) (Syntax.tyRef Syntax.erased Syntax.mut (Memory·.pointee (Record.the-row .written))) 13)
+row·43 = (46, Mut.msleft (Record.the-row) (Syntax.tyRef Syntax.erased Syntax.mut (Memory·.pointee (Record.the-row .written))))
 
 abbrev row·44 : Row.Entry
-row·44 = (44, Rows.any-gone (Syntax.tyRef Syntax.erased Syntax.mut (Memory·.pointee (Record.the-row .written))))
+row·44 = (46, Mut.mslice (Record.the-row) (Syntax.tyRef Syntax.erased Syntax.mut (Memory·.pointee (Record.the-row .written))) 13)
 
 abbrev row·45 : Row.Entry
-row·45 = (45, Mut.msleft (Record.the-row) (Syntax.tyRef Syntax.erased Syntax.mut (Memory·.pointee (Record.the-row .written))))
+row·45 = (46, Rows.any-gone ty0·13)
 
 abbrev row·46 : Row.Entry
-row·46 = (45, Mut.mslice (Record.the-row) (Syntax.tyRef Syntax.erased Syntax.mut (Memory·.pointee (Record.the-row .written))) 13)
+row·46 = (47, Relend.ssptr (Referent.rtF (Referent.fInt Syntax.w8)) (Syntax.tyRef Syntax.erased Syntax.imm (Syntax.tyInt Syntax.w8)) 14)
 
 abbrev row·47 : Row.Entry
-row·47 = (45, Rows.any-gone ty0·13)
+row·47 = (47, Rows.any-gone (Syntax.tyRef Syntax.erased Syntax.imm (Syntax.tyInt Syntax.w8)))
 
 abbrev row·48 : Row.Entry
-row·48 = (46, Relend.ssptr (Referent.rtF (Referent.fInt Syntax.w8)) (Syntax.tyRef Syntax.erased Syntax.imm (Syntax.tyInt Syntax.w8)) 14)
+row·48 = (17, Rows.any-gone ty2·0)
 
 abbrev row·49 : Row.Entry
-row·49 = (46, Rows.any-gone (Syntax.tyRef Syntax.erased Syntax.imm (Syntax.tyInt Syntax.w8)))
+row·49 = (17, Rows.whole (Declared.row Given.the-type))
 
 abbrev row·50 : Row.Entry
-row·50 = (47, Rows.any-gone ty0·12)
+row·50 = (19, Relend.msptr (Record.the-row) (Syntax.tyRef Syntax.erased Syntax.mut (Memory·.pointee (Record.the-row .written))) 3)
 
 abbrev row·51 : Row.Entry
-row·51 = (47, Rows.sslice (Referent.rtF (Referent.fInt Syntax.w8)) (Syntax.tyRef Syntax.erased Syntax.imm (Syntax.tyInt Syntax.w8)) 14)
+row·51 = (19, Rows.any-gone (Syntax.tyRef Syntax.erased Syntax.mut (Memory·.pointee (Record.the-row .written))))
 
 abbrev row·52 : Row.Entry
-row·52 = (16, Rows.any-gone ty2·0)
+row·52 = (2, Rows.whole (Declared'.row Counts.the-type))
 
 abbrev row·53 : Row.Entry
-row·53 = (17, Rows.any-gone Syntax.tyUnit)
+row·53 = (20, Mut.msleft (Record.the-row) (Syntax.tyRef Syntax.erased Syntax.mut (Memory·.pointee (Record.the-row .written))))
 
 abbrev row·54 : Row.Entry
-row·54 = (18, Relend.msptr (Record.the-row) (Syntax.tyRef Syntax.erased Syntax.mut (Memory·.pointee (Record.the-row .written))) 3)
+row·54 = (20, Mut.mslice (Record.the-row) (Syntax.tyRef Syntax.erased Syntax.mut (Memory·.pointee (Record.the-row .written))) 3)
 
 abbrev row·55 : Row.Entry
-row·55 = (18, Rows.any-gone (Syntax.tyRef Syntax.erased Syntax.mut (Memory·.pointee (Record.the-row .written))))
+row·55 = (20, Rows.any-gone ty0·13)
 
 abbrev row·56 : Row.Entry
-row·56 = (19, Mut.msleft (Record.the-row) (Syntax.tyRef Syntax.erased Syntax.mut (Memory·.pointee (Record.the-row .written))))
+row·56 = (22, Relend.msptr (Record.the-row) (Syntax.tyRef Syntax.erased Syntax.mut (Memory·.pointee (Record.the-row .written))) 4)
 
 abbrev row·57 : Row.Entry
-row·57 = (19, Mut.mslice (Record.the-row) (Syntax.tyRef Syntax.erased Syntax.mut (Memory·.pointee (Record.the-row .written))) 3)
+row·57 = (22, Rows.any-gone (Syntax.tyRef Syntax.erased Syntax.mut (Memory·.pointee (Record.the-row .written))))
 
 abbrev row·58 : Row.Entry
-row·58 = (19, Rows.any-gone ty0·13)
+row·58 = (23, Mut.msleft (Record.the-row) (Syntax.tyRef Syntax.erased Syntax.mut (Memory·.pointee (Record.the-row .written))))
 
 abbrev row·59 : Row.Entry
-row·59 = (2, Rows.whole (Declared'.row Counts.the-type))
+row·59 = (23, Mut.mslice (Record.the-row) (Syntax.tyRef Syntax.erased Syntax.mut (Memory·.pointee (Record.the-row .written))) 4)
 
 abbrev row·60 : Row.Entry
-row·60 = (21, Relend.msptr (Record.the-row) (Syntax.tyRef Syntax.erased Syntax.mut (Memory·.pointee (Record.the-row .written))) 4)
+row·60 = (23, Rows.any-gone ty0·13)
 
 abbrev row·61 : Row.Entry
-row·61 = (21, Rows.any-gone (Syntax.tyRef Syntax.erased Syntax.mut (Memory·.pointee (Record.the-row .written))))
+row·61 = (24, Rows.any-gone ty0·10)
 
 abbrev row·62 : Row.Entry
-row·62 = (22, Mut.msleft (Record.the-row) (Syntax.tyRef Syntax.erased Syntax.mut (Memory·.pointee (Record.the-row .written))))
+row·62 = (25, Relend.ssptr (Record.the-row) (Syntax.tyRef Syntax.erased Syntax.imm (Memory·.pointee (Record.the-row .written))) 5)
 
 abbrev row·63 : Row.Entry
-row·63 = (22, Mut.mslice (Record.the-row) (Syntax.tyRef Syntax.erased Syntax.mut (Memory·.pointee (Record.the-row .written))) 4)
+row·63 = (25, Rows.any-gone (Syntax.tyRef Syntax.erased Syntax.imm (Memory·.pointee (Record.the-row .written))))
 
 abbrev row·64 : Row.Entry
-row·64 = (22, Rows.any-gone ty0·13)
+row·64 = (26, Rows.any-gone ty0·11)
 
 abbrev row·65 : Row.Entry
-row·65 = (23, Rows.any-gone ty0·10)
+row·65 = (26, Rows.sslice (Record.the-row) (Syntax.tyRef Syntax.erased Syntax.imm (Memory·.pointee (Record.the-row .written))) 5)
 
 abbrev row·66 : Row.Entry
-row·66 = (24, Relend.ssptr (Record.the-row) (Syntax.tyRef Syntax.erased Syntax.imm (Memory·.pointee (Record.the-row .written))) 5)
+row·66 = (27, Relend.msptr (Referent.rtF (Referent.fInt Syntax.w8)) (Syntax.tyRef Syntax.erased Syntax.mut (Syntax.tyInt Syntax.w8)) 6)
 
 abbrev row·67 : Row.Entry
-row·67 = (24, Rows.any-gone (Syntax.tyRef Syntax.erased Syntax.imm (Memory·.pointee (Record.the-row .written))))
-
-abbrev row·68 : Row.Entry
-row·68 = (25, Rows.any-gone ty0·11)
-
-abbrev row·69 : Row.Entry
-row·69 = (25, Rows.sslice (Record.the-row) (Syntax.tyRef Syntax.erased Syntax.imm (Memory·.pointee (Record.the-row .written))) 5)
-
-abbrev row·70 : Row.Entry
-row·70 = (26, Relend.msptr (Referent.rtF (Referent.fInt Syntax.w8)) (Syntax.tyRef Syntax.erased Syntax.mut (Syntax.tyInt Syntax.w8)) 6)
-
-abbrev row·71 : Row.Entry
-row·71 = (
+row·67 = (
   3,
   Relend.mslice-owed (Referent.rtF (Referent.fInt Syntax.w8)) (Syntax.tyRef (Syntax.named 0) Syntax.mut (Syntax.tyInt Syntax.w8)) 0 7
       Row.off,
 )
 
+abbrev row·68 : Row.Entry
+row·68 = (32, Relend.msptr (Record.the-row) (Syntax.tyRef Syntax.erased Syntax.mut (Memory·.pointee (Record.the-row .written))) 8)
+
+abbrev row·69 : Row.Entry
+row·69 = (32, Rows.any-gone (Syntax.tyRef Syntax.erased Syntax.mut (Memory·.pointee (Record.the-row .written))))
+
+abbrev row·70 : Row.Entry
+row·70 = (33, Mut.msleft (Record.the-row) (Syntax.tyRef Syntax.erased Syntax.mut (Memory·.pointee (Record.the-row .written))))
+
+abbrev row·71 : Row.Entry
+row·71 = (33, Mut.mslice (Record.the-row) (Syntax.tyRef Syntax.erased Syntax.mut (Memory·.pointee (Record.the-row .written))) 8)
+
 abbrev row·72 : Row.Entry
-row·72 = (32, Mut.msleft (Record.the-row) (Syntax.tyRef Syntax.erased Syntax.mut (Memory·.pointee (Record.the-row .written))))
+row·72 = (33, Rows.any-gone ty0·13)
 
 abbrev row·73 : Row.Entry
-row·73 = (32, Mut.mslice (Record.the-row) (Syntax.tyRef Syntax.erased Syntax.mut (Memory·.pointee (Record.the-row .written))) 8)
+row·73 = (34, Rows.any-gone ty0·10)
 
 abbrev row·74 : Row.Entry
-row·74 = (32, Rows.any-gone ty0·13)
+row·74 = (35, Relend.ssptr (Record.the-row) (Syntax.tyRef Syntax.erased Syntax.imm (Memory·.pointee (Record.the-row .written))) 9)
 
 abbrev row·75 : Row.Entry
-row·75 = (33, Rows.any-gone ty0·10)
+row·75 = (35, Rows.any-gone (Syntax.tyRef Syntax.erased Syntax.imm (Memory·.pointee (Record.the-row .written))))
 
 abbrev row·76 : Row.Entry
-row·76 = (34, Relend.ssptr (Record.the-row) (Syntax.tyRef Syntax.erased Syntax.imm (Memory·.pointee (Record.the-row .written))) 9)
+row·76 = (36, Rows.any-gone ty0·11)
 
 abbrev row·77 : Row.Entry
-row·77 = (34, Rows.any-gone (Syntax.tyRef Syntax.erased Syntax.imm (Memory·.pointee (Record.the-row .written))))
+row·77 = (36, Rows.sslice (Record.the-row) (Syntax.tyRef Syntax.erased Syntax.imm (Memory·.pointee (Record.the-row .written))) 9)
 
 abbrev row·78 : Row.Entry
-row·78 = (35, Rows.any-gone ty0·11)
+row·78 = (37, Relend.msptr (Referent.rtF (Referent.fInt Syntax.w8)) (Syntax.tyRef Syntax.erased Syntax.mut (Syntax.tyInt Syntax.w8)) 10)
 
 abbrev row·79 : Row.Entry
-row·79 = (35, Rows.sslice (Record.the-row) (Syntax.tyRef Syntax.erased Syntax.imm (Memory·.pointee (Record.the-row .written))) 9)
+row·79 = (
+  4,
+  Relend.mslice-owed (Referent.rtF (Referent.fInt Syntax.w8)) (Syntax.tyRef (Syntax.named 1) Syntax.mut (Syntax.tyInt Syntax.w8)) 1 10
+      Row.off,
+)
 
 abbrev row·80 : Row.Entry
-row·80 = (36, Relend.msptr (Referent.rtF (Referent.fInt Syntax.w8)) (Syntax.tyRef Syntax.erased Syntax.mut (Syntax.tyInt Syntax.w8)) 10)
+row·80 = (
+  4,
+  Relend.mslice-owed (Referent.rtF (Referent.fInt Syntax.w8)) (Syntax.tyRef (Syntax.named 1) Syntax.mut (Syntax.tyInt Syntax.w8)) 1 12
+      Row.off,
+)
 
 abbrev row·81 : Row.Entry
 row·81 = (
   4,
-  Relend.mslice-owed (Referent.rtF (Referent.fInt Syntax.w8)) (Syntax.tyRef (Syntax.named 1) Syntax.mut (Syntax.tyInt Syntax.w8)) 1 10
+  Relend.mslice-owed (Referent.rtF (Referent.fInt Syntax.w8)) (Syntax.tyRef (Syntax.named 1) Syntax.mut (Syntax.tyInt Syntax.w8)) 1 6
       Row.off,
 )
 
 abbrev row·82 : Row.Entry
 row·82 = (
   4,
-  Relend.mslice-owed (Referent.rtF (Referent.fInt Syntax.w8)) (Syntax.tyRef (Syntax.named 1) Syntax.mut (Syntax.tyInt Syntax.w8)) 1 12
-      Row.off,
-)
-
-abbrev row·83 : Row.Entry
-row·83 = (
-  4,
-  Relend.mslice-owed (Referent.rtF (Referent.fInt Syntax.w8)) (Syntax.tyRef (Syntax.named 1) Syntax.mut (Syntax.tyInt Syntax.w8)) 1 6
-      Row.off,
-)
-
-abbrev row·84 : Row.Entry
-row·84 = (
-  4,
   Reshare.mslice-owedS (Referent.rtF (Referent.fInt Syntax.w8)) (Syntax.tyRef (Syntax.named 1) Syntax.mut (Syntax.tyInt Syntax.w8)) 1 14
       Row.off,
 )
 
+abbrev row·83 : Row.Entry
+row·83 = (48, Rows.any-gone ty0·12)
+
+abbrev row·84 : Row.Entry
+row·84 = (48, Rows.sslice (Referent.rtF (Referent.fInt Syntax.w8)) (Syntax.tyRef Syntax.erased Syntax.imm (Syntax.tyInt Syntax.w8)) 14)
+
 abbrev row·85 : Row.Entry
-row·85 = (
-  5,
-  Relend.mslice-owed (Record.the-row) (Syntax.tyRef (Syntax.named 2) Syntax.mut (Memory·.pointee (Record.the-row .written))) 2 13 Row.off,
-)
+row·85 = (49, Rows.any-gone ty1·2)
 
 abbrev row·86 : Row.Entry
 row·86 = (
   5,
-  Relend.mslice-owed (Record.the-row) (Syntax.tyRef (Syntax.named 2) Syntax.mut (Memory·.pointee (Record.the-row .written))) 2 3 Row.off,
+  Relend.mslice-owed (Record.the-row) (Syntax.tyRef (Syntax.named 2) Syntax.mut (Memory·.pointee (Record.the-row .written))) 2 13 Row.off,
 )
 
 abbrev row·87 : Row.Entry
 row·87 = (
   5,
-  Relend.mslice-owed (Record.the-row) (Syntax.tyRef (Syntax.named 2) Syntax.mut (Memory·.pointee (Record.the-row .written))) 2 4 Row.off,
+  Relend.mslice-owed (Record.the-row) (Syntax.tyRef (Syntax.named 2) Syntax.mut (Memory·.pointee (Record.the-row .written))) 2 15 Row.off,
 )
 
 abbrev row·88 : Row.Entry
 row·88 = (
   5,
-  Relend.mslice-owed (Record.the-row) (Syntax.tyRef (Syntax.named 2) Syntax.mut (Memory·.pointee (Record.the-row .written))) 2 8 Row.off,
+  Relend.mslice-owed (Record.the-row) (Syntax.tyRef (Syntax.named 2) Syntax.mut (Memory·.pointee (Record.the-row .written))) 2 3 Row.off,
 )
 
 abbrev row·89 : Row.Entry
 row·89 = (
   5,
-  Reshare.mslice-owedS (Record.the-row) (Syntax.tyRef (Syntax.named 2) Syntax.mut (Memory·.pointee (Record.the-row .written))) 2 11
-      Row.off,
+  Relend.mslice-owed (Record.the-row) (Syntax.tyRef (Syntax.named 2) Syntax.mut (Memory·.pointee (Record.the-row .written))) 2 4 Row.off,
 )
 
 abbrev row·90 : Row.Entry
 row·90 = (
   5,
-  Reshare.mslice-owedS (Record.the-row) (Syntax.tyRef (Syntax.named 2) Syntax.mut (Memory·.pointee (Record.the-row .written))) 2 5
-      Row.off,
+  Relend.mslice-owed (Record.the-row) (Syntax.tyRef (Syntax.named 2) Syntax.mut (Memory·.pointee (Record.the-row .written))) 2 8 Row.off,
 )
 
 abbrev row·91 : Row.Entry
 row·91 = (
   5,
-  Reshare.mslice-owedS (Record.the-row) (Syntax.tyRef (Syntax.named 2) Syntax.mut (Memory·.pointee (Record.the-row .written))) 2 9
+  Reshare.mslice-owedS (Record.the-row) (Syntax.tyRef (Syntax.named 2) Syntax.mut (Memory·.pointee (Record.the-row .written))) 2 11
       Row.off,
 )
 
 abbrev row·92 : Row.Entry
-row·92 = (7, Rows.any-gone (Syntax.tyInt Syntax.w64))
+row·92 = (
+  5,
+  Reshare.mslice-owedS (Record.the-row) (Syntax.tyRef (Syntax.named 2) Syntax.mut (Memory·.pointee (Record.the-row .written))) 2 5
+      Row.off,
+)
 
 abbrev row·93 : Row.Entry
-row·93 = (0, Rows.whole (Declared.row Given.the-type))
+row·93 = (
+  5,
+  Reshare.mslice-owedS (Record.the-row) (Syntax.tyRef (Syntax.named 2) Syntax.mut (Memory·.pointee (Record.the-row .written))) 2 9
+      Row.off,
+)
 
 abbrev row·94 : Row.Entry
-row·94 = (1, Rows.whole (Declared.row Call.the-type))
+row·94 = (50, Relend.msptr (Record.the-row) (Syntax.tyRef Syntax.erased Syntax.mut (Memory·.pointee (Record.the-row .written))) 15)
 
 abbrev row·95 : Row.Entry
-row·95 = (1, Rows.whole (Known.Known Call.enum 1))
+row·95 = (50, Rows.any-gone (Syntax.tyRef Syntax.erased Syntax.mut (Memory·.pointee (Record.the-row .written))))
 
 abbrev row·96 : Row.Entry
-row·96 = (1, Rows.whole (Known.Known Call.enum 2))
+row·96 = (51, Mut.msleft (Record.the-row) (Syntax.tyRef Syntax.erased Syntax.mut (Memory·.pointee (Record.the-row .written))))
 
 abbrev row·97 : Row.Entry
-row·97 = (1, Rows.whole (Known.Known Call.enum 4))
+row·97 = (51, Mut.mslice (Record.the-row) (Syntax.tyRef Syntax.erased Syntax.mut (Memory·.pointee (Record.the-row .written))) 15)
 
 abbrev row·98 : Row.Entry
-row·98 = (1, Rows.whole (Known.Known Call.enum 5))
+row·98 = (51, Rows.any-gone ty0·13)
 
 abbrev row·99 : Row.Entry
-row·99 = (1, Rows.whole (Known.Known Call.enum 6))
+row·99 = (7, Rows.any-gone (Syntax.tyInt Syntax.w64))
 
 abbrev row·100 : Row.Entry
-row·100 = (1, Rows.whole (Known.Known Call.enum 7))
+row·100 = (0, Rows.whole (Declared.row Given.the-type))
 
 abbrev row·101 : Row.Entry
-row·101 = (10, Rows.any-gone (Syntax.tyInt Syntax.w64))
+row·101 = (1, Rows.whole (Declared.row Call.the-type))
 
 abbrev row·102 : Row.Entry
-row·102 = (10, Rows.sc-here (Row.sInt Syntax.w64))
+row·102 = (1, Rows.whole (Known.Known Call.enum 1))
 
 abbrev row·103 : Row.Entry
-row·103 = (12, Rows.any-gone (Syntax.tyInt Syntax.w64))
+row·103 = (1, Rows.whole (Known.Known Call.enum 2))
 
 abbrev row·104 : Row.Entry
-row·104 = (12, Rows.sc-here (Row.sInt Syntax.w64))
+row·104 = (1, Rows.whole (Known.Known Call.enum 4))
 
 abbrev row·105 : Row.Entry
-row·105 = (14, Rows.any-gone (Syntax.tyInt Syntax.w64))
+row·105 = (1, Rows.whole (Known.Known Call.enum 5))
 
 abbrev row·106 : Row.Entry
-row·106 = (14, Rows.sc-here (Row.sInt Syntax.w64))
+row·106 = (1, Rows.whole (Known.Known Call.enum 6))
 
 abbrev row·107 : Row.Entry
-row·107 = (16, Rows.whole (Declared.row Given.the-type))
+row·107 = (1, Rows.whole (Known.Known Call.enum 7))
 
 abbrev row·108 : Row.Entry
-row·108 = (17, Rows.any-gone Syntax.tyUnit)
+row·108 = (1, Rows.whole (Known.Known Call.enum 8))
 
 abbrev row·109 : Row.Entry
-row·109 = (17, Rows.sc-here Row.sUnit)
+row·109 = (10, Rows.any-gone (Syntax.tyInt Syntax.w64))
 
 abbrev row·110 : Row.Entry
-row·110 = (2, Rows.whole (Declared'.row Counts.the-type))
+row·110 = (10, Rows.sc-here (Row.sInt Syntax.w64))
 
 abbrev row·111 : Row.Entry
-row·111 = (20, Rows.any-gone Syntax.tyUnit)
+row·111 = (12, Rows.any-gone (Syntax.tyInt Syntax.w64))
 
 abbrev row·112 : Row.Entry
-row·112 = (20, Rows.sc-here Row.sUnit)
+row·112 = (12, Rows.sc-here (Row.sInt Syntax.w64))
 
 abbrev row·113 : Row.Entry
-row·113 = (23, Rows.whole (Declared'.row Written.the-type))
+row·113 = (14, Rows.any-gone (Syntax.tyInt Syntax.w64))
 
 abbrev row·114 : Row.Entry
-row·114 = (26, Rows.any-gone (Syntax.tyRef Syntax.erased Syntax.mut (Syntax.tyInt Syntax.w8)))
+row·114 = (14, Rows.sc-here (Row.sInt Syntax.w64))
 
 abbrev row·115 : Row.Entry
-row·115 = (28, Rows.whole (Declared'.row Edited.the-type))
+row·115 = (16, Rows.any-gone (Syntax.tyInt Syntax.w64))
 
 abbrev row·116 : Row.Entry
-row·116 = (29, Rows.any-gone (Syntax.tyRef Syntax.erased Syntax.mut (Syntax.tyInt Syntax.w8)))
+row·116 = (16, Rows.sc-here (Row.sInt Syntax.w64))
 
 abbrev row·117 : Row.Entry
-row·117 = (33, Rows.whole (Declared'.row Written.the-type))
+row·117 = (18, Rows.any-gone Syntax.tyUnit)
 
 abbrev row·118 : Row.Entry
-row·118 = (36, Rows.any-gone (Syntax.tyRef Syntax.erased Syntax.mut (Syntax.tyInt Syntax.w8)))
+row·118 = (18, Rows.sc-here Row.sUnit)
 
 abbrev row·119 : Row.Entry
-row·119 = (38, Rows.whole (Declared'.row Written.the-type))
+row·119 = (2, Rows.whole (Declared'.row Counts.the-type))
 
 abbrev row·120 : Row.Entry
-row·120 = (41, Rows.any-gone (Syntax.tyRef Syntax.erased Syntax.mut (Syntax.tyInt Syntax.w8)))
+row·120 = (21, Rows.any-gone Syntax.tyUnit)
 
 abbrev row·121 : Row.Entry
-row·121 = (43, Rows.whole (Declared'.row Edited.the-type))
+row·121 = (21, Rows.sc-here Row.sUnit)
 
 abbrev row·122 : Row.Entry
-row·122 = (6, Rows.whole (Declared'.row Counts.the-type))
+row·122 = (24, Rows.whole (Declared'.row Written.the-type))
 
 abbrev row·123 : Row.Entry
-row·123 = (7, Rows.any-gone (Syntax.tyInt Syntax.w64))
+row·123 = (27, Rows.any-gone (Syntax.tyRef Syntax.erased Syntax.mut (Syntax.tyInt Syntax.w8)))
 
 abbrev row·124 : Row.Entry
-row·124 = (7, Rows.sc-here (Row.sInt Syntax.w64))
+row·124 = (29, Rows.whole (Declared'.row Edited.the-type))
 
 abbrev row·125 : Row.Entry
-row·125 = (8, Rows.any-gone (Syntax.tyInt Syntax.w64))
+row·125 = (30, Rows.any-gone (Syntax.tyRef Syntax.erased Syntax.mut (Syntax.tyInt Syntax.w8)))
 
 abbrev row·126 : Row.Entry
-row·126 = (9, Rows.whole (Declared'.row Record.the-type))
+row·126 = (34, Rows.whole (Declared'.row Written.the-type))
+
+abbrev row·127 : Row.Entry
+row·127 = (37, Rows.any-gone (Syntax.tyRef Syntax.erased Syntax.mut (Syntax.tyInt Syntax.w8)))
+
+abbrev row·128 : Row.Entry
+row·128 = (39, Rows.whole (Declared'.row Written.the-type))
+
+abbrev row·129 : Row.Entry
+row·129 = (42, Rows.any-gone (Syntax.tyRef Syntax.erased Syntax.mut (Syntax.tyInt Syntax.w8)))
+
+abbrev row·130 : Row.Entry
+row·130 = (44, Rows.whole (Declared'.row Edited.the-type))
+
+abbrev row·131 : Row.Entry
+row·131 = (49, Rows.whole (Declared'.row Edited.the-type))
+
+abbrev row·132 : Row.Entry
+row·132 = (6, Rows.whole (Declared'.row Counts.the-type))
+
+abbrev row·133 : Row.Entry
+row·133 = (7, Rows.any-gone (Syntax.tyInt Syntax.w64))
+
+abbrev row·134 : Row.Entry
+row·134 = (7, Rows.sc-here (Row.sInt Syntax.w64))
+
+abbrev row·135 : Row.Entry
+row·135 = (8, Rows.any-gone (Syntax.tyInt Syntax.w64))
+
+abbrev row·136 : Row.Entry
+row·136 = (9, Rows.whole (Declared'.row Record.the-type))
 
 abbrev pub ps : List.List (Kinds.PK 3)
 ps = List._∷_ (Value.pVal record {
@@ -691,20 +724,21 @@ r = Value.rVal record {
 abbrev pub xs : List.List Syntax.Ty
 xs = List._∷_ ty0·8 (List._∷_ (Syntax.tyInt Syntax.w64) (List._∷_ (Syntax.tyInt Syntax.w64) (List._∷_ ty1·1 (List._∷_ (Syntax.tyInt Syntax.w64)
     (List._∷_ ty3·0 (List._∷_ (Syntax.tyInt Syntax.w64) (List._∷_ (Syntax.tyInt Syntax.w64) (List._∷_ (Syntax.tyInt Syntax.w64) (List._∷_
-    (Syntax.tyInt Syntax.w64) (List._∷_ ty2·0 (List._∷_ Syntax.tyUnit (List._∷_ (Syntax.tyRef Syntax.erased Syntax.mut (Memory·.pointee
-    (Record.the-row .written))) (List._∷_ ty0·13 (List._∷_ Syntax.tyUnit (List._∷_ (Syntax.tyRef Syntax.erased Syntax.mut (Memory·.pointee
-    (Record.the-row .written))) (List._∷_ ty0·13 (List._∷_ ty0·10 (List._∷_ (Syntax.tyRef Syntax.erased Syntax.imm (Memory·.pointee (Record.the-row
-    .written))) (List._∷_ ty0·11 (List._∷_ (Syntax.tyRef Syntax.erased Syntax.mut (Syntax.tyInt Syntax.w8)) (List._∷_ ty0·14 (List._∷_ ty1·2 (List._∷_
-    (Syntax.tyRef Syntax.erased Syntax.mut (Syntax.tyInt Syntax.w8)) (List._∷_ ty0·14 (List._∷_ (Syntax.tyRef Syntax.erased Syntax.mut
+    (Syntax.tyInt Syntax.w64) (List._∷_ (Syntax.tyInt Syntax.w64) (List._∷_ ty2·0 (List._∷_ Syntax.tyUnit (List._∷_ (Syntax.tyRef Syntax.erased
+    Syntax.mut (Memory·.pointee (Record.the-row .written))) (List._∷_ ty0·13 (List._∷_ Syntax.tyUnit (List._∷_ (Syntax.tyRef Syntax.erased Syntax.mut
+    (Memory·.pointee (Record.the-row .written))) (List._∷_ ty0·13 (List._∷_ ty0·10 (List._∷_ (Syntax.tyRef Syntax.erased Syntax.imm (Memory·.pointee
+    (Record.the-row .written))) (List._∷_ ty0·11 (List._∷_ (Syntax.tyRef Syntax.erased Syntax.mut (Syntax.tyInt Syntax.w8)) (List._∷_ ty0·14 (List._∷_
+    ty1·2 (List._∷_ (Syntax.tyRef Syntax.erased Syntax.mut (Syntax.tyInt Syntax.w8)) (List._∷_ ty0·14 (List._∷_ (Syntax.tyRef Syntax.erased Syntax.mut
     (Memory·.pointee (Record.the-row .written))) (List._∷_ ty0·13 (List._∷_ ty0·10 (List._∷_ (Syntax.tyRef Syntax.erased Syntax.imm (Memory·.pointee
     (Record.the-row .written))) (List._∷_ ty0·11 (List._∷_ (Syntax.tyRef Syntax.erased Syntax.mut (Syntax.tyInt Syntax.w8)) (List._∷_ ty0·14 (List._∷_
     ty0·10 (List._∷_ (Syntax.tyRef Syntax.erased Syntax.imm (Memory·.pointee (Record.the-row .written))) (List._∷_ ty0·11 (List._∷_ (Syntax.tyRef
     Syntax.erased Syntax.mut (Syntax.tyInt Syntax.w8)) (List._∷_ ty0·14 (List._∷_ ty1·2 (List._∷_ (Syntax.tyRef Syntax.erased Syntax.mut
     (Memory·.pointee (Record.the-row .written))) (List._∷_ ty0·13 (List._∷_ (Syntax.tyRef Syntax.erased Syntax.imm (Syntax.tyInt Syntax.w8)) (List._∷_
-    ty0·12 List.[])))))))))))))))))))))))))))))))))))))))))
+    ty0·12 (List._∷_ ty1·2 (List._∷_ (Syntax.tyRef Syntax.erased Syntax.mut (Memory·.pointee (Record.the-row .written))) (List._∷_ ty0·13
+    List.[])))))))))))))))))))))))))))))))))))))))))))))
 
 abbrev pub m : Nat.ℕ
-m = 12
+m = 13
 
 abbrev pub ps·0 : List.List (Kinds.PK 1)
 ps·0 = List._∷_ (MutSlice.pMutS (Record.the-row) 0 tt) List.[]
@@ -961,6 +995,51 @@ r·6 = Value.rVal record {
   of-mem = Local.whole-mem 𝓤 H A W (Declared'.row Edited.the-type);
 }
 
+abbrev pub ps·7 : List.List (Kinds.PK 1)
+ps·7 = List._∷_ (Value.pVal record {
+  ty = Declared'.row Counts.the-type;
+  one = Path'.refl;
+  val = Laws'8.val Counts.the-type Laws'5.the-laws;
+  tells =
+      Laws'8.tells Counts.the-type Laws'5.the-laws;
+  still = Laws'8.still Counts.the-type Laws'5.the-copy Exit.yes;
+  row = Rows.whole (Declared'.row
+      Counts.the-type);
+  rd = λ x. x;
+  mk = λ x. x;
+} λ M 𝓤 H A W. record {
+  copies = Laws'8.copy Counts.the-type Laws'5.the-copy 𝓤 H A W;
+  lawful =
+      Laws'8.lawful Counts.the-type Laws'5.the-laws 𝓤 H A W;
+  makes = Laws'8.makes Counts.the-type Laws'5.the-plain 𝓤 H A;
+  in-mem = Local.mem-whole 𝓤 H A
+      W (Declared'.row Counts.the-type);
+  of-mem = Local.whole-mem 𝓤 H A W (Declared'.row Counts.the-type);
+}) (List._∷_ (MutSlice.pMutS (Record.the-row)
+    0 tt) (List._∷_ (Num.pNum Syntax.w64) List.[]))
+
+abbrev pub r·7 : Kinds.RK 1
+r·7 = Value.rVal record {
+  ty = Declared'.row Edited.the-type;
+  one = Path'.refl;
+  val = Laws'8.val Edited.the-type Laws'.the-laws;
+  tells = Laws'8.tells
+      Edited.the-type Laws'.the-laws;
+  still = Laws'8.still Edited.the-type Laws'.the-copy Exit.yes;
+  row = Rows.whole (Declared'.row Edited.the-type);
+  rd
+      = λ x. x;
+  mk = λ x. x;
+} λ M 𝓤 H A W. record {
+  copies = Laws'8.copy Edited.the-type Laws'.the-copy 𝓤 H A W;
+  lawful = Laws'8.lawful Edited.the-type
+      Laws'.the-laws 𝓤 H A W;
+  makes = Laws'8.makes Edited.the-type Laws'.the-plain 𝓤 H A;
+  in-mem = Local.mem-whole 𝓤 H A W (Declared'.row
+      Edited.the-type);
+  of-mem = Local.whole-mem 𝓤 H A W (Declared'.row Edited.the-type);
+}
+
 abbrev pub hs : List.List Syntax.Home
 hs = List._∷_ Syntax.valueLocal (List._∷_ Syntax.valueLocal (List._∷_ Syntax.valueLocal (List._∷_ Syntax.valueLocal (List._∷_ Syntax.valueLocal
     (List._∷_ Syntax.valueLocal (List._∷_ Syntax.valueLocal (List._∷_ Syntax.valueLocal (List._∷_ Syntax.valueLocal (List._∷_ Syntax.valueLocal
@@ -971,10 +1050,11 @@ hs = List._∷_ Syntax.valueLocal (List._∷_ Syntax.valueLocal (List._∷_ Synt
     (List._∷_ Syntax.valueLocal (List._∷_ Syntax.valueLocal (List._∷_ Syntax.valueLocal (List._∷_ Syntax.valueLocal (List._∷_ Syntax.valueLocal
     (List._∷_ Syntax.valueLocal (List._∷_ Syntax.valueLocal (List._∷_ Syntax.valueLocal (List._∷_ Syntax.valueLocal (List._∷_ Syntax.valueLocal
     (List._∷_ Syntax.valueLocal (List._∷_ Syntax.valueLocal (List._∷_ Syntax.valueLocal (List._∷_ Syntax.valueLocal (List._∷_ Syntax.valueLocal
-    (List._∷_ Syntax.valueLocal (List._∷_ Syntax.valueLocal (List._∷_ Syntax.valueLocal List.[])))))))))))))))))))))))))))))))))))))))))))))))
+    (List._∷_ Syntax.valueLocal (List._∷_ Syntax.valueLocal (List._∷_ Syntax.valueLocal (List._∷_ Syntax.valueLocal (List._∷_ Syntax.valueLocal
+    (List._∷_ Syntax.valueLocal (List._∷_ Syntax.valueLocal List.[])))))))))))))))))))))))))))))))))))))))))))))))))))
 
 abbrev b0 : Syntax.Body
-b0 = Syntax.assign (Syntax.place 16 List.[]) (Syntax.aggregate (List._∷_ (Syntax.int Syntax.w8 0) List.[]))
+b0 = Syntax.assign (Syntax.place 17 List.[]) (Syntax.aggregate (List._∷_ (Syntax.int Syntax.w8 0) List.[]))
 
 abbrev b1 : Syntax.Body
 b1 = Syntax.assign (Syntax.place 6 List.[]) (Syntax.rvOpd (Syntax.copy (Syntax.place 1 (List._∷_ (Syntax.variant 1) (List._∷_ (Syntax.field 1)
@@ -985,18 +1065,18 @@ b2 = Syntax.assign (Syntax.place 7 List.[]) (Syntax.rvOpd (Syntax.copy (Syntax.p
     List.[])))))
 
 abbrev b3 : Syntax.Body
-b3 = Syntax.assign (Syntax.place 18 List.[]) (Syntax.addrOf (Syntax.place 5 (List._∷_ (Syntax.field 0) (List._∷_ (Syntax.deref (Laws'4.mir))
+b3 = Syntax.assign (Syntax.place 19 List.[]) (Syntax.addrOf (Syntax.place 5 (List._∷_ (Syntax.field 0) (List._∷_ (Syntax.deref (Laws'4.mir))
     List.[]))))
 
 abbrev b4 : Syntax.Body
-b4 = Syntax.assign (Syntax.place 19 List.[]) (Syntax.aggregate (List._∷_ (Syntax.copy (Syntax.place 18 List.[])) (List._∷_ (Syntax.copy (Syntax.place
+b4 = Syntax.assign (Syntax.place 20 List.[]) (Syntax.aggregate (List._∷_ (Syntax.copy (Syntax.place 19 List.[])) (List._∷_ (Syntax.copy (Syntax.place
     5 (List._∷_ (Syntax.field 1) List.[]))) List.[])))
 
 abbrev b5 : Syntax.Body
-b5 = Syntax.call "probe::calls::clear" (List._∷_ (Syntax.copy (Syntax.place 19 List.[])) List.[]) (Syntax.place 17 List.[])
+b5 = Syntax.call "probe::calls::clear" (List._∷_ (Syntax.copy (Syntax.place 20 List.[])) List.[]) (Syntax.place 18 List.[])
 
 abbrev b6 : Syntax.Body
-b6 = Syntax.assign (Syntax.place 16 List.[]) (Syntax.aggregate (List._∷_ (Syntax.int Syntax.w8 1) (List._∷_ (Syntax.copy (Syntax.place 6 List.[]))
+b6 = Syntax.assign (Syntax.place 17 List.[]) (Syntax.aggregate (List._∷_ (Syntax.int Syntax.w8 1) (List._∷_ (Syntax.copy (Syntax.place 6 List.[]))
     (List._∷_ (Syntax.copy (Syntax.place 7 List.[])) List.[]))))
 
 abbrev b7 : Syntax.Body
@@ -1023,19 +1103,19 @@ b13 = Syntax.assign (Syntax.place 9 List.[]) (Syntax.rvOpd (Syntax.copy (Syntax.
     List.[])))))
 
 abbrev b14 : Syntax.Body
-b14 = Syntax.assign (Syntax.place 21 List.[]) (Syntax.addrOf (Syntax.place 5 (List._∷_ (Syntax.field 0) (List._∷_ (Syntax.deref (Laws'4.mir))
+b14 = Syntax.assign (Syntax.place 22 List.[]) (Syntax.addrOf (Syntax.place 5 (List._∷_ (Syntax.field 0) (List._∷_ (Syntax.deref (Laws'4.mir))
     List.[]))))
 
 abbrev b15 : Syntax.Body
-b15 = Syntax.assign (Syntax.place 22 List.[]) (Syntax.aggregate (List._∷_ (Syntax.copy (Syntax.place 21 List.[])) (List._∷_ (Syntax.copy (Syntax.place
+b15 = Syntax.assign (Syntax.place 23 List.[]) (Syntax.aggregate (List._∷_ (Syntax.copy (Syntax.place 22 List.[])) (List._∷_ (Syntax.copy (Syntax.place
     5 (List._∷_ (Syntax.field 1) List.[]))) List.[])))
 
 abbrev b16 : Syntax.Body
-b16 = Syntax.call "records::put" (List._∷_ (Syntax.copy (Syntax.place 22 List.[])) (List._∷_ (Syntax.copy (Syntax.place 8 List.[])) (List._∷_
-    (Syntax.copy (Syntax.place 9 List.[])) List.[]))) (Syntax.place 20 List.[])
+b16 = Syntax.call "records::put" (List._∷_ (Syntax.copy (Syntax.place 23 List.[])) (List._∷_ (Syntax.copy (Syntax.place 8 List.[])) (List._∷_
+    (Syntax.copy (Syntax.place 9 List.[])) List.[]))) (Syntax.place 21 List.[])
 
 abbrev b17 : Syntax.Body
-b17 = Syntax.assign (Syntax.place 16 List.[]) (Syntax.aggregate (List._∷_ (Syntax.int Syntax.w8 0) List.[]))
+b17 = Syntax.assign (Syntax.place 17 List.[]) (Syntax.aggregate (List._∷_ (Syntax.int Syntax.w8 0) List.[]))
 
 abbrev b18 : Syntax.Body
 b18 = Syntax.seq b16 b17
@@ -1053,27 +1133,27 @@ abbrev b22 : Syntax.Body
 b22 = Syntax.seq b12 b21
 
 abbrev b23 : Syntax.Body
-b23 = Syntax.assign (Syntax.place 24 List.[]) (Syntax.addrOf (Syntax.place 5 (List._∷_ (Syntax.field 0) (List._∷_ (Syntax.deref (Laws'4.mir))
+b23 = Syntax.assign (Syntax.place 25 List.[]) (Syntax.addrOf (Syntax.place 5 (List._∷_ (Syntax.field 0) (List._∷_ (Syntax.deref (Laws'4.mir))
     List.[]))))
 
 abbrev b24 : Syntax.Body
-b24 = Syntax.assign (Syntax.place 25 List.[]) (Syntax.aggregate (List._∷_ (Syntax.copy (Syntax.place 24 List.[])) (List._∷_ (Syntax.copy (Syntax.place
+b24 = Syntax.assign (Syntax.place 26 List.[]) (Syntax.aggregate (List._∷_ (Syntax.copy (Syntax.place 25 List.[])) (List._∷_ (Syntax.copy (Syntax.place
     5 (List._∷_ (Syntax.field 1) List.[]))) List.[])))
 
 abbrev b25 : Syntax.Body
-b25 = Syntax.assign (Syntax.place 26 List.[]) (Syntax.addrOf (Syntax.place 4 (List._∷_ (Syntax.field 0) (List._∷_ (Syntax.deref (Syntax.tyInt
+b25 = Syntax.assign (Syntax.place 27 List.[]) (Syntax.addrOf (Syntax.place 4 (List._∷_ (Syntax.field 0) (List._∷_ (Syntax.deref (Syntax.tyInt
     Syntax.w8)) List.[]))))
 
 abbrev b26 : Syntax.Body
-b26 = Syntax.assign (Syntax.place 27 List.[]) (Syntax.aggregate (List._∷_ (Syntax.copy (Syntax.place 26 List.[])) (List._∷_ (Syntax.copy (Syntax.place
+b26 = Syntax.assign (Syntax.place 28 List.[]) (Syntax.aggregate (List._∷_ (Syntax.copy (Syntax.place 27 List.[])) (List._∷_ (Syntax.copy (Syntax.place
     4 (List._∷_ (Syntax.field 1) List.[]))) List.[])))
 
 abbrev b27 : Syntax.Body
-b27 = Syntax.call "probe::calls::show" (List._∷_ (Syntax.copy (Syntax.place 25 List.[])) (List._∷_ (Syntax.copy (Syntax.place 27 List.[])) List.[]))
-    (Syntax.place 23 List.[])
+b27 = Syntax.call "probe::calls::show" (List._∷_ (Syntax.copy (Syntax.place 26 List.[])) (List._∷_ (Syntax.copy (Syntax.place 28 List.[])) List.[]))
+    (Syntax.place 24 List.[])
 
 abbrev b28 : Syntax.Body
-b28 = Syntax.assign (Syntax.place 16 List.[]) (Syntax.aggregate (List._∷_ (Syntax.int Syntax.w8 3) (List._∷_ (Syntax.copy (Syntax.place 23 List.[]))
+b28 = Syntax.assign (Syntax.place 17 List.[]) (Syntax.aggregate (List._∷_ (Syntax.int Syntax.w8 3) (List._∷_ (Syntax.copy (Syntax.place 24 List.[]))
     List.[])))
 
 abbrev b29 : Syntax.Body
@@ -1100,28 +1180,28 @@ b35 = Syntax.assign (Syntax.place 11 List.[]) (Syntax.rvOpd (Syntax.copy (Syntax
     List.[])))))
 
 abbrev b36 : Syntax.Body
-b36 = Syntax.assign (Syntax.place 29 List.[]) (Syntax.addrOf (Syntax.place 3 (List._∷_ (Syntax.field 0) (List._∷_ (Syntax.deref (Syntax.tyInt
+b36 = Syntax.assign (Syntax.place 30 List.[]) (Syntax.addrOf (Syntax.place 3 (List._∷_ (Syntax.field 0) (List._∷_ (Syntax.deref (Syntax.tyInt
     Syntax.w8)) List.[]))))
 
 abbrev b37 : Syntax.Body
-b37 = Syntax.assign (Syntax.place 30 List.[]) (Syntax.aggregate (List._∷_ (Syntax.copy (Syntax.place 29 List.[])) (List._∷_ (Syntax.copy (Syntax.place
+b37 = Syntax.assign (Syntax.place 31 List.[]) (Syntax.aggregate (List._∷_ (Syntax.copy (Syntax.place 30 List.[])) (List._∷_ (Syntax.copy (Syntax.place
     3 (List._∷_ (Syntax.field 1) List.[]))) List.[])))
 
 abbrev b38 : Syntax.Body
-b38 = Syntax.assign (Syntax.place 31 List.[]) (Syntax.addrOf (Syntax.place 5 (List._∷_ (Syntax.field 0) (List._∷_ (Syntax.deref (Laws'4.mir))
+b38 = Syntax.assign (Syntax.place 32 List.[]) (Syntax.addrOf (Syntax.place 5 (List._∷_ (Syntax.field 0) (List._∷_ (Syntax.deref (Laws'4.mir))
     List.[]))))
 
 abbrev b39 : Syntax.Body
-b39 = Syntax.assign (Syntax.place 32 List.[]) (Syntax.aggregate (List._∷_ (Syntax.copy (Syntax.place 31 List.[])) (List._∷_ (Syntax.copy (Syntax.place
+b39 = Syntax.assign (Syntax.place 33 List.[]) (Syntax.aggregate (List._∷_ (Syntax.copy (Syntax.place 32 List.[])) (List._∷_ (Syntax.copy (Syntax.place
     5 (List._∷_ (Syntax.field 1) List.[]))) List.[])))
 
 abbrev b40 : Syntax.Body
-b40 = Syntax.call "journal::perform" (List._∷_ (Syntax.copy (Syntax.place 30 List.[])) (List._∷_ (Syntax.copy (Syntax.place 2 List.[])) (List._∷_
-    (Syntax.copy (Syntax.place 32 List.[])) (List._∷_ (Syntax.copy (Syntax.place 10 List.[])) (List._∷_ (Syntax.copy (Syntax.place 11 List.[]))
-    List.[]))))) (Syntax.place 28 List.[])
+b40 = Syntax.call "journal::perform" (List._∷_ (Syntax.copy (Syntax.place 31 List.[])) (List._∷_ (Syntax.copy (Syntax.place 2 List.[])) (List._∷_
+    (Syntax.copy (Syntax.place 33 List.[])) (List._∷_ (Syntax.copy (Syntax.place 10 List.[])) (List._∷_ (Syntax.copy (Syntax.place 11 List.[]))
+    List.[]))))) (Syntax.place 29 List.[])
 
 abbrev b41 : Syntax.Body
-b41 = Syntax.assign (Syntax.place 16 List.[]) (Syntax.aggregate (List._∷_ (Syntax.int Syntax.w8 2) (List._∷_ (Syntax.copy (Syntax.place 28 List.[]))
+b41 = Syntax.assign (Syntax.place 17 List.[]) (Syntax.aggregate (List._∷_ (Syntax.int Syntax.w8 2) (List._∷_ (Syntax.copy (Syntax.place 29 List.[]))
     List.[])))
 
 abbrev b42 : Syntax.Body
@@ -1150,27 +1230,27 @@ b49 = Syntax.assign (Syntax.place 12 List.[]) (Syntax.rvOpd (Syntax.copy (Syntax
     List.[])))))
 
 abbrev b50 : Syntax.Body
-b50 = Syntax.assign (Syntax.place 34 List.[]) (Syntax.addrOf (Syntax.place 5 (List._∷_ (Syntax.field 0) (List._∷_ (Syntax.deref (Laws'4.mir))
+b50 = Syntax.assign (Syntax.place 35 List.[]) (Syntax.addrOf (Syntax.place 5 (List._∷_ (Syntax.field 0) (List._∷_ (Syntax.deref (Laws'4.mir))
     List.[]))))
 
 abbrev b51 : Syntax.Body
-b51 = Syntax.assign (Syntax.place 35 List.[]) (Syntax.aggregate (List._∷_ (Syntax.copy (Syntax.place 34 List.[])) (List._∷_ (Syntax.copy (Syntax.place
+b51 = Syntax.assign (Syntax.place 36 List.[]) (Syntax.aggregate (List._∷_ (Syntax.copy (Syntax.place 35 List.[])) (List._∷_ (Syntax.copy (Syntax.place
     5 (List._∷_ (Syntax.field 1) List.[]))) List.[])))
 
 abbrev b52 : Syntax.Body
-b52 = Syntax.assign (Syntax.place 36 List.[]) (Syntax.addrOf (Syntax.place 4 (List._∷_ (Syntax.field 0) (List._∷_ (Syntax.deref (Syntax.tyInt
+b52 = Syntax.assign (Syntax.place 37 List.[]) (Syntax.addrOf (Syntax.place 4 (List._∷_ (Syntax.field 0) (List._∷_ (Syntax.deref (Syntax.tyInt
     Syntax.w8)) List.[]))))
 
 abbrev b53 : Syntax.Body
-b53 = Syntax.assign (Syntax.place 37 List.[]) (Syntax.aggregate (List._∷_ (Syntax.copy (Syntax.place 36 List.[])) (List._∷_ (Syntax.copy (Syntax.place
+b53 = Syntax.assign (Syntax.place 38 List.[]) (Syntax.aggregate (List._∷_ (Syntax.copy (Syntax.place 37 List.[])) (List._∷_ (Syntax.copy (Syntax.place
     4 (List._∷_ (Syntax.field 1) List.[]))) List.[])))
 
 abbrev b54 : Syntax.Body
-b54 = Syntax.call "sheet::write" (List._∷_ (Syntax.copy (Syntax.place 2 List.[])) (List._∷_ (Syntax.copy (Syntax.place 35 List.[])) (List._∷_
-    (Syntax.copy (Syntax.place 12 List.[])) (List._∷_ (Syntax.copy (Syntax.place 37 List.[])) List.[])))) (Syntax.place 33 List.[])
+b54 = Syntax.call "sheet::write" (List._∷_ (Syntax.copy (Syntax.place 2 List.[])) (List._∷_ (Syntax.copy (Syntax.place 36 List.[])) (List._∷_
+    (Syntax.copy (Syntax.place 12 List.[])) (List._∷_ (Syntax.copy (Syntax.place 38 List.[])) List.[])))) (Syntax.place 34 List.[])
 
 abbrev b55 : Syntax.Body
-b55 = Syntax.assign (Syntax.place 16 List.[]) (Syntax.aggregate (List._∷_ (Syntax.int Syntax.w8 3) (List._∷_ (Syntax.copy (Syntax.place 33 List.[]))
+b55 = Syntax.assign (Syntax.place 17 List.[]) (Syntax.aggregate (List._∷_ (Syntax.int Syntax.w8 3) (List._∷_ (Syntax.copy (Syntax.place 34 List.[]))
     List.[])))
 
 abbrev b56 : Syntax.Body
@@ -1200,28 +1280,28 @@ b63 = Syntax.assign (Syntax.place 14 List.[]) (Syntax.rvOpd (Syntax.copy (Syntax
     List.[])))))
 
 abbrev b64 : Syntax.Body
-b64 = Syntax.assign (Syntax.place 39 List.[]) (Syntax.addrOf (Syntax.place 5 (List._∷_ (Syntax.field 0) (List._∷_ (Syntax.deref (Laws'4.mir))
+b64 = Syntax.assign (Syntax.place 40 List.[]) (Syntax.addrOf (Syntax.place 5 (List._∷_ (Syntax.field 0) (List._∷_ (Syntax.deref (Laws'4.mir))
     List.[]))))
 
 abbrev b65 : Syntax.Body
-b65 = Syntax.assign (Syntax.place 40 List.[]) (Syntax.aggregate (List._∷_ (Syntax.copy (Syntax.place 39 List.[])) (List._∷_ (Syntax.copy (Syntax.place
+b65 = Syntax.assign (Syntax.place 41 List.[]) (Syntax.aggregate (List._∷_ (Syntax.copy (Syntax.place 40 List.[])) (List._∷_ (Syntax.copy (Syntax.place
     5 (List._∷_ (Syntax.field 1) List.[]))) List.[])))
 
 abbrev b66 : Syntax.Body
-b66 = Syntax.assign (Syntax.place 41 List.[]) (Syntax.addrOf (Syntax.place 4 (List._∷_ (Syntax.field 0) (List._∷_ (Syntax.deref (Syntax.tyInt
+b66 = Syntax.assign (Syntax.place 42 List.[]) (Syntax.addrOf (Syntax.place 4 (List._∷_ (Syntax.field 0) (List._∷_ (Syntax.deref (Syntax.tyInt
     Syntax.w8)) List.[]))))
 
 abbrev b67 : Syntax.Body
-b67 = Syntax.assign (Syntax.place 42 List.[]) (Syntax.aggregate (List._∷_ (Syntax.copy (Syntax.place 41 List.[])) (List._∷_ (Syntax.copy (Syntax.place
+b67 = Syntax.assign (Syntax.place 43 List.[]) (Syntax.aggregate (List._∷_ (Syntax.copy (Syntax.place 42 List.[])) (List._∷_ (Syntax.copy (Syntax.place
     4 (List._∷_ (Syntax.field 1) List.[]))) List.[])))
 
 abbrev b68 : Syntax.Body
 b68 = Syntax.call "sheet::write_line" (List._∷_ (Syntax.copy (Syntax.place 14 List.[])) (List._∷_ (Syntax.copy (Syntax.place 2 List.[])) (List._∷_
-    (Syntax.copy (Syntax.place 40 List.[])) (List._∷_ (Syntax.copy (Syntax.place 13 List.[])) (List._∷_ (Syntax.copy (Syntax.place 42 List.[]))
-    List.[]))))) (Syntax.place 38 List.[])
+    (Syntax.copy (Syntax.place 41 List.[])) (List._∷_ (Syntax.copy (Syntax.place 13 List.[])) (List._∷_ (Syntax.copy (Syntax.place 43 List.[]))
+    List.[]))))) (Syntax.place 39 List.[])
 
 abbrev b69 : Syntax.Body
-b69 = Syntax.assign (Syntax.place 16 List.[]) (Syntax.aggregate (List._∷_ (Syntax.int Syntax.w8 3) (List._∷_ (Syntax.copy (Syntax.place 38 List.[]))
+b69 = Syntax.assign (Syntax.place 17 List.[]) (Syntax.aggregate (List._∷_ (Syntax.int Syntax.w8 3) (List._∷_ (Syntax.copy (Syntax.place 39 List.[]))
     List.[])))
 
 abbrev b70 : Syntax.Body
@@ -1250,27 +1330,27 @@ b77 = Syntax.assign (Syntax.place 15 List.[]) (Syntax.rvOpd (Syntax.copy (Syntax
     List.[])))))
 
 abbrev b78 : Syntax.Body
-b78 = Syntax.assign (Syntax.place 44 List.[]) (Syntax.addrOf (Syntax.place 5 (List._∷_ (Syntax.field 0) (List._∷_ (Syntax.deref (Laws'4.mir))
+b78 = Syntax.assign (Syntax.place 45 List.[]) (Syntax.addrOf (Syntax.place 5 (List._∷_ (Syntax.field 0) (List._∷_ (Syntax.deref (Laws'4.mir))
     List.[]))))
 
 abbrev b79 : Syntax.Body
-b79 = Syntax.assign (Syntax.place 45 List.[]) (Syntax.aggregate (List._∷_ (Syntax.copy (Syntax.place 44 List.[])) (List._∷_ (Syntax.copy (Syntax.place
+b79 = Syntax.assign (Syntax.place 46 List.[]) (Syntax.aggregate (List._∷_ (Syntax.copy (Syntax.place 45 List.[])) (List._∷_ (Syntax.copy (Syntax.place
     5 (List._∷_ (Syntax.field 1) List.[]))) List.[])))
 
 abbrev b80 : Syntax.Body
-b80 = Syntax.assign (Syntax.place 46 List.[]) (Syntax.addrOf (Syntax.place 4 (List._∷_ (Syntax.field 0) (List._∷_ (Syntax.deref (Syntax.tyInt
+b80 = Syntax.assign (Syntax.place 47 List.[]) (Syntax.addrOf (Syntax.place 4 (List._∷_ (Syntax.field 0) (List._∷_ (Syntax.deref (Syntax.tyInt
     Syntax.w8)) List.[]))))
 
 abbrev b81 : Syntax.Body
-b81 = Syntax.assign (Syntax.place 47 List.[]) (Syntax.aggregate (List._∷_ (Syntax.copy (Syntax.place 46 List.[])) (List._∷_ (Syntax.copy (Syntax.place
+b81 = Syntax.assign (Syntax.place 48 List.[]) (Syntax.aggregate (List._∷_ (Syntax.copy (Syntax.place 47 List.[])) (List._∷_ (Syntax.copy (Syntax.place
     4 (List._∷_ (Syntax.field 1) List.[]))) List.[])))
 
 abbrev b82 : Syntax.Body
-b82 = Syntax.call "sheet::load" (List._∷_ (Syntax.copy (Syntax.place 2 List.[])) (List._∷_ (Syntax.copy (Syntax.place 45 List.[])) (List._∷_
-    (Syntax.copy (Syntax.place 15 List.[])) (List._∷_ (Syntax.copy (Syntax.place 47 List.[])) List.[])))) (Syntax.place 43 List.[])
+b82 = Syntax.call "sheet::load" (List._∷_ (Syntax.copy (Syntax.place 2 List.[])) (List._∷_ (Syntax.copy (Syntax.place 46 List.[])) (List._∷_
+    (Syntax.copy (Syntax.place 15 List.[])) (List._∷_ (Syntax.copy (Syntax.place 48 List.[])) List.[])))) (Syntax.place 44 List.[])
 
 abbrev b83 : Syntax.Body
-b83 = Syntax.assign (Syntax.place 16 List.[]) (Syntax.aggregate (List._∷_ (Syntax.int Syntax.w8 2) (List._∷_ (Syntax.copy (Syntax.place 43 List.[]))
+b83 = Syntax.assign (Syntax.place 17 List.[]) (Syntax.aggregate (List._∷_ (Syntax.int Syntax.w8 2) (List._∷_ (Syntax.copy (Syntax.place 44 List.[]))
     List.[])))
 
 abbrev b84 : Syntax.Body
@@ -1292,927 +1372,1030 @@ abbrev b89 : Syntax.Body
 b89 = Syntax.seq b77 b88
 
 abbrev b90 : Syntax.Body
-b90 = Syntax.switch (Syntax.copy (Syntax.place 1 (List._∷_ (Syntax.variant 0) (List._∷_ (Syntax.field 0) List.[])))) (Syntax.arm (List._∷_ 0 List.[])
-    b0 (Syntax.arm (List._∷_ 1 List.[]) b11 (Syntax.arm (List._∷_ 2 List.[]) b22 (Syntax.arm (List._∷_ 3 List.[]) b33 (Syntax.arm (List._∷_ 4 List.[])
-    b48 (Syntax.arm (List._∷_ 5 List.[]) b61 (Syntax.arm (List._∷_ 6 List.[]) b76 (Syntax.arm (List._∷_ 7 List.[]) b89 Syntax.noDefault))))))))
+b90 = Syntax.assign (Syntax.place 16 List.[]) (Syntax.rvOpd (Syntax.copy (Syntax.place 1 (List._∷_ (Syntax.variant 8) (List._∷_ (Syntax.field 1)
+    List.[])))))
 
 abbrev b91 : Syntax.Body
-b91 = Syntax.assign (Syntax.place 0 List.[]) (Syntax.rvOpd (Syntax.copy (Syntax.place 16 List.[])))
+b91 = Syntax.assign (Syntax.place 50 List.[]) (Syntax.addrOf (Syntax.place 5 (List._∷_ (Syntax.field 0) (List._∷_ (Syntax.deref (Laws'4.mir))
+    List.[]))))
 
 abbrev b92 : Syntax.Body
-b92 = Syntax.return
+b92 = Syntax.assign (Syntax.place 51 List.[]) (Syntax.aggregate (List._∷_ (Syntax.copy (Syntax.place 50 List.[])) (List._∷_ (Syntax.copy (Syntax.place
+    5 (List._∷_ (Syntax.field 1) List.[]))) List.[])))
 
 abbrev b93 : Syntax.Body
-b93 = Syntax.seq b91 b92
+b93 = Syntax.call "fold::fold" (List._∷_ (Syntax.copy (Syntax.place 2 List.[])) (List._∷_ (Syntax.copy (Syntax.place 51 List.[])) (List._∷_
+    (Syntax.copy (Syntax.place 16 List.[])) List.[]))) (Syntax.place 49 List.[])
 
 abbrev b94 : Syntax.Body
-b94 = Syntax.seq b90 b93
+b94 = Syntax.assign (Syntax.place 17 List.[]) (Syntax.aggregate (List._∷_ (Syntax.int Syntax.w8 2) (List._∷_ (Syntax.copy (Syntax.place 49 List.[]))
+    List.[])))
+
+abbrev b95 : Syntax.Body
+b95 = Syntax.seq b93 b94
+
+abbrev b96 : Syntax.Body
+b96 = Syntax.seq b92 b95
+
+abbrev b97 : Syntax.Body
+b97 = Syntax.seq b91 b96
+
+abbrev b98 : Syntax.Body
+b98 = Syntax.seq b90 b97
+
+abbrev b99 : Syntax.Body
+b99 = Syntax.switch (Syntax.copy (Syntax.place 1 (List._∷_ (Syntax.variant 0) (List._∷_ (Syntax.field 0) List.[])))) (Syntax.arm (List._∷_ 0 List.[])
+    b0 (Syntax.arm (List._∷_ 1 List.[]) b11 (Syntax.arm (List._∷_ 2 List.[]) b22 (Syntax.arm (List._∷_ 3 List.[]) b33 (Syntax.arm (List._∷_ 4 List.[])
+    b48 (Syntax.arm (List._∷_ 5 List.[]) b61 (Syntax.arm (List._∷_ 6 List.[]) b76 (Syntax.arm (List._∷_ 7 List.[]) b89 (Syntax.arm (List._∷_ 8
+    List.[]) b98 Syntax.noDefault)))))))))
+
+abbrev b100 : Syntax.Body
+b100 = Syntax.assign (Syntax.place 0 List.[]) (Syntax.rvOpd (Syntax.copy (Syntax.place 17 List.[])))
+
+abbrev b101 : Syntax.Body
+b101 = Syntax.return
+
+abbrev b102 : Syntax.Body
+b102 = Syntax.seq b100 b101
+
+abbrev b103 : Syntax.Body
+b103 = Syntax.seq b99 b102
 
 abbrev pub body : Syntax.Body
-body = b94
+body = b103
 
 abbrev pub Claims : Type 1
 Claims = Kinds.In 1 ps·0 × Kinds.Out 1 ps·0 r·0 × Kinds.In 1 ps·1 × Kinds.Out 1 ps·1 r·1 × Kinds.In 2 ps·2 × Kinds.Out 2 ps·2 r·2 × Kinds.In 2 ps·3 ×
-    Kinds.Out 2 ps·3 r·3 × Kinds.In 2 ps·4 × Kinds.Out 2 ps·4 r·4 × Kinds.In 2 ps·5 × Kinds.Out 2 ps·5 r·5 × Kinds.In 2 ps·6 × Kinds.Out 2 ps·6 r·6
+    Kinds.Out 2 ps·3 r·3 × Kinds.In 2 ps·4 × Kinds.Out 2 ps·4 r·4 × Kinds.In 2 ps·5 × Kinds.Out 2 ps·5 r·5 × Kinds.In 2 ps·6 × Kinds.Out 2 ps·6 r·6 ×
+    Kinds.In 1 ps·7 × Kinds.Out 1 ps·7 r·7
 
 abbrev pub t0 : List.List Row.Entry
-t0 = List._∷_ row·0 (List._∷_ row·94 (List._∷_ row·59 (List._∷_ row·10 (List._∷_ row·11 (List._∷_ row·12 (List._∷_ row·13 (List._∷_ row·123 (List._∷_
-    row·15 (List._∷_ row·17 (List._∷_ row·101 (List._∷_ row·3 (List._∷_ row·103 (List._∷_ row·5 (List._∷_ row·105 (List._∷_ row·7
+t0 = List._∷_ row·0 (List._∷_ row·101 (List._∷_ row·52 (List._∷_ row·10 (List._∷_ row·11 (List._∷_ row·12 (List._∷_ row·13 (List._∷_ row·133 (List._∷_
+    row·15 (List._∷_ row·17 (List._∷_ row·109 (List._∷_ row·3 (List._∷_ row·111 (List._∷_ row·5 (List._∷_ row·113 (List._∷_ row·7
     List.[])))))))))))))))
 
 abbrev pub t1 : List.List Row.Entry
-t1 = List._∷_ row·52 (List._∷_ row·108 (List._∷_ row·55 (List._∷_ row·58 (List._∷_ row·111 (List._∷_ row·61 (List._∷_ row·64 (List._∷_ row·65
-    (List._∷_ row·67 (List._∷_ row·68 (List._∷_ row·114 (List._∷_ row·20 (List._∷_ row·21 (List._∷_ row·23 (List._∷_ row·26 (List._∷_ row·28
+t1 = List._∷_ row·115 (List._∷_ row·48 (List._∷_ row·117 (List._∷_ row·51 (List._∷_ row·55 (List._∷_ row·120 (List._∷_ row·57 (List._∷_ row·60
+    (List._∷_ row·61 (List._∷_ row·63 (List._∷_ row·64 (List._∷_ row·123 (List._∷_ row·20 (List._∷_ row·21 (List._∷_ row·23 (List._∷_ row·26
     List.[])))))))))))))))
 
 abbrev pub t2 : List.List Row.Entry
-t2 = List._∷_ row·74 (List._∷_ row·75 (List._∷_ row·77 (List._∷_ row·78 (List._∷_ row·118 (List._∷_ row·31 (List._∷_ row·32 (List._∷_ row·34 (List._∷_
-    row·35 (List._∷_ row·38 (List._∷_ row·41 (List._∷_ row·42 (List._∷_ row·44 (List._∷_ row·47 (List._∷_ row·49 (List._∷_ row·50
+t2 = List._∷_ row·69 (List._∷_ row·72 (List._∷_ row·73 (List._∷_ row·75 (List._∷_ row·76 (List._∷_ row·127 (List._∷_ row·29 (List._∷_ row·30 (List._∷_
+    row·32 (List._∷_ row·33 (List._∷_ row·36 (List._∷_ row·39 (List._∷_ row·40 (List._∷_ row·42 (List._∷_ row·45 (List._∷_ row·47
     List.[])))))))))))))))
 
 abbrev pub t3 : List.List Row.Entry
-t3 = List._∷_ row·93 (List._∷_ row·1 (List._∷_ row·9 (List._∷_ row·10 (List._∷_ row·11 (List._∷_ row·12 (List._∷_ row·13 (List._∷_ row·123 (List._∷_
-    row·15 (List._∷_ row·17 (List._∷_ row·101 (List._∷_ row·3 (List._∷_ row·103 (List._∷_ row·5 (List._∷_ row·105 (List._∷_ row·7
-    List.[])))))))))))))))
+t3 = List._∷_ row·83 (List._∷_ row·85 (List._∷_ row·95 (List._∷_ row·98 List.[])))
 
 abbrev pub t4 : List.List Row.Entry
-t4 = List._∷_ row·0 (List._∷_ row·1 (List._∷_ row·9 (List._∷_ row·10 (List._∷_ row·11 (List._∷_ row·12 (List._∷_ row·13 (List._∷_ row·123 (List._∷_
-    row·15 (List._∷_ row·17 (List._∷_ row·101 (List._∷_ row·3 (List._∷_ row·103 (List._∷_ row·5 (List._∷_ row·105 (List._∷_ row·7
+t4 = List._∷_ row·100 (List._∷_ row·1 (List._∷_ row·9 (List._∷_ row·10 (List._∷_ row·11 (List._∷_ row·12 (List._∷_ row·13 (List._∷_ row·133 (List._∷_
+    row·15 (List._∷_ row·17 (List._∷_ row·109 (List._∷_ row·3 (List._∷_ row·111 (List._∷_ row·5 (List._∷_ row·113 (List._∷_ row·7
     List.[])))))))))))))))
 
 abbrev pub t5 : List.List Row.Entry
-t5 = List._∷_ row·107 (List._∷_ row·53 (List._∷_ row·55 (List._∷_ row·58 (List._∷_ row·111 (List._∷_ row·61 (List._∷_ row·64 (List._∷_ row·65
-    (List._∷_ row·67 (List._∷_ row·68 (List._∷_ row·114 (List._∷_ row·20 (List._∷_ row·21 (List._∷_ row·23 (List._∷_ row·26 (List._∷_ row·28
+t5 = List._∷_ row·0 (List._∷_ row·1 (List._∷_ row·9 (List._∷_ row·10 (List._∷_ row·11 (List._∷_ row·12 (List._∷_ row·13 (List._∷_ row·133 (List._∷_
+    row·15 (List._∷_ row·17 (List._∷_ row·109 (List._∷_ row·3 (List._∷_ row·111 (List._∷_ row·5 (List._∷_ row·113 (List._∷_ row·7
     List.[])))))))))))))))
 
 abbrev pub t6 : List.List Row.Entry
-t6 = List._∷_ row·0 (List._∷_ row·1 (List._∷_ row·110 (List._∷_ row·10 (List._∷_ row·11 (List._∷_ row·12 (List._∷_ row·13 (List._∷_ row·123 (List._∷_
-    row·15 (List._∷_ row·17 (List._∷_ row·101 (List._∷_ row·3 (List._∷_ row·103 (List._∷_ row·5 (List._∷_ row·105 (List._∷_ row·7
+t6 = List._∷_ row·115 (List._∷_ row·49 (List._∷_ row·117 (List._∷_ row·51 (List._∷_ row·55 (List._∷_ row·120 (List._∷_ row·57 (List._∷_ row·60
+    (List._∷_ row·61 (List._∷_ row·63 (List._∷_ row·64 (List._∷_ row·123 (List._∷_ row·20 (List._∷_ row·21 (List._∷_ row·23 (List._∷_ row·26
     List.[])))))))))))))))
 
 abbrev pub t7 : List.List Row.Entry
-t7 = List._∷_ row·0 (List._∷_ row·95 (List._∷_ row·59 (List._∷_ row·10 (List._∷_ row·11 (List._∷_ row·12 (List._∷_ row·13 (List._∷_ row·123 (List._∷_
-    row·15 (List._∷_ row·17 (List._∷_ row·101 (List._∷_ row·3 (List._∷_ row·103 (List._∷_ row·5 (List._∷_ row·105 (List._∷_ row·7
+t7 = List._∷_ row·0 (List._∷_ row·1 (List._∷_ row·119 (List._∷_ row·10 (List._∷_ row·11 (List._∷_ row·12 (List._∷_ row·13 (List._∷_ row·133 (List._∷_
+    row·15 (List._∷_ row·17 (List._∷_ row·109 (List._∷_ row·3 (List._∷_ row·111 (List._∷_ row·5 (List._∷_ row·113 (List._∷_ row·7
     List.[])))))))))))))))
 
 abbrev pub t8 : List.List Row.Entry
-t8 = List._∷_ row·0 (List._∷_ row·95 (List._∷_ row·9 (List._∷_ row·10 (List._∷_ row·11 (List._∷_ row·12 (List._∷_ row·13 (List._∷_ row·123 (List._∷_
-    row·15 (List._∷_ row·17 (List._∷_ row·101 (List._∷_ row·3 (List._∷_ row·103 (List._∷_ row·5 (List._∷_ row·105 (List._∷_ row·7
+t8 = List._∷_ row·0 (List._∷_ row·102 (List._∷_ row·52 (List._∷_ row·10 (List._∷_ row·11 (List._∷_ row·12 (List._∷_ row·13 (List._∷_ row·133 (List._∷_
+    row·15 (List._∷_ row·17 (List._∷_ row·109 (List._∷_ row·3 (List._∷_ row·111 (List._∷_ row·5 (List._∷_ row·113 (List._∷_ row·7
     List.[])))))))))))))))
 
 abbrev pub t9 : List.List Row.Entry
-t9 = List._∷_ row·0 (List._∷_ row·95 (List._∷_ row·9 (List._∷_ row·10 (List._∷_ row·11 (List._∷_ row·12 (List._∷_ row·122 (List._∷_ row·92 (List._∷_
-    row·125 (List._∷_ row·17 (List._∷_ row·101 (List._∷_ row·3 (List._∷_ row·103 (List._∷_ row·5 (List._∷_ row·105 (List._∷_ row·7
+t9 = List._∷_ row·0 (List._∷_ row·102 (List._∷_ row·9 (List._∷_ row·10 (List._∷_ row·11 (List._∷_ row·12 (List._∷_ row·13 (List._∷_ row·133 (List._∷_
+    row·15 (List._∷_ row·17 (List._∷_ row·109 (List._∷_ row·3 (List._∷_ row·111 (List._∷_ row·5 (List._∷_ row·113 (List._∷_ row·7
     List.[])))))))))))))))
 
 abbrev pub t10 : List.List Row.Entry
-t10 = List._∷_ row·0 (List._∷_ row·95 (List._∷_ row·9 (List._∷_ row·10 (List._∷_ row·11 (List._∷_ row·12 (List._∷_ row·122 (List._∷_ row·14 (List._∷_
-    row·125 (List._∷_ row·17 (List._∷_ row·101 (List._∷_ row·3 (List._∷_ row·103 (List._∷_ row·5 (List._∷_ row·105 (List._∷_ row·7
+t10 = List._∷_ row·0 (List._∷_ row·102 (List._∷_ row·9 (List._∷_ row·10 (List._∷_ row·11 (List._∷_ row·12 (List._∷_ row·132 (List._∷_ row·99 (List._∷_
+    row·135 (List._∷_ row·17 (List._∷_ row·109 (List._∷_ row·3 (List._∷_ row·111 (List._∷_ row·5 (List._∷_ row·113 (List._∷_ row·7
     List.[])))))))))))))))
 
 abbrev pub t11 : List.List Row.Entry
-t11 = List._∷_ row·0 (List._∷_ row·1 (List._∷_ row·9 (List._∷_ row·10 (List._∷_ row·11 (List._∷_ row·12 (List._∷_ row·122 (List._∷_ row·14 (List._∷_
-    row·125 (List._∷_ row·17 (List._∷_ row·101 (List._∷_ row·3 (List._∷_ row·103 (List._∷_ row·5 (List._∷_ row·105 (List._∷_ row·7
+t11 = List._∷_ row·0 (List._∷_ row·102 (List._∷_ row·9 (List._∷_ row·10 (List._∷_ row·11 (List._∷_ row·12 (List._∷_ row·132 (List._∷_ row·14 (List._∷_
+    row·135 (List._∷_ row·17 (List._∷_ row·109 (List._∷_ row·3 (List._∷_ row·111 (List._∷_ row·5 (List._∷_ row·113 (List._∷_ row·7
     List.[])))))))))))))))
 
 abbrev pub t12 : List.List Row.Entry
-t12 = List._∷_ row·0 (List._∷_ row·1 (List._∷_ row·9 (List._∷_ row·10 (List._∷_ row·11 (List._∷_ row·86 (List._∷_ row·122 (List._∷_ row·14 (List._∷_
-    row·125 (List._∷_ row·17 (List._∷_ row·101 (List._∷_ row·3 (List._∷_ row·103 (List._∷_ row·5 (List._∷_ row·105 (List._∷_ row·7
+t12 = List._∷_ row·0 (List._∷_ row·1 (List._∷_ row·9 (List._∷_ row·10 (List._∷_ row·11 (List._∷_ row·12 (List._∷_ row·132 (List._∷_ row·14 (List._∷_
+    row·135 (List._∷_ row·17 (List._∷_ row·109 (List._∷_ row·3 (List._∷_ row·111 (List._∷_ row·5 (List._∷_ row·113 (List._∷_ row·7
     List.[])))))))))))))))
 
 abbrev pub t13 : List.List Row.Entry
-t13 = List._∷_ row·52 (List._∷_ row·108 (List._∷_ row·54 (List._∷_ row·58 (List._∷_ row·111 (List._∷_ row·61 (List._∷_ row·64 (List._∷_ row·65
-    (List._∷_ row·67 (List._∷_ row·68 (List._∷_ row·114 (List._∷_ row·20 (List._∷_ row·21 (List._∷_ row·23 (List._∷_ row·26 (List._∷_ row·28
+t13 = List._∷_ row·0 (List._∷_ row·1 (List._∷_ row·9 (List._∷_ row·10 (List._∷_ row·11 (List._∷_ row·88 (List._∷_ row·132 (List._∷_ row·14 (List._∷_
+    row·135 (List._∷_ row·17 (List._∷_ row·109 (List._∷_ row·3 (List._∷_ row·111 (List._∷_ row·5 (List._∷_ row·113 (List._∷_ row·7
     List.[])))))))))))))))
 
 abbrev pub t14 : List.List Row.Entry
-t14 = List._∷_ row·52 (List._∷_ row·108 (List._∷_ row·55 (List._∷_ row·57 (List._∷_ row·111 (List._∷_ row·61 (List._∷_ row·64 (List._∷_ row·65
-    (List._∷_ row·67 (List._∷_ row·68 (List._∷_ row·114 (List._∷_ row·20 (List._∷_ row·21 (List._∷_ row·23 (List._∷_ row·26 (List._∷_ row·28
+t14 = List._∷_ row·115 (List._∷_ row·48 (List._∷_ row·117 (List._∷_ row·50 (List._∷_ row·55 (List._∷_ row·120 (List._∷_ row·57 (List._∷_ row·60
+    (List._∷_ row·61 (List._∷_ row·63 (List._∷_ row·64 (List._∷_ row·123 (List._∷_ row·20 (List._∷_ row·21 (List._∷_ row·23 (List._∷_ row·26
     List.[])))))))))))))))
 
 abbrev pub t15 : List.List Row.Entry
-t15 = List._∷_ row·52 (List._∷_ row·109 (List._∷_ row·55 (List._∷_ row·56 (List._∷_ row·111 (List._∷_ row·61 (List._∷_ row·64 (List._∷_ row·65
-    (List._∷_ row·67 (List._∷_ row·68 (List._∷_ row·114 (List._∷_ row·20 (List._∷_ row·21 (List._∷_ row·23 (List._∷_ row·26 (List._∷_ row·28
+t15 = List._∷_ row·115 (List._∷_ row·48 (List._∷_ row·117 (List._∷_ row·51 (List._∷_ row·54 (List._∷_ row·120 (List._∷_ row·57 (List._∷_ row·60
+    (List._∷_ row·61 (List._∷_ row·63 (List._∷_ row·64 (List._∷_ row·123 (List._∷_ row·20 (List._∷_ row·21 (List._∷_ row·23 (List._∷_ row·26
     List.[])))))))))))))))
 
 abbrev pub t16 : List.List Row.Entry
-t16 = List._∷_ row·52 (List._∷_ row·108 (List._∷_ row·55 (List._∷_ row·56 (List._∷_ row·111 (List._∷_ row·61 (List._∷_ row·64 (List._∷_ row·65
-    (List._∷_ row·67 (List._∷_ row·68 (List._∷_ row·114 (List._∷_ row·20 (List._∷_ row·21 (List._∷_ row·23 (List._∷_ row·26 (List._∷_ row·28
+t16 = List._∷_ row·115 (List._∷_ row·48 (List._∷_ row·118 (List._∷_ row·51 (List._∷_ row·53 (List._∷_ row·120 (List._∷_ row·57 (List._∷_ row·60
+    (List._∷_ row·61 (List._∷_ row·63 (List._∷_ row·64 (List._∷_ row·123 (List._∷_ row·20 (List._∷_ row·21 (List._∷_ row·23 (List._∷_ row·26
     List.[])))))))))))))))
 
 abbrev pub t17 : List.List Row.Entry
-t17 = List._∷_ row·0 (List._∷_ row·1 (List._∷_ row·9 (List._∷_ row·10 (List._∷_ row·11 (List._∷_ row·12 (List._∷_ row·13 (List._∷_ row·124 (List._∷_
-    row·15 (List._∷_ row·17 (List._∷_ row·101 (List._∷_ row·3 (List._∷_ row·103 (List._∷_ row·5 (List._∷_ row·105 (List._∷_ row·7
+t17 = List._∷_ row·115 (List._∷_ row·48 (List._∷_ row·117 (List._∷_ row·51 (List._∷_ row·53 (List._∷_ row·120 (List._∷_ row·57 (List._∷_ row·60
+    (List._∷_ row·61 (List._∷_ row·63 (List._∷_ row·64 (List._∷_ row·123 (List._∷_ row·20 (List._∷_ row·21 (List._∷_ row·23 (List._∷_ row·26
     List.[])))))))))))))))
 
 abbrev pub t18 : List.List Row.Entry
-t18 = List._∷_ row·0 (List._∷_ row·96 (List._∷_ row·59 (List._∷_ row·10 (List._∷_ row·11 (List._∷_ row·12 (List._∷_ row·13 (List._∷_ row·123 (List._∷_
-    row·15 (List._∷_ row·17 (List._∷_ row·101 (List._∷_ row·3 (List._∷_ row·103 (List._∷_ row·5 (List._∷_ row·105 (List._∷_ row·7
+t18 = List._∷_ row·0 (List._∷_ row·1 (List._∷_ row·9 (List._∷_ row·10 (List._∷_ row·11 (List._∷_ row·12 (List._∷_ row·13 (List._∷_ row·134 (List._∷_
+    row·15 (List._∷_ row·17 (List._∷_ row·109 (List._∷_ row·3 (List._∷_ row·111 (List._∷_ row·5 (List._∷_ row·113 (List._∷_ row·7
     List.[])))))))))))))))
 
 abbrev pub t19 : List.List Row.Entry
-t19 = List._∷_ row·0 (List._∷_ row·96 (List._∷_ row·9 (List._∷_ row·10 (List._∷_ row·11 (List._∷_ row·12 (List._∷_ row·13 (List._∷_ row·123 (List._∷_
-    row·15 (List._∷_ row·17 (List._∷_ row·101 (List._∷_ row·3 (List._∷_ row·103 (List._∷_ row·5 (List._∷_ row·105 (List._∷_ row·7
+t19 = List._∷_ row·0 (List._∷_ row·103 (List._∷_ row·52 (List._∷_ row·10 (List._∷_ row·11 (List._∷_ row·12 (List._∷_ row·13 (List._∷_ row·133
+    (List._∷_ row·15 (List._∷_ row·17 (List._∷_ row·109 (List._∷_ row·3 (List._∷_ row·111 (List._∷_ row·5 (List._∷_ row·113 (List._∷_ row·7
     List.[])))))))))))))))
 
 abbrev pub t20 : List.List Row.Entry
-t20 = List._∷_ row·0 (List._∷_ row·96 (List._∷_ row·9 (List._∷_ row·10 (List._∷_ row·11 (List._∷_ row·12 (List._∷_ row·13 (List._∷_ row·123 (List._∷_
-    row·16 (List._∷_ row·17 (List._∷_ row·101 (List._∷_ row·3 (List._∷_ row·103 (List._∷_ row·5 (List._∷_ row·105 (List._∷_ row·7
+t20 = List._∷_ row·0 (List._∷_ row·103 (List._∷_ row·9 (List._∷_ row·10 (List._∷_ row·11 (List._∷_ row·12 (List._∷_ row·13 (List._∷_ row·133 (List._∷_
+    row·15 (List._∷_ row·17 (List._∷_ row·109 (List._∷_ row·3 (List._∷_ row·111 (List._∷_ row·5 (List._∷_ row·113 (List._∷_ row·7
     List.[])))))))))))))))
 
 abbrev pub t21 : List.List Row.Entry
-t21 = List._∷_ row·0 (List._∷_ row·96 (List._∷_ row·9 (List._∷_ row·10 (List._∷_ row·11 (List._∷_ row·12 (List._∷_ row·13 (List._∷_ row·123 (List._∷_
-    row·16 (List._∷_ row·126 (List._∷_ row·2 (List._∷_ row·3 (List._∷_ row·103 (List._∷_ row·5 (List._∷_ row·105 (List._∷_ row·7
+t21 = List._∷_ row·0 (List._∷_ row·103 (List._∷_ row·9 (List._∷_ row·10 (List._∷_ row·11 (List._∷_ row·12 (List._∷_ row·13 (List._∷_ row·133 (List._∷_
+    row·16 (List._∷_ row·17 (List._∷_ row·109 (List._∷_ row·3 (List._∷_ row·111 (List._∷_ row·5 (List._∷_ row·113 (List._∷_ row·7
     List.[])))))))))))))))
 
 abbrev pub t22 : List.List Row.Entry
-t22 = List._∷_ row·0 (List._∷_ row·1 (List._∷_ row·9 (List._∷_ row·10 (List._∷_ row·11 (List._∷_ row·12 (List._∷_ row·13 (List._∷_ row·123 (List._∷_
-    row·16 (List._∷_ row·126 (List._∷_ row·2 (List._∷_ row·3 (List._∷_ row·103 (List._∷_ row·5 (List._∷_ row·105 (List._∷_ row·7
+t22 = List._∷_ row·0 (List._∷_ row·103 (List._∷_ row·9 (List._∷_ row·10 (List._∷_ row·11 (List._∷_ row·12 (List._∷_ row·13 (List._∷_ row·133 (List._∷_
+    row·16 (List._∷_ row·136 (List._∷_ row·2 (List._∷_ row·3 (List._∷_ row·111 (List._∷_ row·5 (List._∷_ row·113 (List._∷_ row·7
     List.[])))))))))))))))
 
 abbrev pub t23 : List.List Row.Entry
-t23 = List._∷_ row·0 (List._∷_ row·1 (List._∷_ row·9 (List._∷_ row·10 (List._∷_ row·11 (List._∷_ row·87 (List._∷_ row·13 (List._∷_ row·123 (List._∷_
-    row·16 (List._∷_ row·126 (List._∷_ row·2 (List._∷_ row·3 (List._∷_ row·103 (List._∷_ row·5 (List._∷_ row·105 (List._∷_ row·7
+t23 = List._∷_ row·0 (List._∷_ row·1 (List._∷_ row·9 (List._∷_ row·10 (List._∷_ row·11 (List._∷_ row·12 (List._∷_ row·13 (List._∷_ row·133 (List._∷_
+    row·16 (List._∷_ row·136 (List._∷_ row·2 (List._∷_ row·3 (List._∷_ row·111 (List._∷_ row·5 (List._∷_ row·113 (List._∷_ row·7
     List.[])))))))))))))))
 
 abbrev pub t24 : List.List Row.Entry
-t24 = List._∷_ row·52 (List._∷_ row·108 (List._∷_ row·55 (List._∷_ row·58 (List._∷_ row·111 (List._∷_ row·60 (List._∷_ row·64 (List._∷_ row·65
-    (List._∷_ row·67 (List._∷_ row·68 (List._∷_ row·114 (List._∷_ row·20 (List._∷_ row·21 (List._∷_ row·23 (List._∷_ row·26 (List._∷_ row·28
+t24 = List._∷_ row·0 (List._∷_ row·1 (List._∷_ row·9 (List._∷_ row·10 (List._∷_ row·11 (List._∷_ row·89 (List._∷_ row·13 (List._∷_ row·133 (List._∷_
+    row·16 (List._∷_ row·136 (List._∷_ row·2 (List._∷_ row·3 (List._∷_ row·111 (List._∷_ row·5 (List._∷_ row·113 (List._∷_ row·7
     List.[])))))))))))))))
 
 abbrev pub t25 : List.List Row.Entry
-t25 = List._∷_ row·52 (List._∷_ row·108 (List._∷_ row·55 (List._∷_ row·58 (List._∷_ row·111 (List._∷_ row·61 (List._∷_ row·63 (List._∷_ row·65
-    (List._∷_ row·67 (List._∷_ row·68 (List._∷_ row·114 (List._∷_ row·20 (List._∷_ row·21 (List._∷_ row·23 (List._∷_ row·26 (List._∷_ row·28
+t25 = List._∷_ row·115 (List._∷_ row·48 (List._∷_ row·117 (List._∷_ row·51 (List._∷_ row·55 (List._∷_ row·120 (List._∷_ row·56 (List._∷_ row·60
+    (List._∷_ row·61 (List._∷_ row·63 (List._∷_ row·64 (List._∷_ row·123 (List._∷_ row·20 (List._∷_ row·21 (List._∷_ row·23 (List._∷_ row·26
     List.[])))))))))))))))
 
 abbrev pub t26 : List.List Row.Entry
-t26 = List._∷_ row·52 (List._∷_ row·108 (List._∷_ row·55 (List._∷_ row·58 (List._∷_ row·112 (List._∷_ row·61 (List._∷_ row·62 (List._∷_ row·65
-    (List._∷_ row·67 (List._∷_ row·68 (List._∷_ row·114 (List._∷_ row·20 (List._∷_ row·21 (List._∷_ row·23 (List._∷_ row·26 (List._∷_ row·28
+t26 = List._∷_ row·115 (List._∷_ row·48 (List._∷_ row·117 (List._∷_ row·51 (List._∷_ row·55 (List._∷_ row·120 (List._∷_ row·57 (List._∷_ row·59
+    (List._∷_ row·61 (List._∷_ row·63 (List._∷_ row·64 (List._∷_ row·123 (List._∷_ row·20 (List._∷_ row·21 (List._∷_ row·23 (List._∷_ row·26
     List.[])))))))))))))))
 
 abbrev pub t27 : List.List Row.Entry
-t27 = List._∷_ row·0 (List._∷_ row·1 (List._∷_ row·9 (List._∷_ row·10 (List._∷_ row·11 (List._∷_ row·87 (List._∷_ row·13 (List._∷_ row·123 (List._∷_
-    row·16 (List._∷_ row·17 (List._∷_ row·101 (List._∷_ row·3 (List._∷_ row·103 (List._∷_ row·5 (List._∷_ row·105 (List._∷_ row·7
+t27 = List._∷_ row·115 (List._∷_ row·48 (List._∷_ row·117 (List._∷_ row·51 (List._∷_ row·55 (List._∷_ row·121 (List._∷_ row·57 (List._∷_ row·58
+    (List._∷_ row·61 (List._∷_ row·63 (List._∷_ row·64 (List._∷_ row·123 (List._∷_ row·20 (List._∷_ row·21 (List._∷_ row·23 (List._∷_ row·26
     List.[])))))))))))))))
 
 abbrev pub t28 : List.List Row.Entry
-t28 = List._∷_ row·52 (List._∷_ row·108 (List._∷_ row·55 (List._∷_ row·58 (List._∷_ row·111 (List._∷_ row·61 (List._∷_ row·62 (List._∷_ row·65
-    (List._∷_ row·67 (List._∷_ row·68 (List._∷_ row·114 (List._∷_ row·20 (List._∷_ row·21 (List._∷_ row·23 (List._∷_ row·26 (List._∷_ row·28
+t28 = List._∷_ row·0 (List._∷_ row·1 (List._∷_ row·9 (List._∷_ row·10 (List._∷_ row·11 (List._∷_ row·89 (List._∷_ row·13 (List._∷_ row·133 (List._∷_
+    row·16 (List._∷_ row·17 (List._∷_ row·109 (List._∷_ row·3 (List._∷_ row·111 (List._∷_ row·5 (List._∷_ row·113 (List._∷_ row·7
     List.[])))))))))))))))
 
 abbrev pub t29 : List.List Row.Entry
-t29 = List._∷_ row·0 (List._∷_ row·1 (List._∷_ row·9 (List._∷_ row·10 (List._∷_ row·11 (List._∷_ row·12 (List._∷_ row·13 (List._∷_ row·123 (List._∷_
-    row·16 (List._∷_ row·17 (List._∷_ row·101 (List._∷_ row·3 (List._∷_ row·103 (List._∷_ row·5 (List._∷_ row·105 (List._∷_ row·7
+t29 = List._∷_ row·115 (List._∷_ row·48 (List._∷_ row·117 (List._∷_ row·51 (List._∷_ row·55 (List._∷_ row·120 (List._∷_ row·57 (List._∷_ row·58
+    (List._∷_ row·61 (List._∷_ row·63 (List._∷_ row·64 (List._∷_ row·123 (List._∷_ row·20 (List._∷_ row·21 (List._∷_ row·23 (List._∷_ row·26
     List.[])))))))))))))))
 
 abbrev pub t30 : List.List Row.Entry
-t30 = List._∷_ row·0 (List._∷_ row·1 (List._∷_ row·9 (List._∷_ row·10 (List._∷_ row·11 (List._∷_ row·90 (List._∷_ row·13 (List._∷_ row·123 (List._∷_
-    row·15 (List._∷_ row·17 (List._∷_ row·101 (List._∷_ row·3 (List._∷_ row·103 (List._∷_ row·5 (List._∷_ row·105 (List._∷_ row·7
+t30 = List._∷_ row·0 (List._∷_ row·1 (List._∷_ row·9 (List._∷_ row·10 (List._∷_ row·11 (List._∷_ row·12 (List._∷_ row·13 (List._∷_ row·133 (List._∷_
+    row·16 (List._∷_ row·17 (List._∷_ row·109 (List._∷_ row·3 (List._∷_ row·111 (List._∷_ row·5 (List._∷_ row·113 (List._∷_ row·7
     List.[])))))))))))))))
 
 abbrev pub t31 : List.List Row.Entry
-t31 = List._∷_ row·52 (List._∷_ row·108 (List._∷_ row·55 (List._∷_ row·58 (List._∷_ row·111 (List._∷_ row·61 (List._∷_ row·64 (List._∷_ row·65
-    (List._∷_ row·66 (List._∷_ row·68 (List._∷_ row·114 (List._∷_ row·20 (List._∷_ row·21 (List._∷_ row·23 (List._∷_ row·26 (List._∷_ row·28
+t31 = List._∷_ row·0 (List._∷_ row·1 (List._∷_ row·9 (List._∷_ row·10 (List._∷_ row·11 (List._∷_ row·92 (List._∷_ row·13 (List._∷_ row·133 (List._∷_
+    row·15 (List._∷_ row·17 (List._∷_ row·109 (List._∷_ row·3 (List._∷_ row·111 (List._∷_ row·5 (List._∷_ row·113 (List._∷_ row·7
     List.[])))))))))))))))
 
 abbrev pub t32 : List.List Row.Entry
-t32 = List._∷_ row·52 (List._∷_ row·108 (List._∷_ row·55 (List._∷_ row·58 (List._∷_ row·111 (List._∷_ row·61 (List._∷_ row·64 (List._∷_ row·65
-    (List._∷_ row·67 (List._∷_ row·69 (List._∷_ row·114 (List._∷_ row·20 (List._∷_ row·21 (List._∷_ row·23 (List._∷_ row·26 (List._∷_ row·28
+t32 = List._∷_ row·115 (List._∷_ row·48 (List._∷_ row·117 (List._∷_ row·51 (List._∷_ row·55 (List._∷_ row·120 (List._∷_ row·57 (List._∷_ row·60
+    (List._∷_ row·61 (List._∷_ row·62 (List._∷_ row·64 (List._∷_ row·123 (List._∷_ row·20 (List._∷_ row·21 (List._∷_ row·23 (List._∷_ row·26
     List.[])))))))))))))))
 
 abbrev pub t33 : List.List Row.Entry
-t33 = List._∷_ row·0 (List._∷_ row·1 (List._∷_ row·9 (List._∷_ row·10 (List._∷_ row·83 (List._∷_ row·90 (List._∷_ row·13 (List._∷_ row·123 (List._∷_
-    row·15 (List._∷_ row·17 (List._∷_ row·101 (List._∷_ row·3 (List._∷_ row·103 (List._∷_ row·5 (List._∷_ row·105 (List._∷_ row·7
+t33 = List._∷_ row·115 (List._∷_ row·48 (List._∷_ row·117 (List._∷_ row·51 (List._∷_ row·55 (List._∷_ row·120 (List._∷_ row·57 (List._∷_ row·60
+    (List._∷_ row·61 (List._∷_ row·63 (List._∷_ row·65 (List._∷_ row·123 (List._∷_ row·20 (List._∷_ row·21 (List._∷_ row·23 (List._∷_ row·26
     List.[])))))))))))))))
 
 abbrev pub t34 : List.List Row.Entry
-t34 = List._∷_ row·52 (List._∷_ row·108 (List._∷_ row·55 (List._∷_ row·58 (List._∷_ row·111 (List._∷_ row·61 (List._∷_ row·64 (List._∷_ row·65
-    (List._∷_ row·67 (List._∷_ row·69 (List._∷_ row·70 (List._∷_ row·20 (List._∷_ row·21 (List._∷_ row·116 (List._∷_ row·26 (List._∷_ row·28
+t34 = List._∷_ row·0 (List._∷_ row·1 (List._∷_ row·9 (List._∷_ row·10 (List._∷_ row·81 (List._∷_ row·92 (List._∷_ row·13 (List._∷_ row·133 (List._∷_
+    row·15 (List._∷_ row·17 (List._∷_ row·109 (List._∷_ row·3 (List._∷_ row·111 (List._∷_ row·5 (List._∷_ row·113 (List._∷_ row·7
     List.[])))))))))))))))
 
 abbrev pub t35 : List.List Row.Entry
-t35 = List._∷_ row·52 (List._∷_ row·108 (List._∷_ row·55 (List._∷_ row·58 (List._∷_ row·111 (List._∷_ row·61 (List._∷_ row·64 (List._∷_ row·65
-    (List._∷_ row·67 (List._∷_ row·69 (List._∷_ row·114 (List._∷_ row·19 (List._∷_ row·21 (List._∷_ row·23 (List._∷_ row·26 (List._∷_ row·28
+t35 = List._∷_ row·115 (List._∷_ row·48 (List._∷_ row·117 (List._∷_ row·51 (List._∷_ row·55 (List._∷_ row·120 (List._∷_ row·57 (List._∷_ row·60
+    (List._∷_ row·61 (List._∷_ row·63 (List._∷_ row·65 (List._∷_ row·66 (List._∷_ row·20 (List._∷_ row·21 (List._∷_ row·125 (List._∷_ row·26
     List.[])))))))))))))))
 
 abbrev pub t36 : List.List Row.Entry
-t36 = List._∷_ row·52 (List._∷_ row·108 (List._∷_ row·55 (List._∷_ row·58 (List._∷_ row·111 (List._∷_ row·61 (List._∷_ row·64 (List._∷_ row·113
-    (List._∷_ row·67 (List._∷_ row·69 (List._∷_ row·114 (List._∷_ row·18 (List._∷_ row·21 (List._∷_ row·23 (List._∷_ row·26 (List._∷_ row·28
+t36 = List._∷_ row·115 (List._∷_ row·48 (List._∷_ row·117 (List._∷_ row·51 (List._∷_ row·55 (List._∷_ row·120 (List._∷_ row·57 (List._∷_ row·60
+    (List._∷_ row·61 (List._∷_ row·63 (List._∷_ row·65 (List._∷_ row·123 (List._∷_ row·19 (List._∷_ row·21 (List._∷_ row·23 (List._∷_ row·26
     List.[])))))))))))))))
 
 abbrev pub t37 : List.List Row.Entry
-t37 = List._∷_ row·52 (List._∷_ row·108 (List._∷_ row·55 (List._∷_ row·58 (List._∷_ row·111 (List._∷_ row·61 (List._∷_ row·64 (List._∷_ row·113
-    (List._∷_ row·67 (List._∷_ row·68 (List._∷_ row·114 (List._∷_ row·18 (List._∷_ row·21 (List._∷_ row·23 (List._∷_ row·26 (List._∷_ row·28
+t37 = List._∷_ row·115 (List._∷_ row·48 (List._∷_ row·117 (List._∷_ row·51 (List._∷_ row·55 (List._∷_ row·120 (List._∷_ row·57 (List._∷_ row·60
+    (List._∷_ row·122 (List._∷_ row·63 (List._∷_ row·65 (List._∷_ row·123 (List._∷_ row·18 (List._∷_ row·21 (List._∷_ row·23 (List._∷_ row·26
     List.[])))))))))))))))
 
 abbrev pub t38 : List.List Row.Entry
-t38 = List._∷_ row·0 (List._∷_ row·1 (List._∷_ row·9 (List._∷_ row·10 (List._∷_ row·83 (List._∷_ row·12 (List._∷_ row·13 (List._∷_ row·123 (List._∷_
-    row·15 (List._∷_ row·17 (List._∷_ row·101 (List._∷_ row·3 (List._∷_ row·103 (List._∷_ row·5 (List._∷_ row·105 (List._∷_ row·7
+t38 = List._∷_ row·115 (List._∷_ row·48 (List._∷_ row·117 (List._∷_ row·51 (List._∷_ row·55 (List._∷_ row·120 (List._∷_ row·57 (List._∷_ row·60
+    (List._∷_ row·122 (List._∷_ row·63 (List._∷_ row·64 (List._∷_ row·123 (List._∷_ row·18 (List._∷_ row·21 (List._∷_ row·23 (List._∷_ row·26
     List.[])))))))))))))))
 
 abbrev pub t39 : List.List Row.Entry
-t39 = List._∷_ row·52 (List._∷_ row·108 (List._∷_ row·55 (List._∷_ row·58 (List._∷_ row·111 (List._∷_ row·61 (List._∷_ row·64 (List._∷_ row·113
-    (List._∷_ row·67 (List._∷_ row·68 (List._∷_ row·114 (List._∷_ row·20 (List._∷_ row·21 (List._∷_ row·23 (List._∷_ row·26 (List._∷_ row·28
+t39 = List._∷_ row·0 (List._∷_ row·1 (List._∷_ row·9 (List._∷_ row·10 (List._∷_ row·81 (List._∷_ row·12 (List._∷_ row·13 (List._∷_ row·133 (List._∷_
+    row·15 (List._∷_ row·17 (List._∷_ row·109 (List._∷_ row·3 (List._∷_ row·111 (List._∷_ row·5 (List._∷_ row·113 (List._∷_ row·7
     List.[])))))))))))))))
 
 abbrev pub t40 : List.List Row.Entry
-t40 = List._∷_ row·107 (List._∷_ row·53 (List._∷_ row·55 (List._∷_ row·58 (List._∷_ row·111 (List._∷_ row·61 (List._∷_ row·64 (List._∷_ row·113
-    (List._∷_ row·67 (List._∷_ row·68 (List._∷_ row·114 (List._∷_ row·20 (List._∷_ row·21 (List._∷_ row·23 (List._∷_ row·26 (List._∷_ row·28
+t40 = List._∷_ row·115 (List._∷_ row·48 (List._∷_ row·117 (List._∷_ row·51 (List._∷_ row·55 (List._∷_ row·120 (List._∷_ row·57 (List._∷_ row·60
+    (List._∷_ row·122 (List._∷_ row·63 (List._∷_ row·64 (List._∷_ row·123 (List._∷_ row·20 (List._∷_ row·21 (List._∷_ row·23 (List._∷_ row·26
     List.[])))))))))))))))
 
 abbrev pub t41 : List.List Row.Entry
-t41 = List._∷_ row·0 (List._∷_ row·97 (List._∷_ row·59 (List._∷_ row·10 (List._∷_ row·11 (List._∷_ row·12 (List._∷_ row·13 (List._∷_ row·123 (List._∷_
-    row·15 (List._∷_ row·17 (List._∷_ row·101 (List._∷_ row·3 (List._∷_ row·103 (List._∷_ row·5 (List._∷_ row·105 (List._∷_ row·7
+t41 = List._∷_ row·115 (List._∷_ row·49 (List._∷_ row·117 (List._∷_ row·51 (List._∷_ row·55 (List._∷_ row·120 (List._∷_ row·57 (List._∷_ row·60
+    (List._∷_ row·122 (List._∷_ row·63 (List._∷_ row·64 (List._∷_ row·123 (List._∷_ row·20 (List._∷_ row·21 (List._∷_ row·23 (List._∷_ row·26
     List.[])))))))))))))))
 
 abbrev pub t42 : List.List Row.Entry
-t42 = List._∷_ row·0 (List._∷_ row·97 (List._∷_ row·59 (List._∷_ row·10 (List._∷_ row·11 (List._∷_ row·12 (List._∷_ row·13 (List._∷_ row·123 (List._∷_
-    row·15 (List._∷_ row·17 (List._∷_ row·102 (List._∷_ row·3 (List._∷_ row·103 (List._∷_ row·5 (List._∷_ row·105 (List._∷_ row·7
+t42 = List._∷_ row·0 (List._∷_ row·104 (List._∷_ row·52 (List._∷_ row·10 (List._∷_ row·11 (List._∷_ row·12 (List._∷_ row·13 (List._∷_ row·133
+    (List._∷_ row·15 (List._∷_ row·17 (List._∷_ row·109 (List._∷_ row·3 (List._∷_ row·111 (List._∷_ row·5 (List._∷_ row·113 (List._∷_ row·7
     List.[])))))))))))))))
 
 abbrev pub t43 : List.List Row.Entry
-t43 = List._∷_ row·0 (List._∷_ row·97 (List._∷_ row·59 (List._∷_ row·10 (List._∷_ row·11 (List._∷_ row·12 (List._∷_ row·13 (List._∷_ row·123 (List._∷_
-    row·15 (List._∷_ row·17 (List._∷_ row·102 (List._∷_ row·4 (List._∷_ row·103 (List._∷_ row·5 (List._∷_ row·105 (List._∷_ row·7
+t43 = List._∷_ row·0 (List._∷_ row·104 (List._∷_ row·52 (List._∷_ row·10 (List._∷_ row·11 (List._∷_ row·12 (List._∷_ row·13 (List._∷_ row·133
+    (List._∷_ row·15 (List._∷_ row·17 (List._∷_ row·110 (List._∷_ row·3 (List._∷_ row·111 (List._∷_ row·5 (List._∷_ row·113 (List._∷_ row·7
     List.[])))))))))))))))
 
 abbrev pub t44 : List.List Row.Entry
-t44 = List._∷_ row·0 (List._∷_ row·1 (List._∷_ row·110 (List._∷_ row·10 (List._∷_ row·11 (List._∷_ row·12 (List._∷_ row·13 (List._∷_ row·123 (List._∷_
-    row·15 (List._∷_ row·17 (List._∷_ row·102 (List._∷_ row·4 (List._∷_ row·103 (List._∷_ row·5 (List._∷_ row·105 (List._∷_ row·7
+t44 = List._∷_ row·0 (List._∷_ row·104 (List._∷_ row·52 (List._∷_ row·10 (List._∷_ row·11 (List._∷_ row·12 (List._∷_ row·13 (List._∷_ row·133
+    (List._∷_ row·15 (List._∷_ row·17 (List._∷_ row·110 (List._∷_ row·4 (List._∷_ row·111 (List._∷_ row·5 (List._∷_ row·113 (List._∷_ row·7
     List.[])))))))))))))))
 
 abbrev pub t45 : List.List Row.Entry
-t45 = List._∷_ row·0 (List._∷_ row·1 (List._∷_ row·110 (List._∷_ row·71 (List._∷_ row·11 (List._∷_ row·12 (List._∷_ row·13 (List._∷_ row·123 (List._∷_
-    row·15 (List._∷_ row·17 (List._∷_ row·102 (List._∷_ row·4 (List._∷_ row·103 (List._∷_ row·5 (List._∷_ row·105 (List._∷_ row·7
+t45 = List._∷_ row·0 (List._∷_ row·1 (List._∷_ row·119 (List._∷_ row·10 (List._∷_ row·11 (List._∷_ row·12 (List._∷_ row·13 (List._∷_ row·133 (List._∷_
+    row·15 (List._∷_ row·17 (List._∷_ row·110 (List._∷_ row·4 (List._∷_ row·111 (List._∷_ row·5 (List._∷_ row·113 (List._∷_ row·7
     List.[])))))))))))))))
 
 abbrev pub t46 : List.List Row.Entry
-t46 = List._∷_ row·52 (List._∷_ row·108 (List._∷_ row·55 (List._∷_ row·58 (List._∷_ row·111 (List._∷_ row·61 (List._∷_ row·64 (List._∷_ row·65
-    (List._∷_ row·67 (List._∷_ row·68 (List._∷_ row·114 (List._∷_ row·20 (List._∷_ row·21 (List._∷_ row·22 (List._∷_ row·26 (List._∷_ row·28
+t46 = List._∷_ row·0 (List._∷_ row·1 (List._∷_ row·119 (List._∷_ row·67 (List._∷_ row·11 (List._∷_ row·12 (List._∷_ row·13 (List._∷_ row·133 (List._∷_
+    row·15 (List._∷_ row·17 (List._∷_ row·110 (List._∷_ row·4 (List._∷_ row·111 (List._∷_ row·5 (List._∷_ row·113 (List._∷_ row·7
     List.[])))))))))))))))
 
 abbrev pub t47 : List.List Row.Entry
-t47 = List._∷_ row·52 (List._∷_ row·108 (List._∷_ row·55 (List._∷_ row·58 (List._∷_ row·111 (List._∷_ row·61 (List._∷_ row·64 (List._∷_ row·65
-    (List._∷_ row·67 (List._∷_ row·68 (List._∷_ row·114 (List._∷_ row·20 (List._∷_ row·21 (List._∷_ row·23 (List._∷_ row·25 (List._∷_ row·28
+t47 = List._∷_ row·115 (List._∷_ row·48 (List._∷_ row·117 (List._∷_ row·51 (List._∷_ row·55 (List._∷_ row·120 (List._∷_ row·57 (List._∷_ row·60
+    (List._∷_ row·61 (List._∷_ row·63 (List._∷_ row·64 (List._∷_ row·123 (List._∷_ row·20 (List._∷_ row·21 (List._∷_ row·22 (List._∷_ row·26
     List.[])))))))))))))))
 
 abbrev pub t48 : List.List Row.Entry
-t48 = List._∷_ row·0 (List._∷_ row·1 (List._∷_ row·110 (List._∷_ row·71 (List._∷_ row·11 (List._∷_ row·88 (List._∷_ row·13 (List._∷_ row·123 (List._∷_
-    row·15 (List._∷_ row·17 (List._∷_ row·102 (List._∷_ row·4 (List._∷_ row·103 (List._∷_ row·5 (List._∷_ row·105 (List._∷_ row·7
+t48 = List._∷_ row·115 (List._∷_ row·48 (List._∷_ row·117 (List._∷_ row·51 (List._∷_ row·55 (List._∷_ row·120 (List._∷_ row·57 (List._∷_ row·60
+    (List._∷_ row·61 (List._∷_ row·63 (List._∷_ row·64 (List._∷_ row·123 (List._∷_ row·20 (List._∷_ row·21 (List._∷_ row·23 (List._∷_ row·25
     List.[])))))))))))))))
 
 abbrev pub t49 : List.List Row.Entry
-t49 = List._∷_ row·52 (List._∷_ row·108 (List._∷_ row·55 (List._∷_ row·58 (List._∷_ row·111 (List._∷_ row·61 (List._∷_ row·64 (List._∷_ row·65
-    (List._∷_ row·67 (List._∷_ row·68 (List._∷_ row·114 (List._∷_ row·20 (List._∷_ row·21 (List._∷_ row·23 (List._∷_ row·25 (List._∷_ row·27
+t49 = List._∷_ row·0 (List._∷_ row·1 (List._∷_ row·119 (List._∷_ row·67 (List._∷_ row·11 (List._∷_ row·90 (List._∷_ row·13 (List._∷_ row·133 (List._∷_
+    row·15 (List._∷_ row·17 (List._∷_ row·110 (List._∷_ row·4 (List._∷_ row·111 (List._∷_ row·5 (List._∷_ row·113 (List._∷_ row·7
     List.[])))))))))))))))
 
 abbrev pub t50 : List.List Row.Entry
-t50 = List._∷_ row·73 (List._∷_ row·75 (List._∷_ row·77 (List._∷_ row·78 (List._∷_ row·118 (List._∷_ row·31 (List._∷_ row·32 (List._∷_ row·34
-    (List._∷_ row·35 (List._∷_ row·38 (List._∷_ row·41 (List._∷_ row·42 (List._∷_ row·44 (List._∷_ row·47 (List._∷_ row·49 (List._∷_ row·50
+t50 = List._∷_ row·68 (List._∷_ row·72 (List._∷_ row·73 (List._∷_ row·75 (List._∷_ row·76 (List._∷_ row·127 (List._∷_ row·29 (List._∷_ row·30
+    (List._∷_ row·32 (List._∷_ row·33 (List._∷_ row·36 (List._∷_ row·39 (List._∷_ row·40 (List._∷_ row·42 (List._∷_ row·45 (List._∷_ row·47
     List.[])))))))))))))))
 
 abbrev pub t51 : List.List Row.Entry
-t51 = List._∷_ row·52 (List._∷_ row·108 (List._∷_ row·55 (List._∷_ row·58 (List._∷_ row·111 (List._∷_ row·61 (List._∷_ row·64 (List._∷_ row·65
-    (List._∷_ row·67 (List._∷_ row·68 (List._∷_ row·114 (List._∷_ row·20 (List._∷_ row·115 (List._∷_ row·23 (List._∷_ row·24 (List._∷_ row·28
+t51 = List._∷_ row·69 (List._∷_ row·71 (List._∷_ row·73 (List._∷_ row·75 (List._∷_ row·76 (List._∷_ row·127 (List._∷_ row·29 (List._∷_ row·30
+    (List._∷_ row·32 (List._∷_ row·33 (List._∷_ row·36 (List._∷_ row·39 (List._∷_ row·40 (List._∷_ row·42 (List._∷_ row·45 (List._∷_ row·47
     List.[])))))))))))))))
 
 abbrev pub t52 : List.List Row.Entry
-t52 = List._∷_ row·72 (List._∷_ row·75 (List._∷_ row·77 (List._∷_ row·78 (List._∷_ row·118 (List._∷_ row·31 (List._∷_ row·32 (List._∷_ row·34
-    (List._∷_ row·35 (List._∷_ row·38 (List._∷_ row·41 (List._∷_ row·42 (List._∷_ row·44 (List._∷_ row·47 (List._∷_ row·49 (List._∷_ row·50
+t52 = List._∷_ row·115 (List._∷_ row·48 (List._∷_ row·117 (List._∷_ row·51 (List._∷_ row·55 (List._∷_ row·120 (List._∷_ row·57 (List._∷_ row·60
+    (List._∷_ row·61 (List._∷_ row·63 (List._∷_ row·64 (List._∷_ row·123 (List._∷_ row·20 (List._∷_ row·124 (List._∷_ row·23 (List._∷_ row·24
     List.[])))))))))))))))
 
 abbrev pub t53 : List.List Row.Entry
-t53 = List._∷_ row·0 (List._∷_ row·1 (List._∷_ row·9 (List._∷_ row·71 (List._∷_ row·11 (List._∷_ row·88 (List._∷_ row·13 (List._∷_ row·123 (List._∷_
-    row·15 (List._∷_ row·17 (List._∷_ row·102 (List._∷_ row·4 (List._∷_ row·103 (List._∷_ row·5 (List._∷_ row·105 (List._∷_ row·7
+t53 = List._∷_ row·69 (List._∷_ row·70 (List._∷_ row·73 (List._∷_ row·75 (List._∷_ row·76 (List._∷_ row·127 (List._∷_ row·29 (List._∷_ row·30
+    (List._∷_ row·32 (List._∷_ row·33 (List._∷_ row·36 (List._∷_ row·39 (List._∷_ row·40 (List._∷_ row·42 (List._∷_ row·45 (List._∷_ row·47
     List.[])))))))))))))))
 
 abbrev pub t54 : List.List Row.Entry
-t54 = List._∷_ row·0 (List._∷_ row·1 (List._∷_ row·9 (List._∷_ row·71 (List._∷_ row·11 (List._∷_ row·88 (List._∷_ row·13 (List._∷_ row·123 (List._∷_
-    row·15 (List._∷_ row·17 (List._∷_ row·102 (List._∷_ row·3 (List._∷_ row·103 (List._∷_ row·5 (List._∷_ row·105 (List._∷_ row·7
+t54 = List._∷_ row·0 (List._∷_ row·1 (List._∷_ row·9 (List._∷_ row·67 (List._∷_ row·11 (List._∷_ row·90 (List._∷_ row·13 (List._∷_ row·133 (List._∷_
+    row·15 (List._∷_ row·17 (List._∷_ row·110 (List._∷_ row·4 (List._∷_ row·111 (List._∷_ row·5 (List._∷_ row·113 (List._∷_ row·7
     List.[])))))))))))))))
 
 abbrev pub t55 : List.List Row.Entry
-t55 = List._∷_ row·0 (List._∷_ row·1 (List._∷_ row·9 (List._∷_ row·10 (List._∷_ row·11 (List._∷_ row·88 (List._∷_ row·13 (List._∷_ row·123 (List._∷_
-    row·15 (List._∷_ row·17 (List._∷_ row·102 (List._∷_ row·3 (List._∷_ row·103 (List._∷_ row·5 (List._∷_ row·105 (List._∷_ row·7
+t55 = List._∷_ row·0 (List._∷_ row·1 (List._∷_ row·9 (List._∷_ row·67 (List._∷_ row·11 (List._∷_ row·90 (List._∷_ row·13 (List._∷_ row·133 (List._∷_
+    row·15 (List._∷_ row·17 (List._∷_ row·110 (List._∷_ row·3 (List._∷_ row·111 (List._∷_ row·5 (List._∷_ row·113 (List._∷_ row·7
     List.[])))))))))))))))
 
 abbrev pub t56 : List.List Row.Entry
-t56 = List._∷_ row·52 (List._∷_ row·108 (List._∷_ row·55 (List._∷_ row·58 (List._∷_ row·111 (List._∷_ row·61 (List._∷_ row·64 (List._∷_ row·65
-    (List._∷_ row·67 (List._∷_ row·68 (List._∷_ row·114 (List._∷_ row·20 (List._∷_ row·115 (List._∷_ row·23 (List._∷_ row·26 (List._∷_ row·28
+t56 = List._∷_ row·0 (List._∷_ row·1 (List._∷_ row·9 (List._∷_ row·10 (List._∷_ row·11 (List._∷_ row·90 (List._∷_ row·13 (List._∷_ row·133 (List._∷_
+    row·15 (List._∷_ row·17 (List._∷_ row·110 (List._∷_ row·3 (List._∷_ row·111 (List._∷_ row·5 (List._∷_ row·113 (List._∷_ row·7
     List.[])))))))))))))))
 
 abbrev pub t57 : List.List Row.Entry
-t57 = List._∷_ row·0 (List._∷_ row·1 (List._∷_ row·9 (List._∷_ row·10 (List._∷_ row·11 (List._∷_ row·12 (List._∷_ row·13 (List._∷_ row·123 (List._∷_
-    row·15 (List._∷_ row·17 (List._∷_ row·102 (List._∷_ row·3 (List._∷_ row·103 (List._∷_ row·5 (List._∷_ row·105 (List._∷_ row·7
+t57 = List._∷_ row·115 (List._∷_ row·48 (List._∷_ row·117 (List._∷_ row·51 (List._∷_ row·55 (List._∷_ row·120 (List._∷_ row·57 (List._∷_ row·60
+    (List._∷_ row·61 (List._∷_ row·63 (List._∷_ row·64 (List._∷_ row·123 (List._∷_ row·20 (List._∷_ row·124 (List._∷_ row·23 (List._∷_ row·26
     List.[])))))))))))))))
 
 abbrev pub t58 : List.List Row.Entry
-t58 = List._∷_ row·107 (List._∷_ row·53 (List._∷_ row·55 (List._∷_ row·58 (List._∷_ row·111 (List._∷_ row·61 (List._∷_ row·64 (List._∷_ row·65
-    (List._∷_ row·67 (List._∷_ row·68 (List._∷_ row·114 (List._∷_ row·20 (List._∷_ row·115 (List._∷_ row·23 (List._∷_ row·26 (List._∷_ row·28
+t58 = List._∷_ row·0 (List._∷_ row·1 (List._∷_ row·9 (List._∷_ row·10 (List._∷_ row·11 (List._∷_ row·12 (List._∷_ row·13 (List._∷_ row·133 (List._∷_
+    row·15 (List._∷_ row·17 (List._∷_ row·110 (List._∷_ row·3 (List._∷_ row·111 (List._∷_ row·5 (List._∷_ row·113 (List._∷_ row·7
     List.[])))))))))))))))
 
 abbrev pub t59 : List.List Row.Entry
-t59 = List._∷_ row·0 (List._∷_ row·98 (List._∷_ row·59 (List._∷_ row·10 (List._∷_ row·11 (List._∷_ row·12 (List._∷_ row·13 (List._∷_ row·123 (List._∷_
-    row·15 (List._∷_ row·17 (List._∷_ row·101 (List._∷_ row·3 (List._∷_ row·103 (List._∷_ row·5 (List._∷_ row·105 (List._∷_ row·7
+t59 = List._∷_ row·115 (List._∷_ row·49 (List._∷_ row·117 (List._∷_ row·51 (List._∷_ row·55 (List._∷_ row·120 (List._∷_ row·57 (List._∷_ row·60
+    (List._∷_ row·61 (List._∷_ row·63 (List._∷_ row·64 (List._∷_ row·123 (List._∷_ row·20 (List._∷_ row·124 (List._∷_ row·23 (List._∷_ row·26
     List.[])))))))))))))))
 
 abbrev pub t60 : List.List Row.Entry
-t60 = List._∷_ row·0 (List._∷_ row·98 (List._∷_ row·59 (List._∷_ row·10 (List._∷_ row·11 (List._∷_ row·12 (List._∷_ row·13 (List._∷_ row·123 (List._∷_
-    row·15 (List._∷_ row·17 (List._∷_ row·101 (List._∷_ row·3 (List._∷_ row·104 (List._∷_ row·5 (List._∷_ row·105 (List._∷_ row·7
+t60 = List._∷_ row·0 (List._∷_ row·105 (List._∷_ row·52 (List._∷_ row·10 (List._∷_ row·11 (List._∷_ row·12 (List._∷_ row·13 (List._∷_ row·133
+    (List._∷_ row·15 (List._∷_ row·17 (List._∷_ row·109 (List._∷_ row·3 (List._∷_ row·111 (List._∷_ row·5 (List._∷_ row·113 (List._∷_ row·7
     List.[])))))))))))))))
 
 abbrev pub t61 : List.List Row.Entry
-t61 = List._∷_ row·0 (List._∷_ row·1 (List._∷_ row·110 (List._∷_ row·10 (List._∷_ row·11 (List._∷_ row·12 (List._∷_ row·13 (List._∷_ row·123 (List._∷_
-    row·15 (List._∷_ row·17 (List._∷_ row·101 (List._∷_ row·3 (List._∷_ row·104 (List._∷_ row·5 (List._∷_ row·105 (List._∷_ row·7
+t61 = List._∷_ row·0 (List._∷_ row·105 (List._∷_ row·52 (List._∷_ row·10 (List._∷_ row·11 (List._∷_ row·12 (List._∷_ row·13 (List._∷_ row·133
+    (List._∷_ row·15 (List._∷_ row·17 (List._∷_ row·109 (List._∷_ row·3 (List._∷_ row·112 (List._∷_ row·5 (List._∷_ row·113 (List._∷_ row·7
     List.[])))))))))))))))
 
 abbrev pub t62 : List.List Row.Entry
-t62 = List._∷_ row·0 (List._∷_ row·1 (List._∷_ row·110 (List._∷_ row·10 (List._∷_ row·11 (List._∷_ row·91 (List._∷_ row·13 (List._∷_ row·123 (List._∷_
-    row·15 (List._∷_ row·17 (List._∷_ row·101 (List._∷_ row·3 (List._∷_ row·104 (List._∷_ row·5 (List._∷_ row·105 (List._∷_ row·7
+t62 = List._∷_ row·0 (List._∷_ row·1 (List._∷_ row·119 (List._∷_ row·10 (List._∷_ row·11 (List._∷_ row·12 (List._∷_ row·13 (List._∷_ row·133 (List._∷_
+    row·15 (List._∷_ row·17 (List._∷_ row·109 (List._∷_ row·3 (List._∷_ row·112 (List._∷_ row·5 (List._∷_ row·113 (List._∷_ row·7
     List.[])))))))))))))))
 
 abbrev pub t63 : List.List Row.Entry
-t63 = List._∷_ row·74 (List._∷_ row·75 (List._∷_ row·76 (List._∷_ row·78 (List._∷_ row·118 (List._∷_ row·31 (List._∷_ row·32 (List._∷_ row·34
-    (List._∷_ row·35 (List._∷_ row·38 (List._∷_ row·41 (List._∷_ row·42 (List._∷_ row·44 (List._∷_ row·47 (List._∷_ row·49 (List._∷_ row·50
+t63 = List._∷_ row·0 (List._∷_ row·1 (List._∷_ row·119 (List._∷_ row·10 (List._∷_ row·11 (List._∷_ row·93 (List._∷_ row·13 (List._∷_ row·133 (List._∷_
+    row·15 (List._∷_ row·17 (List._∷_ row·109 (List._∷_ row·3 (List._∷_ row·112 (List._∷_ row·5 (List._∷_ row·113 (List._∷_ row·7
     List.[])))))))))))))))
 
 abbrev pub t64 : List.List Row.Entry
-t64 = List._∷_ row·74 (List._∷_ row·75 (List._∷_ row·77 (List._∷_ row·79 (List._∷_ row·118 (List._∷_ row·31 (List._∷_ row·32 (List._∷_ row·34
-    (List._∷_ row·35 (List._∷_ row·38 (List._∷_ row·41 (List._∷_ row·42 (List._∷_ row·44 (List._∷_ row·47 (List._∷_ row·49 (List._∷_ row·50
+t64 = List._∷_ row·69 (List._∷_ row·72 (List._∷_ row·73 (List._∷_ row·74 (List._∷_ row·76 (List._∷_ row·127 (List._∷_ row·29 (List._∷_ row·30
+    (List._∷_ row·32 (List._∷_ row·33 (List._∷_ row·36 (List._∷_ row·39 (List._∷_ row·40 (List._∷_ row·42 (List._∷_ row·45 (List._∷_ row·47
     List.[])))))))))))))))
 
 abbrev pub t65 : List.List Row.Entry
-t65 = List._∷_ row·0 (List._∷_ row·1 (List._∷_ row·110 (List._∷_ row·10 (List._∷_ row·81 (List._∷_ row·91 (List._∷_ row·13 (List._∷_ row·123 (List._∷_
-    row·15 (List._∷_ row·17 (List._∷_ row·101 (List._∷_ row·3 (List._∷_ row·104 (List._∷_ row·5 (List._∷_ row·105 (List._∷_ row·7
+t65 = List._∷_ row·69 (List._∷_ row·72 (List._∷_ row·73 (List._∷_ row·75 (List._∷_ row·77 (List._∷_ row·127 (List._∷_ row·29 (List._∷_ row·30
+    (List._∷_ row·32 (List._∷_ row·33 (List._∷_ row·36 (List._∷_ row·39 (List._∷_ row·40 (List._∷_ row·42 (List._∷_ row·45 (List._∷_ row·47
     List.[])))))))))))))))
 
 abbrev pub t66 : List.List Row.Entry
-t66 = List._∷_ row·74 (List._∷_ row·75 (List._∷_ row·77 (List._∷_ row·79 (List._∷_ row·80 (List._∷_ row·31 (List._∷_ row·32 (List._∷_ row·34 (List._∷_
-    row·35 (List._∷_ row·120 (List._∷_ row·41 (List._∷_ row·42 (List._∷_ row·44 (List._∷_ row·47 (List._∷_ row·49 (List._∷_ row·50
+t66 = List._∷_ row·0 (List._∷_ row·1 (List._∷_ row·119 (List._∷_ row·10 (List._∷_ row·79 (List._∷_ row·93 (List._∷_ row·13 (List._∷_ row·133 (List._∷_
+    row·15 (List._∷_ row·17 (List._∷_ row·109 (List._∷_ row·3 (List._∷_ row·112 (List._∷_ row·5 (List._∷_ row·113 (List._∷_ row·7
     List.[])))))))))))))))
 
 abbrev pub t67 : List.List Row.Entry
-t67 = List._∷_ row·74 (List._∷_ row·75 (List._∷_ row·77 (List._∷_ row·79 (List._∷_ row·118 (List._∷_ row·30 (List._∷_ row·32 (List._∷_ row·34
-    (List._∷_ row·35 (List._∷_ row·38 (List._∷_ row·41 (List._∷_ row·42 (List._∷_ row·44 (List._∷_ row·47 (List._∷_ row·49 (List._∷_ row·50
+t67 = List._∷_ row·69 (List._∷_ row·72 (List._∷_ row·73 (List._∷_ row·75 (List._∷_ row·77 (List._∷_ row·78 (List._∷_ row·29 (List._∷_ row·30 (List._∷_
+    row·32 (List._∷_ row·33 (List._∷_ row·129 (List._∷_ row·39 (List._∷_ row·40 (List._∷_ row·42 (List._∷_ row·45 (List._∷_ row·47
     List.[])))))))))))))))
 
 abbrev pub t68 : List.List Row.Entry
-t68 = List._∷_ row·74 (List._∷_ row·117 (List._∷_ row·77 (List._∷_ row·79 (List._∷_ row·118 (List._∷_ row·29 (List._∷_ row·32 (List._∷_ row·34
-    (List._∷_ row·35 (List._∷_ row·38 (List._∷_ row·41 (List._∷_ row·42 (List._∷_ row·44 (List._∷_ row·47 (List._∷_ row·49 (List._∷_ row·50
+t68 = List._∷_ row·69 (List._∷_ row·72 (List._∷_ row·73 (List._∷_ row·75 (List._∷_ row·77 (List._∷_ row·127 (List._∷_ row·28 (List._∷_ row·30
+    (List._∷_ row·32 (List._∷_ row·33 (List._∷_ row·36 (List._∷_ row·39 (List._∷_ row·40 (List._∷_ row·42 (List._∷_ row·45 (List._∷_ row·47
     List.[])))))))))))))))
 
 abbrev pub t69 : List.List Row.Entry
-t69 = List._∷_ row·74 (List._∷_ row·117 (List._∷_ row·77 (List._∷_ row·78 (List._∷_ row·118 (List._∷_ row·29 (List._∷_ row·32 (List._∷_ row·34
-    (List._∷_ row·35 (List._∷_ row·38 (List._∷_ row·41 (List._∷_ row·42 (List._∷_ row·44 (List._∷_ row·47 (List._∷_ row·49 (List._∷_ row·50
+t69 = List._∷_ row·69 (List._∷_ row·72 (List._∷_ row·126 (List._∷_ row·75 (List._∷_ row·77 (List._∷_ row·127 (List._∷_ row·27 (List._∷_ row·30
+    (List._∷_ row·32 (List._∷_ row·33 (List._∷_ row·36 (List._∷_ row·39 (List._∷_ row·40 (List._∷_ row·42 (List._∷_ row·45 (List._∷_ row·47
     List.[])))))))))))))))
 
 abbrev pub t70 : List.List Row.Entry
-t70 = List._∷_ row·0 (List._∷_ row·1 (List._∷_ row·9 (List._∷_ row·10 (List._∷_ row·81 (List._∷_ row·91 (List._∷_ row·13 (List._∷_ row·123 (List._∷_
-    row·15 (List._∷_ row·17 (List._∷_ row·101 (List._∷_ row·3 (List._∷_ row·104 (List._∷_ row·5 (List._∷_ row·105 (List._∷_ row·7
+t70 = List._∷_ row·69 (List._∷_ row·72 (List._∷_ row·126 (List._∷_ row·75 (List._∷_ row·76 (List._∷_ row·127 (List._∷_ row·27 (List._∷_ row·30
+    (List._∷_ row·32 (List._∷_ row·33 (List._∷_ row·36 (List._∷_ row·39 (List._∷_ row·40 (List._∷_ row·42 (List._∷_ row·45 (List._∷_ row·47
     List.[])))))))))))))))
 
 abbrev pub t71 : List.List Row.Entry
-t71 = List._∷_ row·0 (List._∷_ row·1 (List._∷_ row·9 (List._∷_ row·10 (List._∷_ row·81 (List._∷_ row·12 (List._∷_ row·13 (List._∷_ row·123 (List._∷_
-    row·15 (List._∷_ row·17 (List._∷_ row·101 (List._∷_ row·3 (List._∷_ row·104 (List._∷_ row·5 (List._∷_ row·105 (List._∷_ row·7
+t71 = List._∷_ row·0 (List._∷_ row·1 (List._∷_ row·9 (List._∷_ row·10 (List._∷_ row·79 (List._∷_ row·93 (List._∷_ row·13 (List._∷_ row·133 (List._∷_
+    row·15 (List._∷_ row·17 (List._∷_ row·109 (List._∷_ row·3 (List._∷_ row·112 (List._∷_ row·5 (List._∷_ row·113 (List._∷_ row·7
     List.[])))))))))))))))
 
 abbrev pub t72 : List.List Row.Entry
-t72 = List._∷_ row·0 (List._∷_ row·1 (List._∷_ row·9 (List._∷_ row·10 (List._∷_ row·11 (List._∷_ row·12 (List._∷_ row·13 (List._∷_ row·123 (List._∷_
-    row·15 (List._∷_ row·17 (List._∷_ row·101 (List._∷_ row·3 (List._∷_ row·104 (List._∷_ row·5 (List._∷_ row·105 (List._∷_ row·7
+t72 = List._∷_ row·0 (List._∷_ row·1 (List._∷_ row·9 (List._∷_ row·10 (List._∷_ row·79 (List._∷_ row·12 (List._∷_ row·13 (List._∷_ row·133 (List._∷_
+    row·15 (List._∷_ row·17 (List._∷_ row·109 (List._∷_ row·3 (List._∷_ row·112 (List._∷_ row·5 (List._∷_ row·113 (List._∷_ row·7
     List.[])))))))))))))))
 
 abbrev pub t73 : List.List Row.Entry
-t73 = List._∷_ row·74 (List._∷_ row·117 (List._∷_ row·77 (List._∷_ row·78 (List._∷_ row·118 (List._∷_ row·31 (List._∷_ row·32 (List._∷_ row·34
-    (List._∷_ row·35 (List._∷_ row·38 (List._∷_ row·41 (List._∷_ row·42 (List._∷_ row·44 (List._∷_ row·47 (List._∷_ row·49 (List._∷_ row·50
+t73 = List._∷_ row·0 (List._∷_ row·1 (List._∷_ row·9 (List._∷_ row·10 (List._∷_ row·11 (List._∷_ row·12 (List._∷_ row·13 (List._∷_ row·133 (List._∷_
+    row·15 (List._∷_ row·17 (List._∷_ row·109 (List._∷_ row·3 (List._∷_ row·112 (List._∷_ row·5 (List._∷_ row·113 (List._∷_ row·7
     List.[])))))))))))))))
 
 abbrev pub t74 : List.List Row.Entry
-t74 = List._∷_ row·0 (List._∷_ row·99 (List._∷_ row·59 (List._∷_ row·10 (List._∷_ row·11 (List._∷_ row·12 (List._∷_ row·13 (List._∷_ row·123 (List._∷_
-    row·15 (List._∷_ row·17 (List._∷_ row·101 (List._∷_ row·3 (List._∷_ row·103 (List._∷_ row·5 (List._∷_ row·105 (List._∷_ row·7
+t74 = List._∷_ row·69 (List._∷_ row·72 (List._∷_ row·126 (List._∷_ row·75 (List._∷_ row·76 (List._∷_ row·127 (List._∷_ row·29 (List._∷_ row·30
+    (List._∷_ row·32 (List._∷_ row·33 (List._∷_ row·36 (List._∷_ row·39 (List._∷_ row·40 (List._∷_ row·42 (List._∷_ row·45 (List._∷_ row·47
     List.[])))))))))))))))
 
 abbrev pub t75 : List.List Row.Entry
-t75 = List._∷_ row·0 (List._∷_ row·99 (List._∷_ row·59 (List._∷_ row·10 (List._∷_ row·11 (List._∷_ row·12 (List._∷_ row·13 (List._∷_ row·123 (List._∷_
-    row·15 (List._∷_ row·17 (List._∷_ row·101 (List._∷_ row·3 (List._∷_ row·103 (List._∷_ row·6 (List._∷_ row·105 (List._∷_ row·7
+t75 = List._∷_ row·0 (List._∷_ row·106 (List._∷_ row·52 (List._∷_ row·10 (List._∷_ row·11 (List._∷_ row·12 (List._∷_ row·13 (List._∷_ row·133
+    (List._∷_ row·15 (List._∷_ row·17 (List._∷_ row·109 (List._∷_ row·3 (List._∷_ row·111 (List._∷_ row·5 (List._∷_ row·113 (List._∷_ row·7
     List.[])))))))))))))))
 
 abbrev pub t76 : List.List Row.Entry
-t76 = List._∷_ row·0 (List._∷_ row·99 (List._∷_ row·59 (List._∷_ row·10 (List._∷_ row·11 (List._∷_ row·12 (List._∷_ row·13 (List._∷_ row·123 (List._∷_
-    row·15 (List._∷_ row·17 (List._∷_ row·101 (List._∷_ row·3 (List._∷_ row·103 (List._∷_ row·6 (List._∷_ row·106 (List._∷_ row·7
+t76 = List._∷_ row·0 (List._∷_ row·106 (List._∷_ row·52 (List._∷_ row·10 (List._∷_ row·11 (List._∷_ row·12 (List._∷_ row·13 (List._∷_ row·133
+    (List._∷_ row·15 (List._∷_ row·17 (List._∷_ row·109 (List._∷_ row·3 (List._∷_ row·111 (List._∷_ row·6 (List._∷_ row·113 (List._∷_ row·7
     List.[])))))))))))))))
 
 abbrev pub t77 : List.List Row.Entry
-t77 = List._∷_ row·0 (List._∷_ row·1 (List._∷_ row·110 (List._∷_ row·10 (List._∷_ row·11 (List._∷_ row·12 (List._∷_ row·13 (List._∷_ row·123 (List._∷_
-    row·15 (List._∷_ row·17 (List._∷_ row·101 (List._∷_ row·3 (List._∷_ row·103 (List._∷_ row·6 (List._∷_ row·106 (List._∷_ row·7
+t77 = List._∷_ row·0 (List._∷_ row·106 (List._∷_ row·52 (List._∷_ row·10 (List._∷_ row·11 (List._∷_ row·12 (List._∷_ row·13 (List._∷_ row·133
+    (List._∷_ row·15 (List._∷_ row·17 (List._∷_ row·109 (List._∷_ row·3 (List._∷_ row·111 (List._∷_ row·6 (List._∷_ row·114 (List._∷_ row·7
     List.[])))))))))))))))
 
 abbrev pub t78 : List.List Row.Entry
-t78 = List._∷_ row·0 (List._∷_ row·1 (List._∷_ row·110 (List._∷_ row·10 (List._∷_ row·11 (List._∷_ row·89 (List._∷_ row·13 (List._∷_ row·123 (List._∷_
-    row·15 (List._∷_ row·17 (List._∷_ row·101 (List._∷_ row·3 (List._∷_ row·103 (List._∷_ row·6 (List._∷_ row·106 (List._∷_ row·7
+t78 = List._∷_ row·0 (List._∷_ row·1 (List._∷_ row·119 (List._∷_ row·10 (List._∷_ row·11 (List._∷_ row·12 (List._∷_ row·13 (List._∷_ row·133 (List._∷_
+    row·15 (List._∷_ row·17 (List._∷_ row·109 (List._∷_ row·3 (List._∷_ row·111 (List._∷_ row·6 (List._∷_ row·114 (List._∷_ row·7
     List.[])))))))))))))))
 
 abbrev pub t79 : List.List Row.Entry
-t79 = List._∷_ row·74 (List._∷_ row·75 (List._∷_ row·77 (List._∷_ row·78 (List._∷_ row·118 (List._∷_ row·31 (List._∷_ row·32 (List._∷_ row·33
-    (List._∷_ row·35 (List._∷_ row·38 (List._∷_ row·41 (List._∷_ row·42 (List._∷_ row·44 (List._∷_ row·47 (List._∷_ row·49 (List._∷_ row·50
+t79 = List._∷_ row·0 (List._∷_ row·1 (List._∷_ row·119 (List._∷_ row·10 (List._∷_ row·11 (List._∷_ row·91 (List._∷_ row·13 (List._∷_ row·133 (List._∷_
+    row·15 (List._∷_ row·17 (List._∷_ row·109 (List._∷_ row·3 (List._∷_ row·111 (List._∷_ row·6 (List._∷_ row·114 (List._∷_ row·7
     List.[])))))))))))))))
 
 abbrev pub t80 : List.List Row.Entry
-t80 = List._∷_ row·74 (List._∷_ row·75 (List._∷_ row·77 (List._∷_ row·78 (List._∷_ row·118 (List._∷_ row·31 (List._∷_ row·32 (List._∷_ row·34
-    (List._∷_ row·36 (List._∷_ row·38 (List._∷_ row·41 (List._∷_ row·42 (List._∷_ row·44 (List._∷_ row·47 (List._∷_ row·49 (List._∷_ row·50
+t80 = List._∷_ row·69 (List._∷_ row·72 (List._∷_ row·73 (List._∷_ row·75 (List._∷_ row·76 (List._∷_ row·127 (List._∷_ row·29 (List._∷_ row·30
+    (List._∷_ row·31 (List._∷_ row·33 (List._∷_ row·36 (List._∷_ row·39 (List._∷_ row·40 (List._∷_ row·42 (List._∷_ row·45 (List._∷_ row·47
     List.[])))))))))))))))
 
 abbrev pub t81 : List.List Row.Entry
-t81 = List._∷_ row·0 (List._∷_ row·1 (List._∷_ row·110 (List._∷_ row·10 (List._∷_ row·82 (List._∷_ row·89 (List._∷_ row·13 (List._∷_ row·123 (List._∷_
-    row·15 (List._∷_ row·17 (List._∷_ row·101 (List._∷_ row·3 (List._∷_ row·103 (List._∷_ row·6 (List._∷_ row·106 (List._∷_ row·7
+t81 = List._∷_ row·69 (List._∷_ row·72 (List._∷_ row·73 (List._∷_ row·75 (List._∷_ row·76 (List._∷_ row·127 (List._∷_ row·29 (List._∷_ row·30
+    (List._∷_ row·32 (List._∷_ row·34 (List._∷_ row·36 (List._∷_ row·39 (List._∷_ row·40 (List._∷_ row·42 (List._∷_ row·45 (List._∷_ row·47
     List.[])))))))))))))))
 
 abbrev pub t82 : List.List Row.Entry
-t82 = List._∷_ row·74 (List._∷_ row·75 (List._∷_ row·77 (List._∷_ row·78 (List._∷_ row·118 (List._∷_ row·31 (List._∷_ row·32 (List._∷_ row·34
-    (List._∷_ row·36 (List._∷_ row·37 (List._∷_ row·41 (List._∷_ row·42 (List._∷_ row·44 (List._∷_ row·47 (List._∷_ row·49 (List._∷_ row·50
+t82 = List._∷_ row·0 (List._∷_ row·1 (List._∷_ row·119 (List._∷_ row·10 (List._∷_ row·80 (List._∷_ row·91 (List._∷_ row·13 (List._∷_ row·133 (List._∷_
+    row·15 (List._∷_ row·17 (List._∷_ row·109 (List._∷_ row·3 (List._∷_ row·111 (List._∷_ row·6 (List._∷_ row·114 (List._∷_ row·7
     List.[])))))))))))))))
 
 abbrev pub t83 : List.List Row.Entry
-t83 = List._∷_ row·74 (List._∷_ row·75 (List._∷_ row·77 (List._∷_ row·78 (List._∷_ row·118 (List._∷_ row·31 (List._∷_ row·32 (List._∷_ row·34
-    (List._∷_ row·36 (List._∷_ row·38 (List._∷_ row·40 (List._∷_ row·42 (List._∷_ row·44 (List._∷_ row·47 (List._∷_ row·49 (List._∷_ row·50
+t83 = List._∷_ row·69 (List._∷_ row·72 (List._∷_ row·73 (List._∷_ row·75 (List._∷_ row·76 (List._∷_ row·127 (List._∷_ row·29 (List._∷_ row·30
+    (List._∷_ row·32 (List._∷_ row·34 (List._∷_ row·35 (List._∷_ row·39 (List._∷_ row·40 (List._∷_ row·42 (List._∷_ row·45 (List._∷_ row·47
     List.[])))))))))))))))
 
 abbrev pub t84 : List.List Row.Entry
-t84 = List._∷_ row·74 (List._∷_ row·75 (List._∷_ row·77 (List._∷_ row·78 (List._∷_ row·118 (List._∷_ row·31 (List._∷_ row·119 (List._∷_ row·34
-    (List._∷_ row·36 (List._∷_ row·38 (List._∷_ row·39 (List._∷_ row·42 (List._∷_ row·44 (List._∷_ row·47 (List._∷_ row·49 (List._∷_ row·50
+t84 = List._∷_ row·69 (List._∷_ row·72 (List._∷_ row·73 (List._∷_ row·75 (List._∷_ row·76 (List._∷_ row·127 (List._∷_ row·29 (List._∷_ row·30
+    (List._∷_ row·32 (List._∷_ row·34 (List._∷_ row·36 (List._∷_ row·38 (List._∷_ row·40 (List._∷_ row·42 (List._∷_ row·45 (List._∷_ row·47
     List.[])))))))))))))))
 
 abbrev pub t85 : List.List Row.Entry
-t85 = List._∷_ row·74 (List._∷_ row·75 (List._∷_ row·77 (List._∷_ row·78 (List._∷_ row·118 (List._∷_ row·31 (List._∷_ row·119 (List._∷_ row·34
-    (List._∷_ row·35 (List._∷_ row·38 (List._∷_ row·39 (List._∷_ row·42 (List._∷_ row·44 (List._∷_ row·47 (List._∷_ row·49 (List._∷_ row·50
+t85 = List._∷_ row·69 (List._∷_ row·72 (List._∷_ row·73 (List._∷_ row·75 (List._∷_ row·76 (List._∷_ row·127 (List._∷_ row·29 (List._∷_ row·128
+    (List._∷_ row·32 (List._∷_ row·34 (List._∷_ row·36 (List._∷_ row·37 (List._∷_ row·40 (List._∷_ row·42 (List._∷_ row·45 (List._∷_ row·47
     List.[])))))))))))))))
 
 abbrev pub t86 : List.List Row.Entry
-t86 = List._∷_ row·0 (List._∷_ row·1 (List._∷_ row·9 (List._∷_ row·10 (List._∷_ row·82 (List._∷_ row·89 (List._∷_ row·13 (List._∷_ row·123 (List._∷_
-    row·15 (List._∷_ row·17 (List._∷_ row·101 (List._∷_ row·3 (List._∷_ row·103 (List._∷_ row·6 (List._∷_ row·106 (List._∷_ row·7
+t86 = List._∷_ row·69 (List._∷_ row·72 (List._∷_ row·73 (List._∷_ row·75 (List._∷_ row·76 (List._∷_ row·127 (List._∷_ row·29 (List._∷_ row·128
+    (List._∷_ row·32 (List._∷_ row·33 (List._∷_ row·36 (List._∷_ row·37 (List._∷_ row·40 (List._∷_ row·42 (List._∷_ row·45 (List._∷_ row·47
     List.[])))))))))))))))
 
 abbrev pub t87 : List.List Row.Entry
-t87 = List._∷_ row·0 (List._∷_ row·1 (List._∷_ row·9 (List._∷_ row·10 (List._∷_ row·82 (List._∷_ row·12 (List._∷_ row·13 (List._∷_ row·123 (List._∷_
-    row·15 (List._∷_ row·17 (List._∷_ row·101 (List._∷_ row·3 (List._∷_ row·103 (List._∷_ row·6 (List._∷_ row·106 (List._∷_ row·7
+t87 = List._∷_ row·0 (List._∷_ row·1 (List._∷_ row·9 (List._∷_ row·10 (List._∷_ row·80 (List._∷_ row·91 (List._∷_ row·13 (List._∷_ row·133 (List._∷_
+    row·15 (List._∷_ row·17 (List._∷_ row·109 (List._∷_ row·3 (List._∷_ row·111 (List._∷_ row·6 (List._∷_ row·114 (List._∷_ row·7
     List.[])))))))))))))))
 
 abbrev pub t88 : List.List Row.Entry
-t88 = List._∷_ row·0 (List._∷_ row·1 (List._∷_ row·9 (List._∷_ row·10 (List._∷_ row·11 (List._∷_ row·12 (List._∷_ row·13 (List._∷_ row·123 (List._∷_
-    row·15 (List._∷_ row·17 (List._∷_ row·101 (List._∷_ row·3 (List._∷_ row·103 (List._∷_ row·6 (List._∷_ row·106 (List._∷_ row·7
+t88 = List._∷_ row·0 (List._∷_ row·1 (List._∷_ row·9 (List._∷_ row·10 (List._∷_ row·80 (List._∷_ row·12 (List._∷_ row·13 (List._∷_ row·133 (List._∷_
+    row·15 (List._∷_ row·17 (List._∷_ row·109 (List._∷_ row·3 (List._∷_ row·111 (List._∷_ row·6 (List._∷_ row·114 (List._∷_ row·7
     List.[])))))))))))))))
 
 abbrev pub t89 : List.List Row.Entry
-t89 = List._∷_ row·74 (List._∷_ row·75 (List._∷_ row·77 (List._∷_ row·78 (List._∷_ row·118 (List._∷_ row·31 (List._∷_ row·119 (List._∷_ row·34
-    (List._∷_ row·35 (List._∷_ row·38 (List._∷_ row·41 (List._∷_ row·42 (List._∷_ row·44 (List._∷_ row·47 (List._∷_ row·49 (List._∷_ row·50
+t89 = List._∷_ row·0 (List._∷_ row·1 (List._∷_ row·9 (List._∷_ row·10 (List._∷_ row·11 (List._∷_ row·12 (List._∷_ row·13 (List._∷_ row·133 (List._∷_
+    row·15 (List._∷_ row·17 (List._∷_ row·109 (List._∷_ row·3 (List._∷_ row·111 (List._∷_ row·6 (List._∷_ row·114 (List._∷_ row·7
     List.[])))))))))))))))
 
 abbrev pub t90 : List.List Row.Entry
-t90 = List._∷_ row·0 (List._∷_ row·1 (List._∷_ row·9 (List._∷_ row·10 (List._∷_ row·11 (List._∷_ row·12 (List._∷_ row·13 (List._∷_ row·123 (List._∷_
-    row·15 (List._∷_ row·17 (List._∷_ row·101 (List._∷_ row·3 (List._∷_ row·103 (List._∷_ row·5 (List._∷_ row·106 (List._∷_ row·7
+t90 = List._∷_ row·69 (List._∷_ row·72 (List._∷_ row·73 (List._∷_ row·75 (List._∷_ row·76 (List._∷_ row·127 (List._∷_ row·29 (List._∷_ row·128
+    (List._∷_ row·32 (List._∷_ row·33 (List._∷_ row·36 (List._∷_ row·39 (List._∷_ row·40 (List._∷_ row·42 (List._∷_ row·45 (List._∷_ row·47
     List.[])))))))))))))))
 
 abbrev pub t91 : List.List Row.Entry
-t91 = List._∷_ row·0 (List._∷_ row·100 (List._∷_ row·59 (List._∷_ row·10 (List._∷_ row·11 (List._∷_ row·12 (List._∷_ row·13 (List._∷_ row·123
-    (List._∷_ row·15 (List._∷_ row·17 (List._∷_ row·101 (List._∷_ row·3 (List._∷_ row·103 (List._∷_ row·5 (List._∷_ row·105 (List._∷_ row·7
+t91 = List._∷_ row·0 (List._∷_ row·1 (List._∷_ row·9 (List._∷_ row·10 (List._∷_ row·11 (List._∷_ row·12 (List._∷_ row·13 (List._∷_ row·133 (List._∷_
+    row·15 (List._∷_ row·17 (List._∷_ row·109 (List._∷_ row·3 (List._∷_ row·111 (List._∷_ row·5 (List._∷_ row·114 (List._∷_ row·7
     List.[])))))))))))))))
 
 abbrev pub t92 : List.List Row.Entry
-t92 = List._∷_ row·0 (List._∷_ row·100 (List._∷_ row·59 (List._∷_ row·10 (List._∷_ row·11 (List._∷_ row·12 (List._∷_ row·13 (List._∷_ row·123
-    (List._∷_ row·15 (List._∷_ row·17 (List._∷_ row·101 (List._∷_ row·3 (List._∷_ row·103 (List._∷_ row·5 (List._∷_ row·105 (List._∷_ row·8
+t92 = List._∷_ row·0 (List._∷_ row·107 (List._∷_ row·52 (List._∷_ row·10 (List._∷_ row·11 (List._∷_ row·12 (List._∷_ row·13 (List._∷_ row·133
+    (List._∷_ row·15 (List._∷_ row·17 (List._∷_ row·109 (List._∷_ row·3 (List._∷_ row·111 (List._∷_ row·5 (List._∷_ row·113 (List._∷_ row·7
     List.[])))))))))))))))
 
 abbrev pub t93 : List.List Row.Entry
-t93 = List._∷_ row·0 (List._∷_ row·1 (List._∷_ row·110 (List._∷_ row·10 (List._∷_ row·11 (List._∷_ row·12 (List._∷_ row·13 (List._∷_ row·123 (List._∷_
-    row·15 (List._∷_ row·17 (List._∷_ row·101 (List._∷_ row·3 (List._∷_ row·103 (List._∷_ row·5 (List._∷_ row·105 (List._∷_ row·8
+t93 = List._∷_ row·0 (List._∷_ row·107 (List._∷_ row·52 (List._∷_ row·10 (List._∷_ row·11 (List._∷_ row·12 (List._∷_ row·13 (List._∷_ row·133
+    (List._∷_ row·15 (List._∷_ row·17 (List._∷_ row·109 (List._∷_ row·3 (List._∷_ row·111 (List._∷_ row·5 (List._∷_ row·113 (List._∷_ row·8
     List.[])))))))))))))))
 
 abbrev pub t94 : List.List Row.Entry
-t94 = List._∷_ row·0 (List._∷_ row·1 (List._∷_ row·110 (List._∷_ row·10 (List._∷_ row·11 (List._∷_ row·85 (List._∷_ row·13 (List._∷_ row·123 (List._∷_
-    row·15 (List._∷_ row·17 (List._∷_ row·101 (List._∷_ row·3 (List._∷_ row·103 (List._∷_ row·5 (List._∷_ row·105 (List._∷_ row·8
+t94 = List._∷_ row·0 (List._∷_ row·1 (List._∷_ row·119 (List._∷_ row·10 (List._∷_ row·11 (List._∷_ row·12 (List._∷_ row·13 (List._∷_ row·133 (List._∷_
+    row·15 (List._∷_ row·17 (List._∷_ row·109 (List._∷_ row·3 (List._∷_ row·111 (List._∷_ row·5 (List._∷_ row·113 (List._∷_ row·8
     List.[])))))))))))))))
 
 abbrev pub t95 : List.List Row.Entry
-t95 = List._∷_ row·74 (List._∷_ row·75 (List._∷_ row·77 (List._∷_ row·78 (List._∷_ row·118 (List._∷_ row·31 (List._∷_ row·32 (List._∷_ row·34
-    (List._∷_ row·35 (List._∷_ row·38 (List._∷_ row·41 (List._∷_ row·42 (List._∷_ row·43 (List._∷_ row·47 (List._∷_ row·49 (List._∷_ row·50
+t95 = List._∷_ row·0 (List._∷_ row·1 (List._∷_ row·119 (List._∷_ row·10 (List._∷_ row·11 (List._∷_ row·86 (List._∷_ row·13 (List._∷_ row·133 (List._∷_
+    row·15 (List._∷_ row·17 (List._∷_ row·109 (List._∷_ row·3 (List._∷_ row·111 (List._∷_ row·5 (List._∷_ row·113 (List._∷_ row·8
     List.[])))))))))))))))
 
 abbrev pub t96 : List.List Row.Entry
-t96 = List._∷_ row·74 (List._∷_ row·75 (List._∷_ row·77 (List._∷_ row·78 (List._∷_ row·118 (List._∷_ row·31 (List._∷_ row·32 (List._∷_ row·34
-    (List._∷_ row·35 (List._∷_ row·38 (List._∷_ row·41 (List._∷_ row·42 (List._∷_ row·44 (List._∷_ row·46 (List._∷_ row·49 (List._∷_ row·50
+t96 = List._∷_ row·69 (List._∷_ row·72 (List._∷_ row·73 (List._∷_ row·75 (List._∷_ row·76 (List._∷_ row·127 (List._∷_ row·29 (List._∷_ row·30
+    (List._∷_ row·32 (List._∷_ row·33 (List._∷_ row·36 (List._∷_ row·39 (List._∷_ row·40 (List._∷_ row·41 (List._∷_ row·45 (List._∷_ row·47
     List.[])))))))))))))))
 
 abbrev pub t97 : List.List Row.Entry
-t97 = List._∷_ row·0 (List._∷_ row·1 (List._∷_ row·110 (List._∷_ row·10 (List._∷_ row·84 (List._∷_ row·85 (List._∷_ row·13 (List._∷_ row·123 (List._∷_
-    row·15 (List._∷_ row·17 (List._∷_ row·101 (List._∷_ row·3 (List._∷_ row·103 (List._∷_ row·5 (List._∷_ row·105 (List._∷_ row·8
+t97 = List._∷_ row·69 (List._∷_ row·72 (List._∷_ row·73 (List._∷_ row·75 (List._∷_ row·76 (List._∷_ row·127 (List._∷_ row·29 (List._∷_ row·30
+    (List._∷_ row·32 (List._∷_ row·33 (List._∷_ row·36 (List._∷_ row·39 (List._∷_ row·40 (List._∷_ row·42 (List._∷_ row·44 (List._∷_ row·47
     List.[])))))))))))))))
 
 abbrev pub t98 : List.List Row.Entry
-t98 = List._∷_ row·74 (List._∷_ row·75 (List._∷_ row·77 (List._∷_ row·78 (List._∷_ row·118 (List._∷_ row·31 (List._∷_ row·32 (List._∷_ row·34
-    (List._∷_ row·35 (List._∷_ row·38 (List._∷_ row·41 (List._∷_ row·42 (List._∷_ row·44 (List._∷_ row·46 (List._∷_ row·48 (List._∷_ row·50
+t98 = List._∷_ row·0 (List._∷_ row·1 (List._∷_ row·119 (List._∷_ row·10 (List._∷_ row·82 (List._∷_ row·86 (List._∷_ row·13 (List._∷_ row·133 (List._∷_
+    row·15 (List._∷_ row·17 (List._∷_ row·109 (List._∷_ row·3 (List._∷_ row·111 (List._∷_ row·5 (List._∷_ row·113 (List._∷_ row·8
     List.[])))))))))))))))
 
 abbrev pub t99 : List.List Row.Entry
-t99 = List._∷_ row·74 (List._∷_ row·75 (List._∷_ row·77 (List._∷_ row·78 (List._∷_ row·118 (List._∷_ row·31 (List._∷_ row·32 (List._∷_ row·34
-    (List._∷_ row·35 (List._∷_ row·38 (List._∷_ row·41 (List._∷_ row·42 (List._∷_ row·44 (List._∷_ row·46 (List._∷_ row·49 (List._∷_ row·51
+t99 = List._∷_ row·69 (List._∷_ row·72 (List._∷_ row·73 (List._∷_ row·75 (List._∷_ row·76 (List._∷_ row·127 (List._∷_ row·29 (List._∷_ row·30
+    (List._∷_ row·32 (List._∷_ row·33 (List._∷_ row·36 (List._∷_ row·39 (List._∷_ row·40 (List._∷_ row·42 (List._∷_ row·44 (List._∷_ row·46
     List.[])))))))))))))))
 
 abbrev pub t100 : List.List Row.Entry
-t100 = List._∷_ row·74 (List._∷_ row·75 (List._∷_ row·77 (List._∷_ row·78 (List._∷_ row·118 (List._∷_ row·31 (List._∷_ row·32 (List._∷_ row·34
-    (List._∷_ row·35 (List._∷_ row·38 (List._∷_ row·41 (List._∷_ row·121 (List._∷_ row·44 (List._∷_ row·45 (List._∷_ row·49 (List._∷_ row·51
-    List.[])))))))))))))))
+t100 = List._∷_ row·84 (List._∷_ row·85 (List._∷_ row·95 (List._∷_ row·98 List.[])))
 
 abbrev pub t101 : List.List Row.Entry
-t101 = List._∷_ row·74 (List._∷_ row·75 (List._∷_ row·77 (List._∷_ row·78 (List._∷_ row·118 (List._∷_ row·31 (List._∷_ row·32 (List._∷_ row·34
-    (List._∷_ row·35 (List._∷_ row·38 (List._∷_ row·41 (List._∷_ row·121 (List._∷_ row·44 (List._∷_ row·45 (List._∷_ row·49 (List._∷_ row·50
+t101 = List._∷_ row·69 (List._∷_ row·72 (List._∷_ row·73 (List._∷_ row·75 (List._∷_ row·76 (List._∷_ row·127 (List._∷_ row·29 (List._∷_ row·30
+    (List._∷_ row·32 (List._∷_ row·33 (List._∷_ row·36 (List._∷_ row·39 (List._∷_ row·130 (List._∷_ row·42 (List._∷_ row·43 (List._∷_ row·47
     List.[])))))))))))))))
 
 abbrev pub t102 : List.List Row.Entry
-t102 = List._∷_ row·0 (List._∷_ row·1 (List._∷_ row·9 (List._∷_ row·10 (List._∷_ row·84 (List._∷_ row·85 (List._∷_ row·13 (List._∷_ row·123 (List._∷_
-    row·15 (List._∷_ row·17 (List._∷_ row·101 (List._∷_ row·3 (List._∷_ row·103 (List._∷_ row·5 (List._∷_ row·105 (List._∷_ row·8
+t102 = List._∷_ row·0 (List._∷_ row·1 (List._∷_ row·9 (List._∷_ row·10 (List._∷_ row·82 (List._∷_ row·86 (List._∷_ row·13 (List._∷_ row·133 (List._∷_
+    row·15 (List._∷_ row·17 (List._∷_ row·109 (List._∷_ row·3 (List._∷_ row·111 (List._∷_ row·5 (List._∷_ row·113 (List._∷_ row·8
     List.[])))))))))))))))
 
 abbrev pub t103 : List.List Row.Entry
-t103 = List._∷_ row·0 (List._∷_ row·1 (List._∷_ row·9 (List._∷_ row·10 (List._∷_ row·84 (List._∷_ row·12 (List._∷_ row·13 (List._∷_ row·123 (List._∷_
-    row·15 (List._∷_ row·17 (List._∷_ row·101 (List._∷_ row·3 (List._∷_ row·103 (List._∷_ row·5 (List._∷_ row·105 (List._∷_ row·8
+t103 = List._∷_ row·0 (List._∷_ row·1 (List._∷_ row·9 (List._∷_ row·10 (List._∷_ row·82 (List._∷_ row·12 (List._∷_ row·13 (List._∷_ row·133 (List._∷_
+    row·15 (List._∷_ row·17 (List._∷_ row·109 (List._∷_ row·3 (List._∷_ row·111 (List._∷_ row·5 (List._∷_ row·113 (List._∷_ row·8
     List.[])))))))))))))))
 
 abbrev pub t104 : List.List Row.Entry
-t104 = List._∷_ row·74 (List._∷_ row·75 (List._∷_ row·77 (List._∷_ row·78 (List._∷_ row·118 (List._∷_ row·31 (List._∷_ row·32 (List._∷_ row·34
-    (List._∷_ row·35 (List._∷_ row·38 (List._∷_ row·41 (List._∷_ row·121 (List._∷_ row·44 (List._∷_ row·47 (List._∷_ row·49 (List._∷_ row·50
+t104 = List._∷_ row·69 (List._∷_ row·72 (List._∷_ row·73 (List._∷_ row·75 (List._∷_ row·76 (List._∷_ row·127 (List._∷_ row·29 (List._∷_ row·30
+    (List._∷_ row·32 (List._∷_ row·33 (List._∷_ row·36 (List._∷_ row·39 (List._∷_ row·130 (List._∷_ row·42 (List._∷_ row·45 (List._∷_ row·47
     List.[])))))))))))))))
 
 abbrev pub t105 : List.List Row.Entry
-t105 = List._∷_ row·0 (List._∷_ row·1 (List._∷_ row·9 (List._∷_ row·10 (List._∷_ row·11 (List._∷_ row·12 (List._∷_ row·13 (List._∷_ row·123 (List._∷_
-    row·15 (List._∷_ row·17 (List._∷_ row·101 (List._∷_ row·3 (List._∷_ row·103 (List._∷_ row·5 (List._∷_ row·105 (List._∷_ row·8
+t105 = List._∷_ row·0 (List._∷_ row·1 (List._∷_ row·9 (List._∷_ row·10 (List._∷_ row·11 (List._∷_ row·12 (List._∷_ row·13 (List._∷_ row·133 (List._∷_
+    row·15 (List._∷_ row·17 (List._∷_ row·109 (List._∷_ row·3 (List._∷_ row·111 (List._∷_ row·5 (List._∷_ row·113 (List._∷_ row·8
+    List.[])))))))))))))))
+
+abbrev pub t106 : List.List Row.Entry
+t106 = List._∷_ row·0 (List._∷_ row·108 (List._∷_ row·52 (List._∷_ row·10 (List._∷_ row·11 (List._∷_ row·12 (List._∷_ row·13 (List._∷_ row·133
+    (List._∷_ row·15 (List._∷_ row·17 (List._∷_ row·109 (List._∷_ row·3 (List._∷_ row·111 (List._∷_ row·5 (List._∷_ row·113 (List._∷_ row·7
+    List.[])))))))))))))))
+
+abbrev pub t107 : List.List Row.Entry
+t107 = List._∷_ row·116 (List._∷_ row·48 (List._∷_ row·117 (List._∷_ row·51 (List._∷_ row·55 (List._∷_ row·120 (List._∷_ row·57 (List._∷_ row·60
+    (List._∷_ row·61 (List._∷_ row·63 (List._∷_ row·64 (List._∷_ row·123 (List._∷_ row·20 (List._∷_ row·21 (List._∷_ row·23 (List._∷_ row·26
+    List.[])))))))))))))))
+
+abbrev pub t108 : List.List Row.Entry
+t108 = List._∷_ row·0 (List._∷_ row·1 (List._∷_ row·119 (List._∷_ row·10 (List._∷_ row·11 (List._∷_ row·87 (List._∷_ row·13 (List._∷_ row·133
+    (List._∷_ row·15 (List._∷_ row·17 (List._∷_ row·109 (List._∷_ row·3 (List._∷_ row·111 (List._∷_ row·5 (List._∷_ row·113 (List._∷_ row·7
+    List.[])))))))))))))))
+
+abbrev pub t109 : List.List Row.Entry
+t109 = List._∷_ row·83 (List._∷_ row·85 (List._∷_ row·94 (List._∷_ row·98 List.[])))
+
+abbrev pub t110 : List.List Row.Entry
+t110 = List._∷_ row·83 (List._∷_ row·85 (List._∷_ row·95 (List._∷_ row·97 List.[])))
+
+abbrev pub t111 : List.List Row.Entry
+t111 = List._∷_ row·83 (List._∷_ row·131 (List._∷_ row·95 (List._∷_ row·96 List.[])))
+
+abbrev pub t112 : List.List Row.Entry
+t112 = List._∷_ row·0 (List._∷_ row·1 (List._∷_ row·9 (List._∷_ row·10 (List._∷_ row·11 (List._∷_ row·87 (List._∷_ row·13 (List._∷_ row·133 (List._∷_
+    row·15 (List._∷_ row·17 (List._∷_ row·109 (List._∷_ row·3 (List._∷_ row·111 (List._∷_ row·5 (List._∷_ row·113 (List._∷_ row·7
+    List.[])))))))))))))))
+
+abbrev pub t113 : List.List Row.Entry
+t113 = List._∷_ row·83 (List._∷_ row·131 (List._∷_ row·95 (List._∷_ row·98 List.[])))
+
+abbrev pub t114 : List.List Row.Entry
+t114 = List._∷_ row·116 (List._∷_ row·49 (List._∷_ row·117 (List._∷_ row·51 (List._∷_ row·55 (List._∷_ row·120 (List._∷_ row·57 (List._∷_ row·60
+    (List._∷_ row·61 (List._∷_ row·63 (List._∷_ row·64 (List._∷_ row·123 (List._∷_ row·20 (List._∷_ row·21 (List._∷_ row·23 (List._∷_ row·26
     List.[])))))))))))))))
 
 abbrev pub T0 : Row.Cx
-T0 = record { locals = List._++_ t0 (List._++_ t1 t2); slots = List.[] }
+T0 = record { locals = List._++_ t0 (List._++_ t1 (List._++_ t2 t3)); slots = List.[] }
 
 abbrev pub T1 : Row.Cx
-T1 = record { locals = List._++_ t3 (List._++_ t1 t2); slots = List.[] }
+T1 = record { locals = List._++_ t4 (List._++_ t1 (List._++_ t2 t3)); slots = List.[] }
 
 abbrev pub T2 : Row.Cx
-T2 = record { locals = List._++_ t4 (List._++_ t5 t2); slots = List.[] }
+T2 = record { locals = List._++_ t5 (List._++_ t6 (List._++_ t2 t3)); slots = List.[] }
 
 abbrev pub T3 : Row.Cx
-T3 = record { locals = List._++_ t0 (List._++_ t1 t2); slots = List.[] }
+T3 = record { locals = List._++_ t0 (List._++_ t1 (List._++_ t2 t3)); slots = List.[] }
 
 abbrev pub T4 : Row.Cx
-T4 = record { locals = List._++_ t0 (List._++_ t1 t2); slots = List.[] }
+T4 = record { locals = List._++_ t0 (List._++_ t1 (List._++_ t2 t3)); slots = List.[] }
 
 abbrev pub T5 : Row.Cx
-T5 = record { locals = List._++_ t0 (List._++_ t1 t2); slots = List.[] }
+T5 = record { locals = List._++_ t0 (List._++_ t1 (List._++_ t2 t3)); slots = List.[] }
 
 abbrev pub T6 : Row.Cx
-T6 = record { locals = List._++_ t6 (List._++_ t1 t2); slots = List.[] }
+T6 = record { locals = List._++_ t7 (List._++_ t1 (List._++_ t2 t3)); slots = List.[] }
 
 abbrev pub T7 : Row.Cx
-T7 = record { locals = List._++_ t4 (List._++_ t1 t2); slots = List.[] }
+T7 = record { locals = List._++_ t5 (List._++_ t1 (List._++_ t2 t3)); slots = List.[] }
 
 abbrev pub T8 : Row.Cx
-T8 = record { locals = List._++_ t4 (List._++_ t5 t2); slots = List.[] }
+T8 = record { locals = List._++_ t5 (List._++_ t6 (List._++_ t2 t3)); slots = List.[] }
 
 abbrev pub T9 : Row.Cx
-T9 = record { locals = List._++_ t7 (List._++_ t1 t2); slots = List.[] }
+T9 = record { locals = List._++_ t8 (List._++_ t1 (List._++_ t2 t3)); slots = List.[] }
 
 abbrev pub T10 : Row.Cx
-T10 = record { locals = List._++_ t7 (List._++_ t1 t2); slots = List.[] }
+T10 = record { locals = List._++_ t8 (List._++_ t1 (List._++_ t2 t3)); slots = List.[] }
 
 abbrev pub T11 : Row.Cx
-T11 = record { locals = List._++_ t8 (List._++_ t1 t2); slots = List.[] }
+T11 = record { locals = List._++_ t9 (List._++_ t1 (List._++_ t2 t3)); slots = List.[] }
 
 abbrev pub T12 : Row.Cx
-T12 = record { locals = List._++_ t9 (List._++_ t1 t2); slots = List.[] }
+T12 = record { locals = List._++_ t10 (List._++_ t1 (List._++_ t2 t3)); slots = List.[] }
 
 abbrev pub T13 : Row.Cx
-T13 = record { locals = List._++_ t10 (List._++_ t1 t2); slots = List.[] }
+T13 = record { locals = List._++_ t11 (List._++_ t1 (List._++_ t2 t3)); slots = List.[] }
 
 abbrev pub T14 : Row.Cx
-T14 = record { locals = List._++_ t11 (List._++_ t1 t2); slots = List.[] }
+T14 = record { locals = List._++_ t12 (List._++_ t1 (List._++_ t2 t3)); slots = List.[] }
 
 abbrev pub T16 : Row.Cx
-T16 = record { locals = List._++_ t12 (List._++_ t13 t2); slots = List.[] }
+T16 = record { locals = List._++_ t13 (List._++_ t14 (List._++_ t2 t3)); slots = List.[] }
 
 abbrev pub T17 : Row.Cx
-T17 = record { locals = List._++_ t12 (List._++_ t14 t2); slots = List.[] }
+T17 = record { locals = List._++_ t13 (List._++_ t15 (List._++_ t2 t3)); slots = List.[] }
 
 abbrev pub T18 : Row.Cx
-T18 = record { locals = List._++_ t12 (List._++_ t15 t2); slots = List.[] }
+T18 = record { locals = List._++_ t13 (List._++_ t16 (List._++_ t2 t3)); slots = List.[] }
 
 abbrev pub T19 : Row.Cx
-T19 = record { locals = List._++_ t12 (List._++_ t16 t2); slots = List.[] }
+T19 = record { locals = List._++_ t13 (List._++_ t17 (List._++_ t2 t3)); slots = List.[] }
 
 abbrev pub T21 : Row.Cx
-T21 = record { locals = List._++_ t11 (List._++_ t1 t2); slots = List.[] }
+T21 = record { locals = List._++_ t12 (List._++_ t1 (List._++_ t2 t3)); slots = List.[] }
 
 abbrev pub T23 : Row.Cx
-T23 = record { locals = List._++_ t11 (List._++_ t5 t2); slots = List.[] }
+T23 = record { locals = List._++_ t12 (List._++_ t6 (List._++_ t2 t3)); slots = List.[] }
 
 abbrev pub T24 : Row.Cx
-T24 = record { locals = List._++_ t17 (List._++_ t5 t2); slots = List.[] }
+T24 = record { locals = List._++_ t18 (List._++_ t6 (List._++_ t2 t3)); slots = List.[] }
 
 abbrev pub T25 : Row.Cx
-T25 = record { locals = List._++_ t4 (List._++_ t5 t2); slots = List.[] }
+T25 = record { locals = List._++_ t5 (List._++_ t6 (List._++_ t2 t3)); slots = List.[] }
 
 abbrev pub T26 : Row.Cx
-T26 = record { locals = List._++_ t18 (List._++_ t1 t2); slots = List.[] }
+T26 = record { locals = List._++_ t19 (List._++_ t1 (List._++_ t2 t3)); slots = List.[] }
 
 abbrev pub T27 : Row.Cx
-T27 = record { locals = List._++_ t18 (List._++_ t1 t2); slots = List.[] }
+T27 = record { locals = List._++_ t19 (List._++_ t1 (List._++_ t2 t3)); slots = List.[] }
 
 abbrev pub T28 : Row.Cx
-T28 = record { locals = List._++_ t19 (List._++_ t1 t2); slots = List.[] }
+T28 = record { locals = List._++_ t20 (List._++_ t1 (List._++_ t2 t3)); slots = List.[] }
 
 abbrev pub T29 : Row.Cx
-T29 = record { locals = List._++_ t20 (List._++_ t1 t2); slots = List.[] }
+T29 = record { locals = List._++_ t21 (List._++_ t1 (List._++_ t2 t3)); slots = List.[] }
 
 abbrev pub T30 : Row.Cx
-T30 = record { locals = List._++_ t21 (List._++_ t1 t2); slots = List.[] }
+T30 = record { locals = List._++_ t22 (List._++_ t1 (List._++_ t2 t3)); slots = List.[] }
 
 abbrev pub T31 : Row.Cx
-T31 = record { locals = List._++_ t22 (List._++_ t1 t2); slots = List.[] }
+T31 = record { locals = List._++_ t23 (List._++_ t1 (List._++_ t2 t3)); slots = List.[] }
 
 abbrev pub T33 : Row.Cx
-T33 = record { locals = List._++_ t23 (List._++_ t24 t2); slots = List.[] }
+T33 = record { locals = List._++_ t24 (List._++_ t25 (List._++_ t2 t3)); slots = List.[] }
 
 abbrev pub T34 : Row.Cx
-T34 = record { locals = List._++_ t23 (List._++_ t25 t2); slots = List.[] }
+T34 = record { locals = List._++_ t24 (List._++_ t26 (List._++_ t2 t3)); slots = List.[] }
 
 abbrev pub T35 : Row.Cx
-T35 = record { locals = List._++_ t23 (List._++_ t26 t2); slots = List.[] }
+T35 = record { locals = List._++_ t24 (List._++_ t27 (List._++_ t2 t3)); slots = List.[] }
 
 abbrev pub T36 : Row.Cx
-T36 = record { locals = List._++_ t27 (List._++_ t26 t2); slots = List.[] }
+T36 = record { locals = List._++_ t28 (List._++_ t27 (List._++_ t2 t3)); slots = List.[] }
 
 abbrev pub T37 : Row.Cx
-T37 = record { locals = List._++_ t27 (List._++_ t28 t2); slots = List.[] }
+T37 = record { locals = List._++_ t28 (List._++_ t29 (List._++_ t2 t3)); slots = List.[] }
 
 abbrev pub T39 : Row.Cx
-T39 = record { locals = List._++_ t29 (List._++_ t1 t2); slots = List.[] }
+T39 = record { locals = List._++_ t30 (List._++_ t1 (List._++_ t2 t3)); slots = List.[] }
 
 abbrev pub T41 : Row.Cx
-T41 = record { locals = List._++_ t29 (List._++_ t5 t2); slots = List.[] }
+T41 = record { locals = List._++_ t30 (List._++_ t6 (List._++_ t2 t3)); slots = List.[] }
 
 abbrev pub T42 : Row.Cx
-T42 = record { locals = List._++_ t4 (List._++_ t5 t2); slots = List.[] }
+T42 = record { locals = List._++_ t5 (List._++_ t6 (List._++_ t2 t3)); slots = List.[] }
 
 abbrev pub T43 : Row.Cx
-T43 = record { locals = List._++_ t0 (List._++_ t1 t2); slots = List.[] }
+T43 = record { locals = List._++_ t0 (List._++_ t1 (List._++_ t2 t3)); slots = List.[] }
 
 abbrev pub T44 : Row.Cx
-T44 = record { locals = List._++_ t6 (List._++_ t1 t2); slots = List.[] }
+T44 = record { locals = List._++_ t7 (List._++_ t1 (List._++_ t2 t3)); slots = List.[] }
 
 abbrev pub T45 : Row.Cx
-T45 = record { locals = List._++_ t4 (List._++_ t1 t2); slots = List.[] }
+T45 = record { locals = List._++_ t5 (List._++_ t1 (List._++_ t2 t3)); slots = List.[] }
 
 abbrev pub T47 : Row.Cx
-T47 = record { locals = List._++_ t30 (List._++_ t31 t2); slots = List.[] }
+T47 = record { locals = List._++_ t31 (List._++_ t32 (List._++_ t2 t3)); slots = List.[] }
 
 abbrev pub T48 : Row.Cx
-T48 = record { locals = List._++_ t30 (List._++_ t32 t2); slots = List.[] }
+T48 = record { locals = List._++_ t31 (List._++_ t33 (List._++_ t2 t3)); slots = List.[] }
 
 abbrev pub T50 : Row.Cx
-T50 = record { locals = List._++_ t33 (List._++_ t34 t2); slots = List.[] }
+T50 = record { locals = List._++_ t34 (List._++_ t35 (List._++_ t2 t3)); slots = List.[] }
 
 abbrev pub T51 : Row.Cx
-T51 = record { locals = List._++_ t33 (List._++_ t35 t2); slots = List.[] }
+T51 = record { locals = List._++_ t34 (List._++_ t36 (List._++_ t2 t3)); slots = List.[] }
 
 abbrev pub T52 : Row.Cx
-T52 = record { locals = List._++_ t33 (List._++_ t36 t2); slots = List.[] }
+T52 = record { locals = List._++_ t34 (List._++_ t37 (List._++_ t2 t3)); slots = List.[] }
 
 abbrev pub T53 : Row.Cx
-T53 = record { locals = List._++_ t33 (List._++_ t37 t2); slots = List.[] }
+T53 = record { locals = List._++_ t34 (List._++_ t38 (List._++_ t2 t3)); slots = List.[] }
 
 abbrev pub T55 : Row.Cx
-T55 = record { locals = List._++_ t38 (List._++_ t37 t2); slots = List.[] }
+T55 = record { locals = List._++_ t39 (List._++_ t38 (List._++_ t2 t3)); slots = List.[] }
 
 abbrev pub T58 : Row.Cx
-T58 = record { locals = List._++_ t4 (List._++_ t39 t2); slots = List.[] }
+T58 = record { locals = List._++_ t5 (List._++_ t40 (List._++_ t2 t3)); slots = List.[] }
 
 abbrev pub T59 : Row.Cx
-T59 = record { locals = List._++_ t4 (List._++_ t39 t2); slots = List.[] }
+T59 = record { locals = List._++_ t5 (List._++_ t40 (List._++_ t2 t3)); slots = List.[] }
 
 abbrev pub T61 : Row.Cx
-T61 = record { locals = List._++_ t4 (List._++_ t40 t2); slots = List.[] }
+T61 = record { locals = List._++_ t5 (List._++_ t41 (List._++_ t2 t3)); slots = List.[] }
 
 abbrev pub T62 : Row.Cx
-T62 = record { locals = List._++_ t4 (List._++_ t5 t2); slots = List.[] }
+T62 = record { locals = List._++_ t5 (List._++_ t6 (List._++_ t2 t3)); slots = List.[] }
 
 abbrev pub T63 : Row.Cx
-T63 = record { locals = List._++_ t41 (List._++_ t1 t2); slots = List.[] }
+T63 = record { locals = List._++_ t42 (List._++_ t1 (List._++_ t2 t3)); slots = List.[] }
 
 abbrev pub T64 : Row.Cx
-T64 = record { locals = List._++_ t41 (List._++_ t1 t2); slots = List.[] }
+T64 = record { locals = List._++_ t42 (List._++_ t1 (List._++_ t2 t3)); slots = List.[] }
 
 abbrev pub T65 : Row.Cx
-T65 = record { locals = List._++_ t42 (List._++_ t1 t2); slots = List.[] }
+T65 = record { locals = List._++_ t43 (List._++_ t1 (List._++_ t2 t3)); slots = List.[] }
 
 abbrev pub T66 : Row.Cx
-T66 = record { locals = List._++_ t43 (List._++_ t1 t2); slots = List.[] }
+T66 = record { locals = List._++_ t44 (List._++_ t1 (List._++_ t2 t3)); slots = List.[] }
 
 abbrev pub T67 : Row.Cx
-T67 = record { locals = List._++_ t44 (List._++_ t1 t2); slots = List.[] }
+T67 = record { locals = List._++_ t45 (List._++_ t1 (List._++_ t2 t3)); slots = List.[] }
 
 abbrev pub T69 : Row.Cx
-T69 = record { locals = List._++_ t45 (List._++_ t46 t2); slots = List.[] }
+T69 = record { locals = List._++_ t46 (List._++_ t47 (List._++_ t2 t3)); slots = List.[] }
 
 abbrev pub T70 : Row.Cx
-T70 = record { locals = List._++_ t45 (List._++_ t47 t2); slots = List.[] }
+T70 = record { locals = List._++_ t46 (List._++_ t48 (List._++_ t2 t3)); slots = List.[] }
 
 abbrev pub T72 : Row.Cx
-T72 = record { locals = List._++_ t48 (List._++_ t49 t2); slots = List.[] }
+T72 = record { locals = List._++_ t49 (List._++_ t48 (List._++_ t50 t3)); slots = List.[] }
 
 abbrev pub T73 : Row.Cx
-T73 = record { locals = List._++_ t48 (List._++_ t47 t50); slots = List.[] }
+T73 = record { locals = List._++_ t49 (List._++_ t48 (List._++_ t51 t3)); slots = List.[] }
 
 abbrev pub T74 : Row.Cx
-T74 = record { locals = List._++_ t48 (List._++_ t51 t52); slots = List.[] }
+T74 = record { locals = List._++_ t49 (List._++_ t52 (List._++_ t53 t3)); slots = List.[] }
 
 abbrev pub T75 : Row.Cx
-T75 = record { locals = List._++_ t53 (List._++_ t51 t52); slots = List.[] }
+T75 = record { locals = List._++_ t54 (List._++_ t52 (List._++_ t53 t3)); slots = List.[] }
 
 abbrev pub T76 : Row.Cx
-T76 = record { locals = List._++_ t54 (List._++_ t51 t52); slots = List.[] }
+T76 = record { locals = List._++_ t55 (List._++_ t52 (List._++_ t53 t3)); slots = List.[] }
 
 abbrev pub T78 : Row.Cx
-T78 = record { locals = List._++_ t55 (List._++_ t56 t52); slots = List.[] }
+T78 = record { locals = List._++_ t56 (List._++_ t57 (List._++_ t53 t3)); slots = List.[] }
 
 abbrev pub T79 : Row.Cx
-T79 = record { locals = List._++_ t55 (List._++_ t56 t52); slots = List.[] }
+T79 = record { locals = List._++_ t56 (List._++_ t57 (List._++_ t53 t3)); slots = List.[] }
 
 abbrev pub T82 : Row.Cx
-T82 = record { locals = List._++_ t57 (List._++_ t56 t2); slots = List.[] }
+T82 = record { locals = List._++_ t58 (List._++_ t57 (List._++_ t2 t3)); slots = List.[] }
 
 abbrev pub T84 : Row.Cx
-T84 = record { locals = List._++_ t57 (List._++_ t58 t2); slots = List.[] }
+T84 = record { locals = List._++_ t58 (List._++_ t59 (List._++_ t2 t3)); slots = List.[] }
 
 abbrev pub T85 : Row.Cx
-T85 = record { locals = List._++_ t4 (List._++_ t58 t2); slots = List.[] }
+T85 = record { locals = List._++_ t5 (List._++_ t59 (List._++_ t2 t3)); slots = List.[] }
 
 abbrev pub T86 : Row.Cx
-T86 = record { locals = List._++_ t4 (List._++_ t5 t2); slots = List.[] }
+T86 = record { locals = List._++_ t5 (List._++_ t6 (List._++_ t2 t3)); slots = List.[] }
 
 abbrev pub T87 : Row.Cx
-T87 = record { locals = List._++_ t59 (List._++_ t1 t2); slots = List.[] }
+T87 = record { locals = List._++_ t60 (List._++_ t1 (List._++_ t2 t3)); slots = List.[] }
 
 abbrev pub T88 : Row.Cx
-T88 = record { locals = List._++_ t59 (List._++_ t1 t2); slots = List.[] }
+T88 = record { locals = List._++_ t60 (List._++_ t1 (List._++_ t2 t3)); slots = List.[] }
 
 abbrev pub T89 : Row.Cx
-T89 = record { locals = List._++_ t60 (List._++_ t1 t2); slots = List.[] }
+T89 = record { locals = List._++_ t61 (List._++_ t1 (List._++_ t2 t3)); slots = List.[] }
 
 abbrev pub T90 : Row.Cx
-T90 = record { locals = List._++_ t61 (List._++_ t1 t2); slots = List.[] }
+T90 = record { locals = List._++_ t62 (List._++_ t1 (List._++_ t2 t3)); slots = List.[] }
 
 abbrev pub T92 : Row.Cx
-T92 = record { locals = List._++_ t62 (List._++_ t1 t63); slots = List.[] }
+T92 = record { locals = List._++_ t63 (List._++_ t1 (List._++_ t64 t3)); slots = List.[] }
 
 abbrev pub T93 : Row.Cx
-T93 = record { locals = List._++_ t62 (List._++_ t1 t64); slots = List.[] }
+T93 = record { locals = List._++_ t63 (List._++_ t1 (List._++_ t65 t3)); slots = List.[] }
 
 abbrev pub T95 : Row.Cx
-T95 = record { locals = List._++_ t65 (List._++_ t1 t66); slots = List.[] }
+T95 = record { locals = List._++_ t66 (List._++_ t1 (List._++_ t67 t3)); slots = List.[] }
 
 abbrev pub T96 : Row.Cx
-T96 = record { locals = List._++_ t65 (List._++_ t1 t67); slots = List.[] }
+T96 = record { locals = List._++_ t66 (List._++_ t1 (List._++_ t68 t3)); slots = List.[] }
 
 abbrev pub T97 : Row.Cx
-T97 = record { locals = List._++_ t65 (List._++_ t1 t68); slots = List.[] }
+T97 = record { locals = List._++_ t66 (List._++_ t1 (List._++_ t69 t3)); slots = List.[] }
 
 abbrev pub T98 : Row.Cx
-T98 = record { locals = List._++_ t65 (List._++_ t1 t69); slots = List.[] }
+T98 = record { locals = List._++_ t66 (List._++_ t1 (List._++_ t70 t3)); slots = List.[] }
 
 abbrev pub T99 : Row.Cx
-T99 = record { locals = List._++_ t70 (List._++_ t1 t69); slots = List.[] }
+T99 = record { locals = List._++_ t71 (List._++_ t1 (List._++_ t70 t3)); slots = List.[] }
 
 abbrev pub T101 : Row.Cx
-T101 = record { locals = List._++_ t71 (List._++_ t1 t69); slots = List.[] }
+T101 = record { locals = List._++_ t72 (List._++_ t1 (List._++_ t70 t3)); slots = List.[] }
 
 abbrev pub T104 : Row.Cx
-T104 = record { locals = List._++_ t72 (List._++_ t1 t73); slots = List.[] }
+T104 = record { locals = List._++_ t73 (List._++_ t1 (List._++_ t74 t3)); slots = List.[] }
 
 abbrev pub T105 : Row.Cx
-T105 = record { locals = List._++_ t72 (List._++_ t1 t73); slots = List.[] }
+T105 = record { locals = List._++_ t73 (List._++_ t1 (List._++_ t74 t3)); slots = List.[] }
 
 abbrev pub T107 : Row.Cx
-T107 = record { locals = List._++_ t72 (List._++_ t5 t73); slots = List.[] }
+T107 = record { locals = List._++_ t73 (List._++_ t6 (List._++_ t74 t3)); slots = List.[] }
 
 abbrev pub T108 : Row.Cx
-T108 = record { locals = List._++_ t4 (List._++_ t5 t73); slots = List.[] }
+T108 = record { locals = List._++_ t5 (List._++_ t6 (List._++_ t74 t3)); slots = List.[] }
 
 abbrev pub T109 : Row.Cx
-T109 = record { locals = List._++_ t4 (List._++_ t5 t2); slots = List.[] }
+T109 = record { locals = List._++_ t5 (List._++_ t6 (List._++_ t2 t3)); slots = List.[] }
 
 abbrev pub T110 : Row.Cx
-T110 = record { locals = List._++_ t74 (List._++_ t1 t2); slots = List.[] }
+T110 = record { locals = List._++_ t75 (List._++_ t1 (List._++_ t2 t3)); slots = List.[] }
 
 abbrev pub T111 : Row.Cx
-T111 = record { locals = List._++_ t74 (List._++_ t1 t2); slots = List.[] }
+T111 = record { locals = List._++_ t75 (List._++_ t1 (List._++_ t2 t3)); slots = List.[] }
 
 abbrev pub T112 : Row.Cx
-T112 = record { locals = List._++_ t75 (List._++_ t1 t2); slots = List.[] }
+T112 = record { locals = List._++_ t76 (List._++_ t1 (List._++_ t2 t3)); slots = List.[] }
 
 abbrev pub T113 : Row.Cx
-T113 = record { locals = List._++_ t76 (List._++_ t1 t2); slots = List.[] }
+T113 = record { locals = List._++_ t77 (List._++_ t1 (List._++_ t2 t3)); slots = List.[] }
 
 abbrev pub T114 : Row.Cx
-T114 = record { locals = List._++_ t77 (List._++_ t1 t2); slots = List.[] }
+T114 = record { locals = List._++_ t78 (List._++_ t1 (List._++_ t2 t3)); slots = List.[] }
 
 abbrev pub T116 : Row.Cx
-T116 = record { locals = List._++_ t78 (List._++_ t1 t79); slots = List.[] }
+T116 = record { locals = List._++_ t79 (List._++_ t1 (List._++_ t80 t3)); slots = List.[] }
 
 abbrev pub T117 : Row.Cx
-T117 = record { locals = List._++_ t78 (List._++_ t1 t80); slots = List.[] }
+T117 = record { locals = List._++_ t79 (List._++_ t1 (List._++_ t81 t3)); slots = List.[] }
 
 abbrev pub T119 : Row.Cx
-T119 = record { locals = List._++_ t81 (List._++_ t1 t82); slots = List.[] }
+T119 = record { locals = List._++_ t82 (List._++_ t1 (List._++_ t83 t3)); slots = List.[] }
 
 abbrev pub T120 : Row.Cx
-T120 = record { locals = List._++_ t81 (List._++_ t1 t83); slots = List.[] }
+T120 = record { locals = List._++_ t82 (List._++_ t1 (List._++_ t84 t3)); slots = List.[] }
 
 abbrev pub T121 : Row.Cx
-T121 = record { locals = List._++_ t81 (List._++_ t1 t84); slots = List.[] }
+T121 = record { locals = List._++_ t82 (List._++_ t1 (List._++_ t85 t3)); slots = List.[] }
 
 abbrev pub T122 : Row.Cx
-T122 = record { locals = List._++_ t81 (List._++_ t1 t85); slots = List.[] }
+T122 = record { locals = List._++_ t82 (List._++_ t1 (List._++_ t86 t3)); slots = List.[] }
 
 abbrev pub T123 : Row.Cx
-T123 = record { locals = List._++_ t86 (List._++_ t1 t85); slots = List.[] }
+T123 = record { locals = List._++_ t87 (List._++_ t1 (List._++_ t86 t3)); slots = List.[] }
 
 abbrev pub T125 : Row.Cx
-T125 = record { locals = List._++_ t87 (List._++_ t1 t85); slots = List.[] }
+T125 = record { locals = List._++_ t88 (List._++_ t1 (List._++_ t86 t3)); slots = List.[] }
 
 abbrev pub T128 : Row.Cx
-T128 = record { locals = List._++_ t88 (List._++_ t1 t89); slots = List.[] }
+T128 = record { locals = List._++_ t89 (List._++_ t1 (List._++_ t90 t3)); slots = List.[] }
 
 abbrev pub T129 : Row.Cx
-T129 = record { locals = List._++_ t88 (List._++_ t1 t89); slots = List.[] }
+T129 = record { locals = List._++_ t89 (List._++_ t1 (List._++_ t90 t3)); slots = List.[] }
 
 abbrev pub T131 : Row.Cx
-T131 = record { locals = List._++_ t88 (List._++_ t5 t89); slots = List.[] }
+T131 = record { locals = List._++_ t89 (List._++_ t6 (List._++_ t90 t3)); slots = List.[] }
 
 abbrev pub T132 : Row.Cx
-T132 = record { locals = List._++_ t90 (List._++_ t5 t89); slots = List.[] }
+T132 = record { locals = List._++_ t91 (List._++_ t6 (List._++_ t90 t3)); slots = List.[] }
 
 abbrev pub T133 : Row.Cx
-T133 = record { locals = List._++_ t4 (List._++_ t5 t89); slots = List.[] }
+T133 = record { locals = List._++_ t5 (List._++_ t6 (List._++_ t90 t3)); slots = List.[] }
 
 abbrev pub T134 : Row.Cx
-T134 = record { locals = List._++_ t4 (List._++_ t5 t2); slots = List.[] }
+T134 = record { locals = List._++_ t5 (List._++_ t6 (List._++_ t2 t3)); slots = List.[] }
 
 abbrev pub T135 : Row.Cx
-T135 = record { locals = List._++_ t91 (List._++_ t1 t2); slots = List.[] }
+T135 = record { locals = List._++_ t92 (List._++_ t1 (List._++_ t2 t3)); slots = List.[] }
 
 abbrev pub T136 : Row.Cx
-T136 = record { locals = List._++_ t91 (List._++_ t1 t2); slots = List.[] }
+T136 = record { locals = List._++_ t92 (List._++_ t1 (List._++_ t2 t3)); slots = List.[] }
 
 abbrev pub T137 : Row.Cx
-T137 = record { locals = List._++_ t92 (List._++_ t1 t2); slots = List.[] }
+T137 = record { locals = List._++_ t93 (List._++_ t1 (List._++_ t2 t3)); slots = List.[] }
 
 abbrev pub T138 : Row.Cx
-T138 = record { locals = List._++_ t93 (List._++_ t1 t2); slots = List.[] }
+T138 = record { locals = List._++_ t94 (List._++_ t1 (List._++_ t2 t3)); slots = List.[] }
 
 abbrev pub T140 : Row.Cx
-T140 = record { locals = List._++_ t94 (List._++_ t1 t95); slots = List.[] }
+T140 = record { locals = List._++_ t95 (List._++_ t1 (List._++_ t96 t3)); slots = List.[] }
 
 abbrev pub T141 : Row.Cx
-T141 = record { locals = List._++_ t94 (List._++_ t1 t96); slots = List.[] }
+T141 = record { locals = List._++_ t95 (List._++_ t1 (List._++_ t97 t3)); slots = List.[] }
 
 abbrev pub T143 : Row.Cx
-T143 = record { locals = List._++_ t97 (List._++_ t1 t98); slots = List.[] }
+T143 = record { locals = List._++_ t98 (List._++_ t1 (List._++_ t99 t3)); slots = List.[] }
 
 abbrev pub T144 : Row.Cx
-T144 = record { locals = List._++_ t97 (List._++_ t1 t99); slots = List.[] }
+T144 = record { locals = List._++_ t98 (List._++_ t1 (List._++_ t97 t100)); slots = List.[] }
 
 abbrev pub T145 : Row.Cx
-T145 = record { locals = List._++_ t97 (List._++_ t1 t100); slots = List.[] }
+T145 = record { locals = List._++_ t98 (List._++_ t1 (List._++_ t101 t100)); slots = List.[] }
 
 abbrev pub T146 : Row.Cx
-T146 = record { locals = List._++_ t97 (List._++_ t1 t101); slots = List.[] }
+T146 = record { locals = List._++_ t98 (List._++_ t1 (List._++_ t101 t3)); slots = List.[] }
 
 abbrev pub T147 : Row.Cx
-T147 = record { locals = List._++_ t102 (List._++_ t1 t101); slots = List.[] }
+T147 = record { locals = List._++_ t102 (List._++_ t1 (List._++_ t101 t3)); slots = List.[] }
 
 abbrev pub T149 : Row.Cx
-T149 = record { locals = List._++_ t103 (List._++_ t1 t104); slots = List.[] }
+T149 = record { locals = List._++_ t103 (List._++_ t1 (List._++_ t104 t3)); slots = List.[] }
 
 abbrev pub T152 : Row.Cx
-T152 = record { locals = List._++_ t105 (List._++_ t1 t104); slots = List.[] }
+T152 = record { locals = List._++_ t105 (List._++_ t1 (List._++_ t104 t3)); slots = List.[] }
 
 abbrev pub T154 : Row.Cx
-T154 = record { locals = List._++_ t105 (List._++_ t5 t104); slots = List.[] }
+T154 = record { locals = List._++_ t105 (List._++_ t6 (List._++_ t104 t3)); slots = List.[] }
 
 abbrev pub T155 : Row.Cx
-T155 = record { locals = List._++_ t4 (List._++_ t5 t104); slots = List.[] }
+T155 = record { locals = List._++_ t5 (List._++_ t6 (List._++_ t104 t3)); slots = List.[] }
 
 abbrev pub T156 : Row.Cx
-T156 = record { locals = List._++_ t4 (List._++_ t5 t2); slots = List.[] }
+T156 = record { locals = List._++_ t5 (List._++_ t6 (List._++_ t2 t3)); slots = List.[] }
 
 abbrev pub T157 : Row.Cx
-T157 = record { locals = List._++_ t3 (List._++_ t5 t2); slots = List.[] }
+T157 = record { locals = List._++_ t106 (List._++_ t1 (List._++_ t2 t3)); slots = List.[] }
 
 abbrev pub T158 : Row.Cx
-T158 = record { locals = List._++_ t3 (List._++_ t1 t2); slots = List.[] }
+T158 = record { locals = List._++_ t106 (List._++_ t1 (List._++_ t2 t3)); slots = List.[] }
+
+abbrev pub T159 : Row.Cx
+T159 = record { locals = List._++_ t106 (List._++_ t107 (List._++_ t2 t3)); slots = List.[] }
+
+abbrev pub T160 : Row.Cx
+T160 = record { locals = List._++_ t7 (List._++_ t107 (List._++_ t2 t3)); slots = List.[] }
+
+abbrev pub T162 : Row.Cx
+T162 = record { locals = List._++_ t108 (List._++_ t107 (List._++_ t2 t109)); slots = List.[] }
+
+abbrev pub T163 : Row.Cx
+T163 = record { locals = List._++_ t108 (List._++_ t107 (List._++_ t2 t110)); slots = List.[] }
+
+abbrev pub T164 : Row.Cx
+T164 = record { locals = List._++_ t108 (List._++_ t107 (List._++_ t2 t111)); slots = List.[] }
+
+abbrev pub T165 : Row.Cx
+T165 = record { locals = List._++_ t112 (List._++_ t107 (List._++_ t2 t111)); slots = List.[] }
+
+abbrev pub T167 : Row.Cx
+T167 = record { locals = List._++_ t5 (List._++_ t107 (List._++_ t2 t113)); slots = List.[] }
+
+abbrev pub T169 : Row.Cx
+T169 = record { locals = List._++_ t5 (List._++_ t114 (List._++_ t2 t113)); slots = List.[] }
+
+abbrev pub T170 : Row.Cx
+T170 = record { locals = List._++_ t5 (List._++_ t6 (List._++_ t2 t113)); slots = List.[] }
+
+abbrev pub T171 : Row.Cx
+T171 = record { locals = List._++_ t5 (List._++_ t6 (List._++_ t2 t3)); slots = List.[] }
+
+abbrev pub T172 : Row.Cx
+T172 = record { locals = List._++_ t4 (List._++_ t6 (List._++_ t2 t3)); slots = List.[] }
+
+abbrev pub T173 : Row.Cx
+T173 = record { locals = List._++_ t4 (List._++_ t1 (List._++_ t2 t3)); slots = List.[] }
 
 abbrev pub O0 : Typed.Outs
 O0 = record { next = Option.none; exits = List.[]; returns = Option.some T1 }
@@ -2237,7 +2420,7 @@ module _ (claims· : Claims) where
   s4 = Scalar.n-room T6 2 ty0·8
 
   abbrev s5 : Typed.Mo T7 → Typed.Mo T8
-  s5 = Make.n-enum-make Given.the-type T7 16 λ m. Given.enum .make (Logic.inl tt)
+  s5 = Make.n-enum-make Given.the-type T7 17 λ m. Given.enum .make (Logic.inl tt)
 
   abbrev s6 : Typed.Both T4 T9
   s6 = Known.k-enum-known Call.enum 1 T4 1 λ x. x
@@ -2259,34 +2442,34 @@ module _ (claims· : Claims) where
   s11 = Scalar.n-room T13 1 ty4·0
 
   abbrev s13 : Typed.Gives T14 T16
-  s13 = Relend.k-sl-relend (Record.the-row) T14 5 18 2 3 (Syntax.tyRef (Syntax.named 2) Syntax.mut (Memory·.pointee (Record.the-row .written)))
+  s13 = Relend.k-sl-relend (Record.the-row) T14 5 19 2 3 (Syntax.tyRef (Syntax.named 2) Syntax.mut (Memory·.pointee (Record.the-row .written)))
       (Syntax.tyRef Syntax.erased Syntax.mut (Memory·.pointee (Record.the-row .written))) Row.off λ x. x
 
   abbrev s14 : Typed.Asks T16 T17
-  s14 = Relend.k-sl-aggregate (Record.the-row) (Relend.asMut (Record.the-row)) T16 18 19 3 (Syntax.tyRef Syntax.erased Syntax.mut (Memory·.pointee
+  s14 = Relend.k-sl-aggregate (Record.the-row) (Relend.asMut (Record.the-row)) T16 19 20 3 (Syntax.tyRef Syntax.erased Syntax.mut (Memory·.pointee
       (Record.the-row .written))) (Syntax.tyRef Syntax.erased Syntax.mut (Memory·.pointee (Record.the-row .written))) (λ x. x) (Scalar.oFld 5
       (List._∷_ (Syntax.field 1) List.[]) (Syntax.tyInt Syntax.w64) 8 λ v. Shared.lenV (v .0))
 
   abbrev s15 : Typed.Both T17 T18
   s15 = Call'.callB ps·0 r·0 (claims· .0) (claims· .1) T17 (
     record {
-      pos = 19;
+      pos = 20;
       ty = Syntax.tyRef Syntax.erased Syntax.mut (Memory·.pointee
           (Record.the-row .written));
       ref = λ x. x;
     },
     tt,
-  ) 17 (List._∷_ 3 List.[]) Syntax.tyUnit
+  ) 18 (List._∷_ 3 List.[]) Syntax.tyUnit
 
   abbrev s16 : Typed.Mo T18 → Typed.Mo T19
-  s16 = Scalar.n-room T18 17 Syntax.tyUnit
+  s16 = Scalar.n-room T18 18 Syntax.tyUnit
 
   abbrev s18 : Typed.Both T19 T21
-  s18 = Relend.k-back-sl (Record.the-row) T19 19 5 2 3 (Syntax.tyRef (Syntax.named 2) Syntax.mut (Memory·.pointee (Record.the-row .written)))
+  s18 = Relend.k-back-sl (Record.the-row) T19 20 5 2 3 (Syntax.tyRef (Syntax.named 2) Syntax.mut (Memory·.pointee (Record.the-row .written)))
       (Syntax.tyRef Syntax.erased Syntax.mut (Memory·.pointee (Record.the-row .written))) Row.off (λ x. x) λ x. x
 
   abbrev s20 : Typed.Mo T21 → Typed.Mo T23
-  s20 = Make.n-enum-make Given.the-type T21 16 λ m. Given.enum .make (Logic.inr (Logic.inl (
+  s20 = Make.n-enum-make Given.the-type T21 17 λ m. Given.enum .make (Logic.inr (Logic.inl (
     m .1 .1 .1 .1 .1 .1 .0,
     (m .1 .1 .1 .1 .1 .1 .1 .0, tt),
   )))
@@ -2317,38 +2500,38 @@ module _ (claims· : Claims) where
   s28 = Scalar.n-room T30 1 ty4·0
 
   abbrev s30 : Typed.Gives T31 T33
-  s30 = Relend.k-sl-relend (Record.the-row) T31 5 21 2 4 (Syntax.tyRef (Syntax.named 2) Syntax.mut (Memory·.pointee (Record.the-row .written)))
+  s30 = Relend.k-sl-relend (Record.the-row) T31 5 22 2 4 (Syntax.tyRef (Syntax.named 2) Syntax.mut (Memory·.pointee (Record.the-row .written)))
       (Syntax.tyRef Syntax.erased Syntax.mut (Memory·.pointee (Record.the-row .written))) Row.off λ x. x
 
   abbrev s31 : Typed.Asks T33 T34
-  s31 = Relend.k-sl-aggregate (Record.the-row) (Relend.asMut (Record.the-row)) T33 21 22 4 (Syntax.tyRef Syntax.erased Syntax.mut (Memory·.pointee
+  s31 = Relend.k-sl-aggregate (Record.the-row) (Relend.asMut (Record.the-row)) T33 22 23 4 (Syntax.tyRef Syntax.erased Syntax.mut (Memory·.pointee
       (Record.the-row .written))) (Syntax.tyRef Syntax.erased Syntax.mut (Memory·.pointee (Record.the-row .written))) (λ x. x) (Scalar.oFld 5
       (List._∷_ (Syntax.field 1) List.[]) (Syntax.tyInt Syntax.w64) 8 λ v. Shared.lenV (v .0))
 
   abbrev s32 : Typed.Both T34 T35
   s32 = Call'.callB ps·1 r·1 (claims· .2) (claims· .3) T34 (
     record {
-      pos = 22;
+      pos = 23;
       ty = Syntax.tyRef Syntax.erased Syntax.mut (Memory·.pointee
           (Record.the-row .written));
       ref = λ x. x;
     },
     (Num.vAt 8 λ x. x, (record { pos = 9; st = List.[]; d = 0; at = λ x. x }, tt)),
-  ) 20 (List._∷_ 4
+  ) 21 (List._∷_ 4
       List.[]) Syntax.tyUnit
 
   abbrev s33 : Typed.Mo T35 → Typed.Mo T36
   s33 = Scalar.n-room T35 9 ty1·1
 
   abbrev s34 : Typed.Mo T36 → Typed.Mo T37
-  s34 = Scalar.n-room T36 20 Syntax.tyUnit
+  s34 = Scalar.n-room T36 21 Syntax.tyUnit
 
   abbrev s36 : Typed.Both T37 T39
-  s36 = Relend.k-back-sl (Record.the-row) T37 22 5 2 4 (Syntax.tyRef (Syntax.named 2) Syntax.mut (Memory·.pointee (Record.the-row .written)))
+  s36 = Relend.k-back-sl (Record.the-row) T37 23 5 2 4 (Syntax.tyRef (Syntax.named 2) Syntax.mut (Memory·.pointee (Record.the-row .written)))
       (Syntax.tyRef Syntax.erased Syntax.mut (Memory·.pointee (Record.the-row .written))) Row.off (λ x. x) λ x. x
 
   abbrev s38 : Typed.Mo T39 → Typed.Mo T41
-  s38 = Make.n-enum-make Given.the-type T39 16 λ m. Given.enum .make (Logic.inl tt)
+  s38 = Make.n-enum-make Given.the-type T39 17 λ m. Given.enum .make (Logic.inl tt)
 
   abbrev s39 : Typed.Mo T41 → Typed.Mo T42
   s39 = Scalar.n-room T41 8 (Syntax.tyInt Syntax.w64)
@@ -2363,65 +2546,65 @@ module _ (claims· : Claims) where
   s42 = Scalar.n-room T44 2 ty0·8
 
   abbrev s44 : Typed.Gives T45 T47
-  s44 = Reshare.k-sl-reshare (Record.the-row) T45 5 24 2 5 (Syntax.tyRef (Syntax.named 2) Syntax.mut (Memory·.pointee (Record.the-row .written)))
+  s44 = Reshare.k-sl-reshare (Record.the-row) T45 5 25 2 5 (Syntax.tyRef (Syntax.named 2) Syntax.mut (Memory·.pointee (Record.the-row .written)))
       (Syntax.tyRef Syntax.erased Syntax.imm (Memory·.pointee (Record.the-row .written))) Row.off λ x. x
 
   abbrev s45 : Typed.Asks T47 T48
-  s45 = Relend.k-sl-aggregate (Record.the-row) (Relend.asShr (Record.the-row)) T47 24 25 5 (Syntax.tyRef Syntax.erased Syntax.imm (Memory·.pointee
+  s45 = Relend.k-sl-aggregate (Record.the-row) (Relend.asShr (Record.the-row)) T47 25 26 5 (Syntax.tyRef Syntax.erased Syntax.imm (Memory·.pointee
       (Record.the-row .written))) (Syntax.tyRef Syntax.erased Syntax.imm (Memory·.pointee (Record.the-row .written))) (λ x. x) (Scalar.oFld 5
       (List._∷_ (Syntax.field 1) List.[]) (Syntax.tyInt Syntax.w64) 8 λ v. Shared.lenV (v .0))
 
   abbrev s47 : Typed.Gives T48 T50
-  s47 = Relend.k-sl-relend (Referent.rtF (Referent.fInt Syntax.w8)) T48 4 26 1 6 (Syntax.tyRef (Syntax.named 1) Syntax.mut (Syntax.tyInt Syntax.w8))
+  s47 = Relend.k-sl-relend (Referent.rtF (Referent.fInt Syntax.w8)) T48 4 27 1 6 (Syntax.tyRef (Syntax.named 1) Syntax.mut (Syntax.tyInt Syntax.w8))
       (Syntax.tyRef Syntax.erased Syntax.mut (Syntax.tyInt Syntax.w8)) Row.off λ x. x
 
   abbrev s48 : Typed.Asks T50 T51
-  s48 = Relend.k-sl-aggregate (Referent.rtF (Referent.fInt Syntax.w8)) (Relend.asMut (Referent.rtF (Referent.fInt Syntax.w8))) T50 26 27 6
+  s48 = Relend.k-sl-aggregate (Referent.rtF (Referent.fInt Syntax.w8)) (Relend.asMut (Referent.rtF (Referent.fInt Syntax.w8))) T50 27 28 6
       (Syntax.tyRef Syntax.erased Syntax.mut (Syntax.tyInt Syntax.w8)) (Syntax.tyRef Syntax.erased Syntax.mut (Syntax.tyInt Syntax.w8)) (λ x. x)
       (Scalar.oFld 4 (List._∷_ (Syntax.field 1) List.[]) (Syntax.tyInt Syntax.w64) 8 λ v. Shared.lenV (v .0))
 
   abbrev s49 : Typed.Both T51 T52
   s49 = Call'.callB ps·2 r·2 (claims· .4) (claims· .5) T51 (
     record {
-      pos = 25;
+      pos = 26;
       ty = Syntax.tyRef Syntax.erased Syntax.imm (Memory·.pointee
           (Record.the-row .written));
       ref = λ x. x;
     },
     (
       record {
-        pos = 27;
+        pos = 28;
         ty = Syntax.tyRef Syntax.erased Syntax.mut (Syntax.tyInt Syntax.w8);
         ref = λ
             x. x;
       },
       tt,
     ),
-  ) 23 (List._∷_ 5 (List._∷_ 6 List.[])) ty0·10
+  ) 24 (List._∷_ 5 (List._∷_ 6 List.[])) ty0·10
 
   abbrev s50 : Typed.Mo T52 → Typed.Mo T53
-  s50 = Scalar.n-room T52 25 ty0·11
+  s50 = Scalar.n-room T52 26 ty0·11
 
   abbrev s52 : Typed.Mo T53 → Typed.Mo T55
   s52 = Reshare.n-back-sl-shr (Record.the-row) T53 5 2 5 (Syntax.tyRef (Syntax.named 2) Syntax.mut (Memory·.pointee (Record.the-row .written)))
       Row.off λ x. x
 
   abbrev s55 : Typed.Both T55 T58
-  s55 = Relend.k-back-sl (Referent.rtF (Referent.fInt Syntax.w8)) T55 27 4 1 6 (Syntax.tyRef (Syntax.named 1) Syntax.mut (Syntax.tyInt Syntax.w8))
+  s55 = Relend.k-back-sl (Referent.rtF (Referent.fInt Syntax.w8)) T55 28 4 1 6 (Syntax.tyRef (Syntax.named 1) Syntax.mut (Syntax.tyInt Syntax.w8))
       (Syntax.tyRef Syntax.erased Syntax.mut (Syntax.tyInt Syntax.w8)) Row.off (λ x. x) λ x. x
 
   abbrev s56 : Typed.Gives T58 T59
   s56 = Know.k-sl-known (Referent.fInt Syntax.w8) T58 4 1 (Syntax.tyRef (Syntax.named 1) Syntax.mut (Syntax.tyInt Syntax.w8)) Row.off 0 λ x. x
 
   abbrev s58 : Typed.Mo T59 → Typed.Mo T61
-  s58 = Make.n-enum-make Given.the-type T59 16 λ m. Given.enum .make (Logic.inr (Logic.inr (Logic.inr (Logic.inl (
+  s58 = Make.n-enum-make Given.the-type T59 17 λ m. Given.enum .make (Logic.inr (Logic.inr (Logic.inr (Logic.inl (
     m .1 .1 .1 .1 .1 .1 .1 .1 .1 .1 .1
-        .1 .1 .1 .1 .1 .1 .1 .1 .1 .1 .1 .1 .0,
+        .1 .1 .1 .1 .1 .1 .1 .1 .1 .1 .1 .1 .1 .0,
     tt,
   )))))
 
   abbrev s59 : Typed.Mo T61 → Typed.Mo T62
-  s59 = Scalar.n-room T61 23 ty0·10
+  s59 = Scalar.n-room T61 24 ty0·10
 
   abbrev s60 : Typed.Both T4 T63
   s60 = Known.k-enum-known Call.enum 4 T4 1 λ x. x
@@ -2440,27 +2623,27 @@ module _ (claims· : Claims) where
   s64 = Scalar.n-room T66 1 ty4·0
 
   abbrev s66 : Typed.Gives T67 T69
-  s66 = Relend.k-sl-relend (Referent.rtF (Referent.fInt Syntax.w8)) T67 3 29 0 7 (Syntax.tyRef (Syntax.named 0) Syntax.mut (Syntax.tyInt Syntax.w8))
+  s66 = Relend.k-sl-relend (Referent.rtF (Referent.fInt Syntax.w8)) T67 3 30 0 7 (Syntax.tyRef (Syntax.named 0) Syntax.mut (Syntax.tyInt Syntax.w8))
       (Syntax.tyRef Syntax.erased Syntax.mut (Syntax.tyInt Syntax.w8)) Row.off λ x. x
 
   abbrev s67 : Typed.Asks T69 T70
-  s67 = Relend.k-sl-aggregate (Referent.rtF (Referent.fInt Syntax.w8)) (Relend.asMut (Referent.rtF (Referent.fInt Syntax.w8))) T69 29 30 7
+  s67 = Relend.k-sl-aggregate (Referent.rtF (Referent.fInt Syntax.w8)) (Relend.asMut (Referent.rtF (Referent.fInt Syntax.w8))) T69 30 31 7
       (Syntax.tyRef Syntax.erased Syntax.mut (Syntax.tyInt Syntax.w8)) (Syntax.tyRef Syntax.erased Syntax.mut (Syntax.tyInt Syntax.w8)) (λ x. x)
       (Scalar.oFld 3 (List._∷_ (Syntax.field 1) List.[]) (Syntax.tyInt Syntax.w64) 8 λ v. Shared.lenV (v .0))
 
   abbrev s69 : Typed.Gives T70 T72
-  s69 = Relend.k-sl-relend (Record.the-row) T70 5 31 2 8 (Syntax.tyRef (Syntax.named 2) Syntax.mut (Memory·.pointee (Record.the-row .written)))
+  s69 = Relend.k-sl-relend (Record.the-row) T70 5 32 2 8 (Syntax.tyRef (Syntax.named 2) Syntax.mut (Memory·.pointee (Record.the-row .written)))
       (Syntax.tyRef Syntax.erased Syntax.mut (Memory·.pointee (Record.the-row .written))) Row.off λ x. x
 
   abbrev s70 : Typed.Asks T72 T73
-  s70 = Relend.k-sl-aggregate (Record.the-row) (Relend.asMut (Record.the-row)) T72 31 32 8 (Syntax.tyRef Syntax.erased Syntax.mut (Memory·.pointee
+  s70 = Relend.k-sl-aggregate (Record.the-row) (Relend.asMut (Record.the-row)) T72 32 33 8 (Syntax.tyRef Syntax.erased Syntax.mut (Memory·.pointee
       (Record.the-row .written))) (Syntax.tyRef Syntax.erased Syntax.mut (Memory·.pointee (Record.the-row .written))) (λ x. x) (Scalar.oFld 5
       (List._∷_ (Syntax.field 1) List.[]) (Syntax.tyInt Syntax.w64) 8 λ v. Shared.lenV (v .0))
 
   abbrev s71 : Typed.Both T73 T74
   s71 = Call'.callB ps·3 r·3 (claims· .6) (claims· .7) T73 (
     record {
-      pos = 30;
+      pos = 31;
       ty = Syntax.tyRef Syntax.erased Syntax.mut (Syntax.tyInt Syntax.w8);
       ref = λ x. x;
     },
@@ -2468,7 +2651,7 @@ module _ (claims· : Claims) where
       record { pos = 2; st = List.[]; d = 0; at = λ x. x },
       (
         record {
-          pos = 32;
+          pos = 33;
           ty = Syntax.tyRef Syntax.erased Syntax.mut
               (Memory·.pointee (Record.the-row .written));
           ref = λ x. x;
@@ -2476,7 +2659,7 @@ module _ (claims· : Claims) where
         (Num.vAt 10 λ x. x, (record { pos = 11; st = List.[]; d = 0; at = λ x. x }, tt)),
       ),
     ),
-  ) 28 (List._∷_ 7 (List._∷_ 8 List.[])) ty1·2
+  ) 29 (List._∷_ 7 (List._∷_ 8 List.[])) ty1·2
 
   abbrev s72 : Typed.Mo T74 → Typed.Mo T75
   s72 = Scalar.n-room T74 2 ty0·8
@@ -2485,20 +2668,20 @@ module _ (claims· : Claims) where
   s73 = Scalar.n-room T75 11 ty3·0
 
   abbrev s75 : Typed.Both T76 T78
-  s75 = Relend.k-back-sl (Referent.rtF (Referent.fInt Syntax.w8)) T76 30 3 0 7 (Syntax.tyRef (Syntax.named 0) Syntax.mut (Syntax.tyInt Syntax.w8))
+  s75 = Relend.k-back-sl (Referent.rtF (Referent.fInt Syntax.w8)) T76 31 3 0 7 (Syntax.tyRef (Syntax.named 0) Syntax.mut (Syntax.tyInt Syntax.w8))
       (Syntax.tyRef Syntax.erased Syntax.mut (Syntax.tyInt Syntax.w8)) Row.off (λ x. x) λ x. x
 
   abbrev s76 : Typed.Gives T78 T79
   s76 = Know.k-sl-known (Referent.fInt Syntax.w8) T78 3 0 (Syntax.tyRef (Syntax.named 0) Syntax.mut (Syntax.tyInt Syntax.w8)) Row.off 0 λ x. x
 
   abbrev s79 : Typed.Both T79 T82
-  s79 = Relend.k-back-sl (Record.the-row) T79 32 5 2 8 (Syntax.tyRef (Syntax.named 2) Syntax.mut (Memory·.pointee (Record.the-row .written)))
+  s79 = Relend.k-back-sl (Record.the-row) T79 33 5 2 8 (Syntax.tyRef (Syntax.named 2) Syntax.mut (Memory·.pointee (Record.the-row .written)))
       (Syntax.tyRef Syntax.erased Syntax.mut (Memory·.pointee (Record.the-row .written))) Row.off (λ x. x) λ x. x
 
   abbrev s81 : Typed.Mo T82 → Typed.Mo T84
-  s81 = Make.n-enum-make Given.the-type T82 16 λ m. Given.enum .make (Logic.inr (Logic.inr (Logic.inl (
+  s81 = Make.n-enum-make Given.the-type T82 17 λ m. Given.enum .make (Logic.inr (Logic.inr (Logic.inl (
     m .1 .1 .1 .1 .1 .1 .1 .1 .1 .1 .1 .1 .1 .1 .1
-        .1 .1 .1 .1 .1 .1 .1 .1 .1 .1 .1 .1 .1 .0,
+        .1 .1 .1 .1 .1 .1 .1 .1 .1 .1 .1 .1 .1 .1 .0,
     tt,
   ))))
 
@@ -2506,7 +2689,7 @@ module _ (claims· : Claims) where
   s82 = Scalar.n-room T84 10 (Syntax.tyInt Syntax.w64)
 
   abbrev s83 : Typed.Mo T85 → Typed.Mo T86
-  s83 = Scalar.n-room T85 28 ty1·2
+  s83 = Scalar.n-room T85 29 ty1·2
 
   abbrev s84 : Typed.Both T4 T87
   s84 = Known.k-enum-known Call.enum 5 T4 1 λ x. x
@@ -2522,20 +2705,20 @@ module _ (claims· : Claims) where
   s87 = Scalar.n-room T89 1 ty4·0
 
   abbrev s89 : Typed.Gives T90 T92
-  s89 = Reshare.k-sl-reshare (Record.the-row) T90 5 34 2 9 (Syntax.tyRef (Syntax.named 2) Syntax.mut (Memory·.pointee (Record.the-row .written)))
+  s89 = Reshare.k-sl-reshare (Record.the-row) T90 5 35 2 9 (Syntax.tyRef (Syntax.named 2) Syntax.mut (Memory·.pointee (Record.the-row .written)))
       (Syntax.tyRef Syntax.erased Syntax.imm (Memory·.pointee (Record.the-row .written))) Row.off λ x. x
 
   abbrev s90 : Typed.Asks T92 T93
-  s90 = Relend.k-sl-aggregate (Record.the-row) (Relend.asShr (Record.the-row)) T92 34 35 9 (Syntax.tyRef Syntax.erased Syntax.imm (Memory·.pointee
+  s90 = Relend.k-sl-aggregate (Record.the-row) (Relend.asShr (Record.the-row)) T92 35 36 9 (Syntax.tyRef Syntax.erased Syntax.imm (Memory·.pointee
       (Record.the-row .written))) (Syntax.tyRef Syntax.erased Syntax.imm (Memory·.pointee (Record.the-row .written))) (λ x. x) (Scalar.oFld 5
       (List._∷_ (Syntax.field 1) List.[]) (Syntax.tyInt Syntax.w64) 8 λ v. Shared.lenV (v .0))
 
   abbrev s92 : Typed.Gives T93 T95
-  s92 = Relend.k-sl-relend (Referent.rtF (Referent.fInt Syntax.w8)) T93 4 36 1 10 (Syntax.tyRef (Syntax.named 1) Syntax.mut (Syntax.tyInt Syntax.w8))
+  s92 = Relend.k-sl-relend (Referent.rtF (Referent.fInt Syntax.w8)) T93 4 37 1 10 (Syntax.tyRef (Syntax.named 1) Syntax.mut (Syntax.tyInt Syntax.w8))
       (Syntax.tyRef Syntax.erased Syntax.mut (Syntax.tyInt Syntax.w8)) Row.off λ x. x
 
   abbrev s93 : Typed.Asks T95 T96
-  s93 = Relend.k-sl-aggregate (Referent.rtF (Referent.fInt Syntax.w8)) (Relend.asMut (Referent.rtF (Referent.fInt Syntax.w8))) T95 36 37 10
+  s93 = Relend.k-sl-aggregate (Referent.rtF (Referent.fInt Syntax.w8)) (Relend.asMut (Referent.rtF (Referent.fInt Syntax.w8))) T95 37 38 10
       (Syntax.tyRef Syntax.erased Syntax.mut (Syntax.tyInt Syntax.w8)) (Syntax.tyRef Syntax.erased Syntax.mut (Syntax.tyInt Syntax.w8)) (λ x. x)
       (Scalar.oFld 4 (List._∷_ (Syntax.field 1) List.[]) (Syntax.tyInt Syntax.w64) 8 λ v. Shared.lenV (v .0))
 
@@ -2544,7 +2727,7 @@ module _ (claims· : Claims) where
     record { pos = 2; st = List.[]; d = 0; at = λ x. x },
     (
       record {
-        pos = 35;
+        pos = 36;
         ty =
             Syntax.tyRef Syntax.erased Syntax.imm (Memory·.pointee (Record.the-row .written));
         ref = λ x. x;
@@ -2553,7 +2736,7 @@ module _ (claims· : Claims) where
         Num.vAt 12 λ x. x,
         (
           record {
-            pos = 37;
+            pos = 38;
             ty
                 = Syntax.tyRef Syntax.erased Syntax.mut (Syntax.tyInt Syntax.w8);
             ref = λ x. x;
@@ -2562,10 +2745,10 @@ module _ (claims· : Claims) where
         ),
       ),
     ),
-  ) 33 (List._∷_ 9 (List._∷_ 10 List.[])) ty0·10
+  ) 34 (List._∷_ 9 (List._∷_ 10 List.[])) ty0·10
 
   abbrev s95 : Typed.Mo T97 → Typed.Mo T98
-  s95 = Scalar.n-room T97 35 ty0·11
+  s95 = Scalar.n-room T97 36 ty0·11
 
   abbrev s96 : Typed.Mo T98 → Typed.Mo T99
   s96 = Scalar.n-room T98 2 ty0·8
@@ -2575,16 +2758,16 @@ module _ (claims· : Claims) where
       Row.off λ x. x
 
   abbrev s101 : Typed.Both T101 T104
-  s101 = Relend.k-back-sl (Referent.rtF (Referent.fInt Syntax.w8)) T101 37 4 1 10 (Syntax.tyRef (Syntax.named 1) Syntax.mut (Syntax.tyInt Syntax.w8))
+  s101 = Relend.k-back-sl (Referent.rtF (Referent.fInt Syntax.w8)) T101 38 4 1 10 (Syntax.tyRef (Syntax.named 1) Syntax.mut (Syntax.tyInt Syntax.w8))
       (Syntax.tyRef Syntax.erased Syntax.mut (Syntax.tyInt Syntax.w8)) Row.off (λ x. x) λ x. x
 
   abbrev s102 : Typed.Gives T104 T105
   s102 = Know.k-sl-known (Referent.fInt Syntax.w8) T104 4 1 (Syntax.tyRef (Syntax.named 1) Syntax.mut (Syntax.tyInt Syntax.w8)) Row.off 0 λ x. x
 
   abbrev s104 : Typed.Mo T105 → Typed.Mo T107
-  s104 = Make.n-enum-make Given.the-type T105 16 λ m. Given.enum .make (Logic.inr (Logic.inr (Logic.inr (Logic.inl (
+  s104 = Make.n-enum-make Given.the-type T105 17 λ m. Given.enum .make (Logic.inr (Logic.inr (Logic.inr (Logic.inl (
     m .1 .1 .1 .1 .1 .1 .1 .1 .1 .1
-        .1 .1 .1 .1 .1 .1 .1 .1 .1 .1 .1 .1 .1 .1 .1 .1 .1 .1 .1 .1 .1 .1 .1 .0,
+        .1 .1 .1 .1 .1 .1 .1 .1 .1 .1 .1 .1 .1 .1 .1 .1 .1 .1 .1 .1 .1 .1 .1 .1 .0,
     tt,
   )))))
 
@@ -2592,7 +2775,7 @@ module _ (claims· : Claims) where
   s105 = Scalar.n-room T107 12 (Syntax.tyInt Syntax.w64)
 
   abbrev s106 : Typed.Mo T108 → Typed.Mo T109
-  s106 = Scalar.n-room T108 33 ty0·10
+  s106 = Scalar.n-room T108 34 ty0·10
 
   abbrev s107 : Typed.Both T4 T110
   s107 = Known.k-enum-known Call.enum 6 T4 1 λ x. x
@@ -2612,20 +2795,20 @@ module _ (claims· : Claims) where
   s111 = Scalar.n-room T113 1 ty4·0
 
   abbrev s113 : Typed.Gives T114 T116
-  s113 = Reshare.k-sl-reshare (Record.the-row) T114 5 39 2 11 (Syntax.tyRef (Syntax.named 2) Syntax.mut (Memory·.pointee (Record.the-row .written)))
+  s113 = Reshare.k-sl-reshare (Record.the-row) T114 5 40 2 11 (Syntax.tyRef (Syntax.named 2) Syntax.mut (Memory·.pointee (Record.the-row .written)))
       (Syntax.tyRef Syntax.erased Syntax.imm (Memory·.pointee (Record.the-row .written))) Row.off λ x. x
 
   abbrev s114 : Typed.Asks T116 T117
-  s114 = Relend.k-sl-aggregate (Record.the-row) (Relend.asShr (Record.the-row)) T116 39 40 11 (Syntax.tyRef Syntax.erased Syntax.imm (Memory·.pointee
+  s114 = Relend.k-sl-aggregate (Record.the-row) (Relend.asShr (Record.the-row)) T116 40 41 11 (Syntax.tyRef Syntax.erased Syntax.imm (Memory·.pointee
       (Record.the-row .written))) (Syntax.tyRef Syntax.erased Syntax.imm (Memory·.pointee (Record.the-row .written))) (λ x. x) (Scalar.oFld 5
       (List._∷_ (Syntax.field 1) List.[]) (Syntax.tyInt Syntax.w64) 8 λ v. Shared.lenV (v .0))
 
   abbrev s116 : Typed.Gives T117 T119
-  s116 = Relend.k-sl-relend (Referent.rtF (Referent.fInt Syntax.w8)) T117 4 41 1 12 (Syntax.tyRef (Syntax.named 1) Syntax.mut (Syntax.tyInt
+  s116 = Relend.k-sl-relend (Referent.rtF (Referent.fInt Syntax.w8)) T117 4 42 1 12 (Syntax.tyRef (Syntax.named 1) Syntax.mut (Syntax.tyInt
       Syntax.w8)) (Syntax.tyRef Syntax.erased Syntax.mut (Syntax.tyInt Syntax.w8)) Row.off λ x. x
 
   abbrev s117 : Typed.Asks T119 T120
-  s117 = Relend.k-sl-aggregate (Referent.rtF (Referent.fInt Syntax.w8)) (Relend.asMut (Referent.rtF (Referent.fInt Syntax.w8))) T119 41 42 12
+  s117 = Relend.k-sl-aggregate (Referent.rtF (Referent.fInt Syntax.w8)) (Relend.asMut (Referent.rtF (Referent.fInt Syntax.w8))) T119 42 43 12
       (Syntax.tyRef Syntax.erased Syntax.mut (Syntax.tyInt Syntax.w8)) (Syntax.tyRef Syntax.erased Syntax.mut (Syntax.tyInt Syntax.w8)) (λ x. x)
       (Scalar.oFld 4 (List._∷_ (Syntax.field 1) List.[]) (Syntax.tyInt Syntax.w64) 8 λ v. Shared.lenV (v .0))
 
@@ -2636,7 +2819,7 @@ module _ (claims· : Claims) where
       record { pos = 2; st = List.[]; d = 0; at = λ x. x },
       (
         record {
-          pos = 40;
+          pos = 41;
           ty = Syntax.tyRef Syntax.erased Syntax.imm (Memory·.pointee (Record.the-row .written));
           ref = λ x. x;
         },
@@ -2644,17 +2827,17 @@ module _ (claims· : Claims) where
           Num.vAt 13 λ x. x,
           (
             record
-                { pos = 42; ty = Syntax.tyRef Syntax.erased Syntax.mut (Syntax.tyInt Syntax.w8); ref = λ x. x },
+                { pos = 43; ty = Syntax.tyRef Syntax.erased Syntax.mut (Syntax.tyInt Syntax.w8); ref = λ x. x },
             tt,
           ),
         ),
       ),
     ),
-  ) 38 (List._∷_ 11 (List._∷_ 12
+  ) 39 (List._∷_ 11 (List._∷_ 12
       List.[])) ty0·10
 
   abbrev s119 : Typed.Mo T121 → Typed.Mo T122
-  s119 = Scalar.n-room T121 40 ty0·11
+  s119 = Scalar.n-room T121 41 ty0·11
 
   abbrev s120 : Typed.Mo T122 → Typed.Mo T123
   s120 = Scalar.n-room T122 2 ty0·8
@@ -2664,16 +2847,16 @@ module _ (claims· : Claims) where
       Row.off λ x. x
 
   abbrev s125 : Typed.Both T125 T128
-  s125 = Relend.k-back-sl (Referent.rtF (Referent.fInt Syntax.w8)) T125 42 4 1 12 (Syntax.tyRef (Syntax.named 1) Syntax.mut (Syntax.tyInt Syntax.w8))
+  s125 = Relend.k-back-sl (Referent.rtF (Referent.fInt Syntax.w8)) T125 43 4 1 12 (Syntax.tyRef (Syntax.named 1) Syntax.mut (Syntax.tyInt Syntax.w8))
       (Syntax.tyRef Syntax.erased Syntax.mut (Syntax.tyInt Syntax.w8)) Row.off (λ x. x) λ x. x
 
   abbrev s126 : Typed.Gives T128 T129
   s126 = Know.k-sl-known (Referent.fInt Syntax.w8) T128 4 1 (Syntax.tyRef (Syntax.named 1) Syntax.mut (Syntax.tyInt Syntax.w8)) Row.off 0 λ x. x
 
   abbrev s128 : Typed.Mo T129 → Typed.Mo T131
-  s128 = Make.n-enum-make Given.the-type T129 16 λ m. Given.enum .make (Logic.inr (Logic.inr (Logic.inr (Logic.inl (
+  s128 = Make.n-enum-make Given.the-type T129 17 λ m. Given.enum .make (Logic.inr (Logic.inr (Logic.inr (Logic.inl (
     m .1 .1 .1 .1 .1 .1 .1 .1 .1 .1
-        .1 .1 .1 .1 .1 .1 .1 .1 .1 .1 .1 .1 .1 .1 .1 .1 .1 .1 .1 .1 .1 .1 .1 .1 .1 .1 .1 .1 .0,
+        .1 .1 .1 .1 .1 .1 .1 .1 .1 .1 .1 .1 .1 .1 .1 .1 .1 .1 .1 .1 .1 .1 .1 .1 .1 .1 .1 .1 .1 .0,
     tt,
   )))))
 
@@ -2684,7 +2867,7 @@ module _ (claims· : Claims) where
   s130 = Scalar.n-room T132 14 (Syntax.tyInt Syntax.w64)
 
   abbrev s131 : Typed.Mo T133 → Typed.Mo T134
-  s131 = Scalar.n-room T133 38 ty0·10
+  s131 = Scalar.n-room T133 39 ty0·10
 
   abbrev s132 : Typed.Both T4 T135
   s132 = Known.k-enum-known Call.enum 7 T4 1 λ x. x
@@ -2700,20 +2883,20 @@ module _ (claims· : Claims) where
   s135 = Scalar.n-room T137 1 ty4·0
 
   abbrev s137 : Typed.Gives T138 T140
-  s137 = Relend.k-sl-relend (Record.the-row) T138 5 44 2 13 (Syntax.tyRef (Syntax.named 2) Syntax.mut (Memory·.pointee (Record.the-row .written)))
+  s137 = Relend.k-sl-relend (Record.the-row) T138 5 45 2 13 (Syntax.tyRef (Syntax.named 2) Syntax.mut (Memory·.pointee (Record.the-row .written)))
       (Syntax.tyRef Syntax.erased Syntax.mut (Memory·.pointee (Record.the-row .written))) Row.off λ x. x
 
   abbrev s138 : Typed.Asks T140 T141
-  s138 = Relend.k-sl-aggregate (Record.the-row) (Relend.asMut (Record.the-row)) T140 44 45 13 (Syntax.tyRef Syntax.erased Syntax.mut (Memory·.pointee
+  s138 = Relend.k-sl-aggregate (Record.the-row) (Relend.asMut (Record.the-row)) T140 45 46 13 (Syntax.tyRef Syntax.erased Syntax.mut (Memory·.pointee
       (Record.the-row .written))) (Syntax.tyRef Syntax.erased Syntax.mut (Memory·.pointee (Record.the-row .written))) (λ x. x) (Scalar.oFld 5
       (List._∷_ (Syntax.field 1) List.[]) (Syntax.tyInt Syntax.w64) 8 λ v. Shared.lenV (v .0))
 
   abbrev s140 : Typed.Gives T141 T143
-  s140 = Reshare.k-sl-reshare (Referent.rtF (Referent.fInt Syntax.w8)) T141 4 46 1 14 (Syntax.tyRef (Syntax.named 1) Syntax.mut (Syntax.tyInt
+  s140 = Reshare.k-sl-reshare (Referent.rtF (Referent.fInt Syntax.w8)) T141 4 47 1 14 (Syntax.tyRef (Syntax.named 1) Syntax.mut (Syntax.tyInt
       Syntax.w8)) (Syntax.tyRef Syntax.erased Syntax.imm (Syntax.tyInt Syntax.w8)) Row.off λ x. x
 
   abbrev s141 : Typed.Asks T143 T144
-  s141 = Relend.k-sl-aggregate (Referent.rtF (Referent.fInt Syntax.w8)) (Relend.asShr (Referent.rtF (Referent.fInt Syntax.w8))) T143 46 47 14
+  s141 = Relend.k-sl-aggregate (Referent.rtF (Referent.fInt Syntax.w8)) (Relend.asShr (Referent.rtF (Referent.fInt Syntax.w8))) T143 47 48 14
       (Syntax.tyRef Syntax.erased Syntax.imm (Syntax.tyInt Syntax.w8)) (Syntax.tyRef Syntax.erased Syntax.imm (Syntax.tyInt Syntax.w8)) (λ x. x)
       (Scalar.oFld 4 (List._∷_ (Syntax.field 1) List.[]) (Syntax.tyInt Syntax.w64) 8 λ v. Shared.lenV (v .0))
 
@@ -2722,7 +2905,7 @@ module _ (claims· : Claims) where
     record { pos = 2; st = List.[]; d = 0; at = λ x. x },
     (
       record {
-        pos = 45;
+        pos = 46;
         ty =
             Syntax.tyRef Syntax.erased Syntax.mut (Memory·.pointee (Record.the-row .written));
         ref = λ x. x;
@@ -2731,7 +2914,7 @@ module _ (claims· : Claims) where
         Num.vAt 15 λ x. x,
         (
           record {
-            pos = 47;
+            pos = 48;
             ty
                 = Syntax.tyRef Syntax.erased Syntax.imm (Syntax.tyInt Syntax.w8);
             ref = λ x. x;
@@ -2740,16 +2923,16 @@ module _ (claims· : Claims) where
         ),
       ),
     ),
-  ) 43 (List._∷_ 13 (List._∷_ 14 List.[])) ty1·2
+  ) 44 (List._∷_ 13 (List._∷_ 14 List.[])) ty1·2
 
   abbrev s143 : Typed.Mo T145 → Typed.Mo T146
-  s143 = Scalar.n-room T145 47 ty0·12
+  s143 = Scalar.n-room T145 48 ty0·12
 
   abbrev s144 : Typed.Mo T146 → Typed.Mo T147
   s144 = Scalar.n-room T146 2 ty0·8
 
   abbrev s146 : Typed.Both T147 T149
-  s146 = Relend.k-back-sl (Record.the-row) T147 45 5 2 13 (Syntax.tyRef (Syntax.named 2) Syntax.mut (Memory·.pointee (Record.the-row .written)))
+  s146 = Relend.k-back-sl (Record.the-row) T147 46 5 2 13 (Syntax.tyRef (Syntax.named 2) Syntax.mut (Memory·.pointee (Record.the-row .written)))
       (Syntax.tyRef Syntax.erased Syntax.mut (Memory·.pointee (Record.the-row .written))) Row.off (λ x. x) λ x. x
 
   abbrev s149 : Typed.Mo T149 → Typed.Mo T152
@@ -2757,9 +2940,9 @@ module _ (claims· : Claims) where
       Syntax.w8)) Row.off λ x. x
 
   abbrev s151 : Typed.Mo T152 → Typed.Mo T154
-  s151 = Make.n-enum-make Given.the-type T152 16 λ m. Given.enum .make (Logic.inr (Logic.inr (Logic.inl (
+  s151 = Make.n-enum-make Given.the-type T152 17 λ m. Given.enum .make (Logic.inr (Logic.inr (Logic.inl (
     m .1 .1 .1 .1 .1 .1 .1 .1 .1 .1 .1 .1 .1 .1
-        .1 .1 .1 .1 .1 .1 .1 .1 .1 .1 .1 .1 .1 .1 .1 .1 .1 .1 .1 .1 .1 .1 .1 .1 .1 .1 .1 .1 .1 .0,
+        .1 .1 .1 .1 .1 .1 .1 .1 .1 .1 .1 .1 .1 .1 .1 .1 .1 .1 .1 .1 .1 .1 .1 .1 .1 .1 .1 .1 .1 .1 .0,
     tt,
   ))))
 
@@ -2767,14 +2950,71 @@ module _ (claims· : Claims) where
   s152 = Scalar.n-room T154 15 (Syntax.tyInt Syntax.w64)
 
   abbrev s153 : Typed.Mo T155 → Typed.Mo T156
-  s153 = Scalar.n-room T155 43 ty1·2
+  s153 = Scalar.n-room T155 44 ty1·2
 
-  abbrev s154 : Typed.Mo T2 → Typed.Mo T157
-  s154 = LocalCopy.n-val-copy T2 16 0 (Declared.row Given.the-type) (Rows.whole (Declared.row Given.the-type)) (Rows.whole (Declared.row
+  abbrev s154 : Typed.Both T4 T157
+  s154 = Known.k-enum-known Call.enum 8 T4 1 λ x. x
+
+  abbrev s155 : Typed.Gives T157 T158
+  s155 = Known.k-known-told Call.enum Laws''.the-laws 8 T157 1 λ x. x
+
+  abbrev s156 : Typed.Mo T158 → Typed.Mo T159
+  s156 = Scalar.n-use T158 (Scalar.oFld 1 (List._∷_ (Syntax.variant 8) (List._∷_ (Syntax.field 1) List.[])) (Syntax.tyInt Syntax.w64) 8 λ v.
+      Laws''.the-laws .1 .1 .1 .1 .1 .1 .1 .1 .0 .0 .val (v .0)) 16 (Rows.sc-here (Row.sInt Syntax.w64)) (Row.sInt Syntax.w64 .of)
+
+  abbrev s157 : Typed.Mo T159 → Typed.Mo T160
+  s157 = Scalar.n-room T159 1 ty4·0
+
+  abbrev s159 : Typed.Gives T160 T162
+  s159 = Relend.k-sl-relend (Record.the-row) T160 5 50 2 15 (Syntax.tyRef (Syntax.named 2) Syntax.mut (Memory·.pointee (Record.the-row .written)))
+      (Syntax.tyRef Syntax.erased Syntax.mut (Memory·.pointee (Record.the-row .written))) Row.off λ x. x
+
+  abbrev s160 : Typed.Asks T162 T163
+  s160 = Relend.k-sl-aggregate (Record.the-row) (Relend.asMut (Record.the-row)) T162 50 51 15 (Syntax.tyRef Syntax.erased Syntax.mut (Memory·.pointee
+      (Record.the-row .written))) (Syntax.tyRef Syntax.erased Syntax.mut (Memory·.pointee (Record.the-row .written))) (λ x. x) (Scalar.oFld 5
+      (List._∷_ (Syntax.field 1) List.[]) (Syntax.tyInt Syntax.w64) 8 λ v. Shared.lenV (v .0))
+
+  abbrev s161 : Typed.Both T163 T164
+  s161 = Call'.callB ps·7 r·7 (claims· .14) (claims· .15) T163 (
+    record { pos = 2; st = List.[]; d = 0; at = λ x. x },
+    (
+      record {
+        pos = 51;
+        ty =
+            Syntax.tyRef Syntax.erased Syntax.mut (Memory·.pointee (Record.the-row .written));
+        ref = λ x. x;
+      },
+      (Num.vAt 16 λ x. x, tt),
+    ),
+  ) 49 (List._∷_
+      15 List.[]) ty1·2
+
+  abbrev s162 : Typed.Mo T164 → Typed.Mo T165
+  s162 = Scalar.n-room T164 2 ty0·8
+
+  abbrev s164 : Typed.Both T165 T167
+  s164 = Relend.k-back-sl (Record.the-row) T165 51 5 2 15 (Syntax.tyRef (Syntax.named 2) Syntax.mut (Memory·.pointee (Record.the-row .written)))
+      (Syntax.tyRef Syntax.erased Syntax.mut (Memory·.pointee (Record.the-row .written))) Row.off (λ x. x) λ x. x
+
+  abbrev s166 : Typed.Mo T167 → Typed.Mo T169
+  s166 = Make.n-enum-make Given.the-type T167 17 λ m. Given.enum .make (Logic.inr (Logic.inr (Logic.inl (
+    m .1 .1 .1 .1 .1 .1 .1 .1 .1 .1 .1 .1 .1 .1
+        .1 .1 .1 .1 .1 .1 .1 .1 .1 .1 .1 .1 .1 .1 .1 .1 .1 .1 .1 .1 .1 .1 .1 .1 .1 .1 .1 .1 .1 .1 .1 .1 .1 .1 .1 .0,
+    tt,
+  ))))
+
+  abbrev s167 : Typed.Mo T169 → Typed.Mo T170
+  s167 = Scalar.n-room T169 16 (Syntax.tyInt Syntax.w64)
+
+  abbrev s168 : Typed.Mo T170 → Typed.Mo T171
+  s168 = Scalar.n-room T170 49 ty1·2
+
+  abbrev s169 : Typed.Mo T2 → Typed.Mo T172
+  s169 = LocalCopy.n-val-copy T2 17 0 (Declared.row Given.the-type) (Rows.whole (Declared.row Given.the-type)) (Rows.whole (Declared.row
       Given.the-type)) (λ x. x) (λ x. x) λ x. x
 
-  abbrev s155 : Typed.Mo T157 → Typed.Mo T158
-  s155 = Scalar.n-room T157 16 ty2·0
+  abbrev s170 : Typed.Mo T172 → Typed.Mo T173
+  s170 = Scalar.n-room T172 17 ty2·0
 
   module _ (Pre· : (κs : Lifetimes.Lfts 3) → Kinds.Dens κs ps → Type 0) (Post· : (κs : Lifetimes.Lfts 3) → (a : Kinds.Dens κs ps) → Kinds.Plain 3 ps r
       κs) where
@@ -2785,8 +3025,8 @@ module _ (claims· : Claims) where
           (known2 : Plain.Known 𝓤 H A W 𝓣 2 ps·2 r·2 (claims· .4) (claims· .5) "probe::calls::show") (known3 : Plain.Known 𝓤 H A W 𝓣 2 ps·3 r·3
           (claims· .6) (claims· .7) "journal::perform") (known4 : Plain.Known 𝓤 H A W 𝓣 2 ps·4 r·4 (claims· .8) (claims· .9) "sheet::write") (known5 :
           Plain.Known 𝓤 H A W 𝓣 2 ps·5 r·5 (claims· .10) (claims· .11) "sheet::write_line") (known6 : Plain.Known 𝓤 H A W 𝓣 2 ps·6 r·6 (claims· .12)
-          (claims· .13) "sheet::load") → Statement.Triple 𝓤 (Wp.WpFn 𝓤 H (𝓣 .C) (𝓣 .Λ) (Function.fnOf 3 ps r xs m hs body)) (Function.plainOf 𝓤 H A 3
-          ps r Pre· Post·)
+          (claims· .13) "sheet::load") (known7 : Plain.Known 𝓤 H A W 𝓣 1 ps·7 r·7 (claims· .14) (claims· .15) "fold::fold") → Statement.Triple 𝓤
+          (Wp.WpFn 𝓤 H (𝓣 .C) (𝓣 .Λ) (Function.fnOf 3 ps r xs m hs body)) (Function.plainOf 𝓤 H A 3 ps r Pre· Post·)
 
     module _ where
       abbrev at0 : Typed.TF T7 O1
@@ -3206,43 +3446,71 @@ module _ (claims· : Claims) where
       abbrev at138 : Typed.TF T4 O1
       at138 = λ Ψ. Typed.both s132 (at137 Ψ)
 
-      abbrev at139 : Typed.TF T4 O1
-      at139 = Switch.Φswitch T4 O1 1 (λ x. Declared.tagOf Call.the-type x) (Syntax.arm (List._∷_ 0 List.[]) b0 (Syntax.arm (List._∷_ 1 List.[]) b11
+      abbrev at139 : Typed.TF T167 O1
+      at139 = λ Ψ. Typed.pass T167 T169 s166 (Typed.pass T169 T170 s167 (Typed.pass T170 T171 s168 (Typed.atNext O1 Ψ)))
+
+      abbrev at140 : Typed.TF T167 O1
+      at140 = λ Ψ. at139 Ψ
+
+      abbrev at141 : Typed.TF T165 O1
+      at141 = λ Ψ. Typed.both s164 (at140 Ψ)
+
+      abbrev at142 : Typed.TF T165 O1
+      at142 = λ Ψ. at141 Ψ
+
+      abbrev at143 : Typed.TF T164 O1
+      at143 = λ Ψ. Typed.pass T164 T165 s162 (at142 Ψ)
+
+      abbrev at144 : Typed.TF T163 O1
+      at144 = λ Ψ. Typed.both s161 (at143 Ψ)
+
+      abbrev at145 : Typed.TF T162 O1
+      at145 = λ Ψ. Typed.ask s160 (at144 Ψ)
+
+      abbrev at146 : Typed.TF T160 O1
+      at146 = λ Ψ. Typed.give s159 (at145 Ψ)
+
+      abbrev at147 : Typed.TF T160 O1
+      at147 = λ Ψ. at146 Ψ
+
+      abbrev at148 : Typed.TF T159 O1
+      at148 = λ Ψ. Typed.pass T159 T160 s157 (at147 Ψ)
+
+      abbrev at149 : Typed.TF T158 O1
+      at149 = λ Ψ. Typed.pass T158 T159 s156 (at148 Ψ)
+
+      abbrev at150 : Typed.TF T157 O1
+      at150 = λ Ψ. Typed.give s155 (at149 Ψ)
+
+      abbrev at151 : Typed.TF T4 O1
+      at151 = λ Ψ. Typed.both s154 (at150 Ψ)
+
+      abbrev at152 : Typed.TF T4 O1
+      at152 = Switch.Φswitch T4 O1 1 (λ x. Declared.tagOf Call.the-type x) (Syntax.arm (List._∷_ 0 List.[]) b0 (Syntax.arm (List._∷_ 1 List.[]) b11
           (Syntax.arm (List._∷_ 2 List.[]) b22 (Syntax.arm (List._∷_ 3 List.[]) b33 (Syntax.arm (List._∷_ 4 List.[]) b48 (Syntax.arm (List._∷_ 5
-          List.[]) b61 (Syntax.arm (List._∷_ 6 List.[]) b76 (Syntax.arm (List._∷_ 7 List.[]) b89 Syntax.noDefault)))))))) (
-            at3,
-            (
-              at18,
-              (
-                at34,
-                (
-                  at53,
-                  (at75, (at96, (at118, (at138, tt)))),
-                ),
-              ),
-            ),
-          )
+          List.[]) b61 (Syntax.arm (List._∷_ 6 List.[]) b76 (Syntax.arm (List._∷_ 7 List.[]) b89 (Syntax.arm (List._∷_ 8 List.[]) b98
+          Syntax.noDefault))))))))) (at3, (at18, (at34, (at53, (at75, (at96, (at118, (at138, (at151, tt)))))))))
 
-      abbrev at140 : Typed.TF T3 O1
-      at140 = λ Ψ. Typed.give s1 (at139 Ψ)
+      abbrev at153 : Typed.TF T3 O1
+      at153 = λ Ψ. Typed.give s1 (at152 Ψ)
 
-      abbrev at141 : Typed.TF T0 O1
-      at141 = λ Ψ. Typed.give s0 (at140 Ψ)
+      abbrev at154 : Typed.TF T0 O1
+      at154 = λ Ψ. Typed.give s0 (at153 Ψ)
 
-      abbrev at142 : Typed.TF T158 O0
-      at142 = Typed.atRet O0
+      abbrev at155 : Typed.TF T173 O0
+      at155 = Typed.atRet O0
 
-      abbrev at143 : Typed.TF T157 O0
-      at143 = λ Ψ. Typed.pass T157 T158 s155 (at142 Ψ)
+      abbrev at156 : Typed.TF T172 O0
+      at156 = λ Ψ. Typed.pass T172 T173 s170 (at155 Ψ)
 
-      abbrev at144 : Typed.TF T2 O0
-      at144 = λ Ψ. Typed.pass T2 T157 s154 (at143 Ψ)
+      abbrev at157 : Typed.TF T2 O0
+      at157 = λ Ψ. Typed.pass T2 T172 s169 (at156 Ψ)
 
-      abbrev at145 : Typed.TF T0 O0
-      at145 = λ Ψ. at141 (Typed.wantNext T2 O0 (at144 Ψ) Ψ)
+      abbrev at158 : Typed.TF T0 O0
+      at158 = λ Ψ. at154 (Typed.wantNext T2 O0 (at157 Ψ) Ψ)
 
       abbrev pub Φ : Typed.TF T0 O0
-      Φ = at145
+      Φ = at158
 
       module _ {M : Type 1} (𝓤 : URA.URA M) (H : Wp.Heap 𝓤) (A : Atoms.Atoms 𝓤) (W : Kit.Given 𝓤 H A) (𝓣 : Wp.Tables 𝓤 H) where
         abbrev Knowns : Type 1
@@ -3250,47 +3518,47 @@ module _ (claims· : Claims) where
             (claims· .3) "records::put" × Plain.Known 𝓤 H A W 𝓣 2 ps·2 r·2 (claims· .4) (claims· .5) "probe::calls::show" × Plain.Known 𝓤 H A W 𝓣 2
             ps·3 r·3 (claims· .6) (claims· .7) "journal::perform" × Plain.Known 𝓤 H A W 𝓣 2 ps·4 r·4 (claims· .8) (claims· .9) "sheet::write" ×
             Plain.Known 𝓤 H A W 𝓣 2 ps·5 r·5 (claims· .10) (claims· .11) "sheet::write_line" × Plain.Known 𝓤 H A W 𝓣 2 ps·6 r·6 (claims· .12) (claims·
-            .13) "sheet::load"
+            .13) "sheet::load" × Plain.Known 𝓤 H A W 𝓣 1 ps·7 r·7 (claims· .14) (claims· .15) "fold::fold"
 
       module _ (κs : Lifetimes.Lfts 3) (qs : Lifetimes.Shares 3) where
-        abbrev g12 : List.List Row.Entry
-        g12 = List._∷_ row·0 (List._∷_ row·1 (List._∷_ row·9 (List._∷_ row·10 (List._∷_ row·11 (List._∷_ (
+        abbrev g13 : List.List Row.Entry
+        g13 = List._∷_ row·0 (List._∷_ row·1 (List._∷_ row·9 (List._∷_ row·10 (List._∷_ row·11 (List._∷_ (
           5,
           Relend.mslice-owed (Record.the-row)
               (Syntax.tyRef (Syntax.named 2) Syntax.mut (Memory·.pointee (Record.the-row .written))) 2 3 (Row.lease (κs .1 .1 .0) (qs .1 .1 .0)),
         )
-            (List._∷_ row·122 (List._∷_ row·14 (List._∷_ row·125 (List._∷_ row·17 (List._∷_ row·101 (List._∷_ row·3 (List._∷_ row·103 (List._∷_ row·5
-            (List._∷_ row·105 (List._∷_ row·7 List.[])))))))))))))))
+            (List._∷_ row·132 (List._∷_ row·14 (List._∷_ row·135 (List._∷_ row·17 (List._∷_ row·109 (List._∷_ row·3 (List._∷_ row·111 (List._∷_ row·5
+            (List._∷_ row·113 (List._∷_ row·7 List.[])))))))))))))))
 
-        abbrev g23 : List.List Row.Entry
-        g23 = List._∷_ row·0 (List._∷_ row·1 (List._∷_ row·9 (List._∷_ row·10 (List._∷_ row·11 (List._∷_ (
+        abbrev g24 : List.List Row.Entry
+        g24 = List._∷_ row·0 (List._∷_ row·1 (List._∷_ row·9 (List._∷_ row·10 (List._∷_ row·11 (List._∷_ (
           5,
           Relend.mslice-owed (Record.the-row)
               (Syntax.tyRef (Syntax.named 2) Syntax.mut (Memory·.pointee (Record.the-row .written))) 2 4 (Row.lease (κs .1 .1 .0) (qs .1 .1 .0)),
         )
-            (List._∷_ row·13 (List._∷_ row·123 (List._∷_ row·16 (List._∷_ row·126 (List._∷_ row·2 (List._∷_ row·3 (List._∷_ row·103 (List._∷_ row·5
-            (List._∷_ row·105 (List._∷_ row·7 List.[])))))))))))))))
+            (List._∷_ row·13 (List._∷_ row·133 (List._∷_ row·16 (List._∷_ row·136 (List._∷_ row·2 (List._∷_ row·3 (List._∷_ row·111 (List._∷_ row·5
+            (List._∷_ row·113 (List._∷_ row·7 List.[])))))))))))))))
 
-        abbrev g27 : List.List Row.Entry
-        g27 = List._∷_ row·0 (List._∷_ row·1 (List._∷_ row·9 (List._∷_ row·10 (List._∷_ row·11 (List._∷_ (
+        abbrev g28 : List.List Row.Entry
+        g28 = List._∷_ row·0 (List._∷_ row·1 (List._∷_ row·9 (List._∷_ row·10 (List._∷_ row·11 (List._∷_ (
           5,
           Relend.mslice-owed (Record.the-row)
               (Syntax.tyRef (Syntax.named 2) Syntax.mut (Memory·.pointee (Record.the-row .written))) 2 4 (Row.lease (κs .1 .1 .0) (qs .1 .1 .0)),
         )
-            (List._∷_ row·13 (List._∷_ row·123 (List._∷_ row·16 (List._∷_ row·17 (List._∷_ row·101 (List._∷_ row·3 (List._∷_ row·103 (List._∷_ row·5
-            (List._∷_ row·105 (List._∷_ row·7 List.[])))))))))))))))
+            (List._∷_ row·13 (List._∷_ row·133 (List._∷_ row·16 (List._∷_ row·17 (List._∷_ row·109 (List._∷_ row·3 (List._∷_ row·111 (List._∷_ row·5
+            (List._∷_ row·113 (List._∷_ row·7 List.[])))))))))))))))
 
-        abbrev g30 : List.List Row.Entry
-        g30 = List._∷_ row·0 (List._∷_ row·1 (List._∷_ row·9 (List._∷_ row·10 (List._∷_ row·11 (List._∷_ (
+        abbrev g31 : List.List Row.Entry
+        g31 = List._∷_ row·0 (List._∷_ row·1 (List._∷_ row·9 (List._∷_ row·10 (List._∷_ row·11 (List._∷_ (
           5,
           Reshare.mslice-owedS (Record.the-row)
               (Syntax.tyRef (Syntax.named 2) Syntax.mut (Memory·.pointee (Record.the-row .written))) 2 5 (Row.lease (κs .1 .1 .0) (qs .1 .1 .0)),
         )
-            (List._∷_ row·13 (List._∷_ row·123 (List._∷_ row·15 (List._∷_ row·17 (List._∷_ row·101 (List._∷_ row·3 (List._∷_ row·103 (List._∷_ row·5
-            (List._∷_ row·105 (List._∷_ row·7 List.[])))))))))))))))
+            (List._∷_ row·13 (List._∷_ row·133 (List._∷_ row·15 (List._∷_ row·17 (List._∷_ row·109 (List._∷_ row·3 (List._∷_ row·111 (List._∷_ row·5
+            (List._∷_ row·113 (List._∷_ row·7 List.[])))))))))))))))
 
-        abbrev g33 : List.List Row.Entry
-        g33 = List._∷_ row·0 (List._∷_ row·1 (List._∷_ row·9 (List._∷_ row·10 (List._∷_ (
+        abbrev g34 : List.List Row.Entry
+        g34 = List._∷_ row·0 (List._∷_ row·1 (List._∷_ row·9 (List._∷_ row·10 (List._∷_ (
           4,
           Relend.mslice-owed (Referent.rtF (Referent.fInt
               Syntax.w8)) (Syntax.tyRef (Syntax.named 1) Syntax.mut (Syntax.tyInt Syntax.w8)) 1 6 (Row.lease (κs .1 .0) (qs .1 .0)),
@@ -3298,29 +3566,29 @@ module _ (claims· : Claims) where
           5,
           Reshare.mslice-owedS (Record.the-row) (Syntax.tyRef (Syntax.named 2) Syntax.mut (Memory·.pointee (Record.the-row .written))) 2 5
               (Row.lease (κs .1 .1 .0) (qs .1 .1 .0)),
-        ) (List._∷_ row·13 (List._∷_ row·123 (List._∷_ row·15 (List._∷_ row·17 (List._∷_ row·101
-            (List._∷_ row·3 (List._∷_ row·103 (List._∷_ row·5 (List._∷_ row·105 (List._∷_ row·7 List.[])))))))))))))))
+        ) (List._∷_ row·13 (List._∷_ row·133 (List._∷_ row·15 (List._∷_ row·17 (List._∷_ row·109
+            (List._∷_ row·3 (List._∷_ row·111 (List._∷_ row·5 (List._∷_ row·113 (List._∷_ row·7 List.[])))))))))))))))
 
-        abbrev g38 : List.List Row.Entry
-        g38 = List._∷_ row·0 (List._∷_ row·1 (List._∷_ row·9 (List._∷_ row·10 (List._∷_ (
+        abbrev g39 : List.List Row.Entry
+        g39 = List._∷_ row·0 (List._∷_ row·1 (List._∷_ row·9 (List._∷_ row·10 (List._∷_ (
           4,
           Relend.mslice-owed (Referent.rtF (Referent.fInt
               Syntax.w8)) (Syntax.tyRef (Syntax.named 1) Syntax.mut (Syntax.tyInt Syntax.w8)) 1 6 (Row.lease (κs .1 .0) (qs .1 .0)),
         ) (List._∷_ row·12
-            (List._∷_ row·13 (List._∷_ row·123 (List._∷_ row·15 (List._∷_ row·17 (List._∷_ row·101 (List._∷_ row·3 (List._∷_ row·103 (List._∷_ row·5
-            (List._∷_ row·105 (List._∷_ row·7 List.[])))))))))))))))
+            (List._∷_ row·13 (List._∷_ row·133 (List._∷_ row·15 (List._∷_ row·17 (List._∷_ row·109 (List._∷_ row·3 (List._∷_ row·111 (List._∷_ row·5
+            (List._∷_ row·113 (List._∷_ row·7 List.[])))))))))))))))
 
-        abbrev g45 : List.List Row.Entry
-        g45 = List._∷_ row·0 (List._∷_ row·1 (List._∷_ row·110 (List._∷_ (
+        abbrev g46 : List.List Row.Entry
+        g46 = List._∷_ row·0 (List._∷_ row·1 (List._∷_ row·119 (List._∷_ (
           3,
           Relend.mslice-owed (Referent.rtF (Referent.fInt Syntax.w8))
               (Syntax.tyRef (Syntax.named 0) Syntax.mut (Syntax.tyInt Syntax.w8)) 0 7 (Row.lease (κs .0) (qs .0)),
         ) (List._∷_ row·11 (List._∷_ row·12
-            (List._∷_ row·13 (List._∷_ row·123 (List._∷_ row·15 (List._∷_ row·17 (List._∷_ row·102 (List._∷_ row·4 (List._∷_ row·103 (List._∷_ row·5
-            (List._∷_ row·105 (List._∷_ row·7 List.[])))))))))))))))
+            (List._∷_ row·13 (List._∷_ row·133 (List._∷_ row·15 (List._∷_ row·17 (List._∷_ row·110 (List._∷_ row·4 (List._∷_ row·111 (List._∷_ row·5
+            (List._∷_ row·113 (List._∷_ row·7 List.[])))))))))))))))
 
-        abbrev g48 : List.List Row.Entry
-        g48 = List._∷_ row·0 (List._∷_ row·1 (List._∷_ row·110 (List._∷_ (
+        abbrev g49 : List.List Row.Entry
+        g49 = List._∷_ row·0 (List._∷_ row·1 (List._∷_ row·119 (List._∷_ (
           3,
           Relend.mslice-owed (Referent.rtF (Referent.fInt Syntax.w8))
               (Syntax.tyRef (Syntax.named 0) Syntax.mut (Syntax.tyInt Syntax.w8)) 0 7 (Row.lease (κs .0) (qs .0)),
@@ -3328,20 +3596,8 @@ module _ (claims· : Claims) where
           5,
           Relend.mslice-owed (Record.the-row) (Syntax.tyRef (Syntax.named 2) Syntax.mut (Memory·.pointee (Record.the-row .written))) 2 8 (Row.lease
               (κs .1 .1 .0) (qs .1 .1 .0)),
-        ) (List._∷_ row·13 (List._∷_ row·123 (List._∷_ row·15 (List._∷_ row·17 (List._∷_ row·102 (List._∷_ row·4
-            (List._∷_ row·103 (List._∷_ row·5 (List._∷_ row·105 (List._∷_ row·7 List.[])))))))))))))))
-
-        abbrev g53 : List.List Row.Entry
-        g53 = List._∷_ row·0 (List._∷_ row·1 (List._∷_ row·9 (List._∷_ (
-          3,
-          Relend.mslice-owed (Referent.rtF (Referent.fInt Syntax.w8)) (Syntax.tyRef
-              (Syntax.named 0) Syntax.mut (Syntax.tyInt Syntax.w8)) 0 7 (Row.lease (κs .0) (qs .0)),
-        ) (List._∷_ row·11 (List._∷_ (
-          5,
-          Relend.mslice-owed (Record.the-row) (Syntax.tyRef (Syntax.named 2) Syntax.mut (Memory·.pointee (Record.the-row .written))) 2 8 (Row.lease
-              (κs .1 .1 .0) (qs .1 .1 .0)),
-        ) (List._∷_ row·13 (List._∷_ row·123 (List._∷_ row·15 (List._∷_ row·17 (List._∷_ row·102 (List._∷_ row·4
-            (List._∷_ row·103 (List._∷_ row·5 (List._∷_ row·105 (List._∷_ row·7 List.[])))))))))))))))
+        ) (List._∷_ row·13 (List._∷_ row·133 (List._∷_ row·15 (List._∷_ row·17 (List._∷_ row·110 (List._∷_ row·4
+            (List._∷_ row·111 (List._∷_ row·5 (List._∷_ row·113 (List._∷_ row·7 List.[])))))))))))))))
 
         abbrev g54 : List.List Row.Entry
         g54 = List._∷_ row·0 (List._∷_ row·1 (List._∷_ row·9 (List._∷_ (
@@ -3352,29 +3608,41 @@ module _ (claims· : Claims) where
           5,
           Relend.mslice-owed (Record.the-row) (Syntax.tyRef (Syntax.named 2) Syntax.mut (Memory·.pointee (Record.the-row .written))) 2 8 (Row.lease
               (κs .1 .1 .0) (qs .1 .1 .0)),
-        ) (List._∷_ row·13 (List._∷_ row·123 (List._∷_ row·15 (List._∷_ row·17 (List._∷_ row·102 (List._∷_ row·3
-            (List._∷_ row·103 (List._∷_ row·5 (List._∷_ row·105 (List._∷_ row·7 List.[])))))))))))))))
+        ) (List._∷_ row·13 (List._∷_ row·133 (List._∷_ row·15 (List._∷_ row·17 (List._∷_ row·110 (List._∷_ row·4
+            (List._∷_ row·111 (List._∷_ row·5 (List._∷_ row·113 (List._∷_ row·7 List.[])))))))))))))))
 
         abbrev g55 : List.List Row.Entry
-        g55 = List._∷_ row·0 (List._∷_ row·1 (List._∷_ row·9 (List._∷_ row·10 (List._∷_ row·11 (List._∷_ (
+        g55 = List._∷_ row·0 (List._∷_ row·1 (List._∷_ row·9 (List._∷_ (
+          3,
+          Relend.mslice-owed (Referent.rtF (Referent.fInt Syntax.w8)) (Syntax.tyRef
+              (Syntax.named 0) Syntax.mut (Syntax.tyInt Syntax.w8)) 0 7 (Row.lease (κs .0) (qs .0)),
+        ) (List._∷_ row·11 (List._∷_ (
+          5,
+          Relend.mslice-owed (Record.the-row) (Syntax.tyRef (Syntax.named 2) Syntax.mut (Memory·.pointee (Record.the-row .written))) 2 8 (Row.lease
+              (κs .1 .1 .0) (qs .1 .1 .0)),
+        ) (List._∷_ row·13 (List._∷_ row·133 (List._∷_ row·15 (List._∷_ row·17 (List._∷_ row·110 (List._∷_ row·3
+            (List._∷_ row·111 (List._∷_ row·5 (List._∷_ row·113 (List._∷_ row·7 List.[])))))))))))))))
+
+        abbrev g56 : List.List Row.Entry
+        g56 = List._∷_ row·0 (List._∷_ row·1 (List._∷_ row·9 (List._∷_ row·10 (List._∷_ row·11 (List._∷_ (
           5,
           Relend.mslice-owed (Record.the-row)
               (Syntax.tyRef (Syntax.named 2) Syntax.mut (Memory·.pointee (Record.the-row .written))) 2 8 (Row.lease (κs .1 .1 .0) (qs .1 .1 .0)),
         )
-            (List._∷_ row·13 (List._∷_ row·123 (List._∷_ row·15 (List._∷_ row·17 (List._∷_ row·102 (List._∷_ row·3 (List._∷_ row·103 (List._∷_ row·5
-            (List._∷_ row·105 (List._∷_ row·7 List.[])))))))))))))))
+            (List._∷_ row·13 (List._∷_ row·133 (List._∷_ row·15 (List._∷_ row·17 (List._∷_ row·110 (List._∷_ row·3 (List._∷_ row·111 (List._∷_ row·5
+            (List._∷_ row·113 (List._∷_ row·7 List.[])))))))))))))))
 
-        abbrev g62 : List.List Row.Entry
-        g62 = List._∷_ row·0 (List._∷_ row·1 (List._∷_ row·110 (List._∷_ row·10 (List._∷_ row·11 (List._∷_ (
+        abbrev g63 : List.List Row.Entry
+        g63 = List._∷_ row·0 (List._∷_ row·1 (List._∷_ row·119 (List._∷_ row·10 (List._∷_ row·11 (List._∷_ (
           5,
           Reshare.mslice-owedS (Record.the-row)
               (Syntax.tyRef (Syntax.named 2) Syntax.mut (Memory·.pointee (Record.the-row .written))) 2 9 (Row.lease (κs .1 .1 .0) (qs .1 .1 .0)),
         )
-            (List._∷_ row·13 (List._∷_ row·123 (List._∷_ row·15 (List._∷_ row·17 (List._∷_ row·101 (List._∷_ row·3 (List._∷_ row·104 (List._∷_ row·5
-            (List._∷_ row·105 (List._∷_ row·7 List.[])))))))))))))))
+            (List._∷_ row·13 (List._∷_ row·133 (List._∷_ row·15 (List._∷_ row·17 (List._∷_ row·109 (List._∷_ row·3 (List._∷_ row·112 (List._∷_ row·5
+            (List._∷_ row·113 (List._∷_ row·7 List.[])))))))))))))))
 
-        abbrev g65 : List.List Row.Entry
-        g65 = List._∷_ row·0 (List._∷_ row·1 (List._∷_ row·110 (List._∷_ row·10 (List._∷_ (
+        abbrev g66 : List.List Row.Entry
+        g66 = List._∷_ row·0 (List._∷_ row·1 (List._∷_ row·119 (List._∷_ row·10 (List._∷_ (
           4,
           Relend.mslice-owed (Referent.rtF (Referent.fInt
               Syntax.w8)) (Syntax.tyRef (Syntax.named 1) Syntax.mut (Syntax.tyInt Syntax.w8)) 1 10 (Row.lease (κs .1 .0) (qs .1 .0)),
@@ -3382,41 +3650,41 @@ module _ (claims· : Claims) where
           5,
           Reshare.mslice-owedS (Record.the-row) (Syntax.tyRef (Syntax.named 2) Syntax.mut (Memory·.pointee (Record.the-row .written))) 2 9
               (Row.lease (κs .1 .1 .0) (qs .1 .1 .0)),
-        ) (List._∷_ row·13 (List._∷_ row·123 (List._∷_ row·15 (List._∷_ row·17 (List._∷_ row·101
-            (List._∷_ row·3 (List._∷_ row·104 (List._∷_ row·5 (List._∷_ row·105 (List._∷_ row·7 List.[])))))))))))))))
-
-        abbrev g70 : List.List Row.Entry
-        g70 = List._∷_ row·0 (List._∷_ row·1 (List._∷_ row·9 (List._∷_ row·10 (List._∷_ (
-          4,
-          Relend.mslice-owed (Referent.rtF (Referent.fInt
-              Syntax.w8)) (Syntax.tyRef (Syntax.named 1) Syntax.mut (Syntax.tyInt Syntax.w8)) 1 10 (Row.lease (κs .1 .0) (qs .1 .0)),
-        ) (List._∷_ (
-          5,
-          Reshare.mslice-owedS (Record.the-row) (Syntax.tyRef (Syntax.named 2) Syntax.mut (Memory·.pointee (Record.the-row .written))) 2 9
-              (Row.lease (κs .1 .1 .0) (qs .1 .1 .0)),
-        ) (List._∷_ row·13 (List._∷_ row·123 (List._∷_ row·15 (List._∷_ row·17 (List._∷_ row·101
-            (List._∷_ row·3 (List._∷_ row·104 (List._∷_ row·5 (List._∷_ row·105 (List._∷_ row·7 List.[])))))))))))))))
+        ) (List._∷_ row·13 (List._∷_ row·133 (List._∷_ row·15 (List._∷_ row·17 (List._∷_ row·109
+            (List._∷_ row·3 (List._∷_ row·112 (List._∷_ row·5 (List._∷_ row·113 (List._∷_ row·7 List.[])))))))))))))))
 
         abbrev g71 : List.List Row.Entry
         g71 = List._∷_ row·0 (List._∷_ row·1 (List._∷_ row·9 (List._∷_ row·10 (List._∷_ (
           4,
           Relend.mslice-owed (Referent.rtF (Referent.fInt
               Syntax.w8)) (Syntax.tyRef (Syntax.named 1) Syntax.mut (Syntax.tyInt Syntax.w8)) 1 10 (Row.lease (κs .1 .0) (qs .1 .0)),
-        ) (List._∷_ row·12
-            (List._∷_ row·13 (List._∷_ row·123 (List._∷_ row·15 (List._∷_ row·17 (List._∷_ row·101 (List._∷_ row·3 (List._∷_ row·104 (List._∷_ row·5
-            (List._∷_ row·105 (List._∷_ row·7 List.[])))))))))))))))
+        ) (List._∷_ (
+          5,
+          Reshare.mslice-owedS (Record.the-row) (Syntax.tyRef (Syntax.named 2) Syntax.mut (Memory·.pointee (Record.the-row .written))) 2 9
+              (Row.lease (κs .1 .1 .0) (qs .1 .1 .0)),
+        ) (List._∷_ row·13 (List._∷_ row·133 (List._∷_ row·15 (List._∷_ row·17 (List._∷_ row·109
+            (List._∷_ row·3 (List._∷_ row·112 (List._∷_ row·5 (List._∷_ row·113 (List._∷_ row·7 List.[])))))))))))))))
 
-        abbrev g78 : List.List Row.Entry
-        g78 = List._∷_ row·0 (List._∷_ row·1 (List._∷_ row·110 (List._∷_ row·10 (List._∷_ row·11 (List._∷_ (
+        abbrev g72 : List.List Row.Entry
+        g72 = List._∷_ row·0 (List._∷_ row·1 (List._∷_ row·9 (List._∷_ row·10 (List._∷_ (
+          4,
+          Relend.mslice-owed (Referent.rtF (Referent.fInt
+              Syntax.w8)) (Syntax.tyRef (Syntax.named 1) Syntax.mut (Syntax.tyInt Syntax.w8)) 1 10 (Row.lease (κs .1 .0) (qs .1 .0)),
+        ) (List._∷_ row·12
+            (List._∷_ row·13 (List._∷_ row·133 (List._∷_ row·15 (List._∷_ row·17 (List._∷_ row·109 (List._∷_ row·3 (List._∷_ row·112 (List._∷_ row·5
+            (List._∷_ row·113 (List._∷_ row·7 List.[])))))))))))))))
+
+        abbrev g79 : List.List Row.Entry
+        g79 = List._∷_ row·0 (List._∷_ row·1 (List._∷_ row·119 (List._∷_ row·10 (List._∷_ row·11 (List._∷_ (
           5,
           Reshare.mslice-owedS (Record.the-row)
               (Syntax.tyRef (Syntax.named 2) Syntax.mut (Memory·.pointee (Record.the-row .written))) 2 11 (Row.lease (κs .1 .1 .0) (qs .1 .1 .0)),
         )
-            (List._∷_ row·13 (List._∷_ row·123 (List._∷_ row·15 (List._∷_ row·17 (List._∷_ row·101 (List._∷_ row·3 (List._∷_ row·103 (List._∷_ row·6
-            (List._∷_ row·106 (List._∷_ row·7 List.[])))))))))))))))
+            (List._∷_ row·13 (List._∷_ row·133 (List._∷_ row·15 (List._∷_ row·17 (List._∷_ row·109 (List._∷_ row·3 (List._∷_ row·111 (List._∷_ row·6
+            (List._∷_ row·114 (List._∷_ row·7 List.[])))))))))))))))
 
-        abbrev g81 : List.List Row.Entry
-        g81 = List._∷_ row·0 (List._∷_ row·1 (List._∷_ row·110 (List._∷_ row·10 (List._∷_ (
+        abbrev g82 : List.List Row.Entry
+        g82 = List._∷_ row·0 (List._∷_ row·1 (List._∷_ row·119 (List._∷_ row·10 (List._∷_ (
           4,
           Relend.mslice-owed (Referent.rtF (Referent.fInt
               Syntax.w8)) (Syntax.tyRef (Syntax.named 1) Syntax.mut (Syntax.tyInt Syntax.w8)) 1 12 (Row.lease (κs .1 .0) (qs .1 .0)),
@@ -3424,41 +3692,41 @@ module _ (claims· : Claims) where
           5,
           Reshare.mslice-owedS (Record.the-row) (Syntax.tyRef (Syntax.named 2) Syntax.mut (Memory·.pointee (Record.the-row .written))) 2 11
               (Row.lease (κs .1 .1 .0) (qs .1 .1 .0)),
-        ) (List._∷_ row·13 (List._∷_ row·123 (List._∷_ row·15 (List._∷_ row·17 (List._∷_ row·101
-            (List._∷_ row·3 (List._∷_ row·103 (List._∷_ row·6 (List._∷_ row·106 (List._∷_ row·7 List.[])))))))))))))))
-
-        abbrev g86 : List.List Row.Entry
-        g86 = List._∷_ row·0 (List._∷_ row·1 (List._∷_ row·9 (List._∷_ row·10 (List._∷_ (
-          4,
-          Relend.mslice-owed (Referent.rtF (Referent.fInt
-              Syntax.w8)) (Syntax.tyRef (Syntax.named 1) Syntax.mut (Syntax.tyInt Syntax.w8)) 1 12 (Row.lease (κs .1 .0) (qs .1 .0)),
-        ) (List._∷_ (
-          5,
-          Reshare.mslice-owedS (Record.the-row) (Syntax.tyRef (Syntax.named 2) Syntax.mut (Memory·.pointee (Record.the-row .written))) 2 11
-              (Row.lease (κs .1 .1 .0) (qs .1 .1 .0)),
-        ) (List._∷_ row·13 (List._∷_ row·123 (List._∷_ row·15 (List._∷_ row·17 (List._∷_ row·101
-            (List._∷_ row·3 (List._∷_ row·103 (List._∷_ row·6 (List._∷_ row·106 (List._∷_ row·7 List.[])))))))))))))))
+        ) (List._∷_ row·13 (List._∷_ row·133 (List._∷_ row·15 (List._∷_ row·17 (List._∷_ row·109
+            (List._∷_ row·3 (List._∷_ row·111 (List._∷_ row·6 (List._∷_ row·114 (List._∷_ row·7 List.[])))))))))))))))
 
         abbrev g87 : List.List Row.Entry
         g87 = List._∷_ row·0 (List._∷_ row·1 (List._∷_ row·9 (List._∷_ row·10 (List._∷_ (
           4,
           Relend.mslice-owed (Referent.rtF (Referent.fInt
               Syntax.w8)) (Syntax.tyRef (Syntax.named 1) Syntax.mut (Syntax.tyInt Syntax.w8)) 1 12 (Row.lease (κs .1 .0) (qs .1 .0)),
-        ) (List._∷_ row·12
-            (List._∷_ row·13 (List._∷_ row·123 (List._∷_ row·15 (List._∷_ row·17 (List._∷_ row·101 (List._∷_ row·3 (List._∷_ row·103 (List._∷_ row·6
-            (List._∷_ row·106 (List._∷_ row·7 List.[])))))))))))))))
+        ) (List._∷_ (
+          5,
+          Reshare.mslice-owedS (Record.the-row) (Syntax.tyRef (Syntax.named 2) Syntax.mut (Memory·.pointee (Record.the-row .written))) 2 11
+              (Row.lease (κs .1 .1 .0) (qs .1 .1 .0)),
+        ) (List._∷_ row·13 (List._∷_ row·133 (List._∷_ row·15 (List._∷_ row·17 (List._∷_ row·109
+            (List._∷_ row·3 (List._∷_ row·111 (List._∷_ row·6 (List._∷_ row·114 (List._∷_ row·7 List.[])))))))))))))))
 
-        abbrev g94 : List.List Row.Entry
-        g94 = List._∷_ row·0 (List._∷_ row·1 (List._∷_ row·110 (List._∷_ row·10 (List._∷_ row·11 (List._∷_ (
+        abbrev g88 : List.List Row.Entry
+        g88 = List._∷_ row·0 (List._∷_ row·1 (List._∷_ row·9 (List._∷_ row·10 (List._∷_ (
+          4,
+          Relend.mslice-owed (Referent.rtF (Referent.fInt
+              Syntax.w8)) (Syntax.tyRef (Syntax.named 1) Syntax.mut (Syntax.tyInt Syntax.w8)) 1 12 (Row.lease (κs .1 .0) (qs .1 .0)),
+        ) (List._∷_ row·12
+            (List._∷_ row·13 (List._∷_ row·133 (List._∷_ row·15 (List._∷_ row·17 (List._∷_ row·109 (List._∷_ row·3 (List._∷_ row·111 (List._∷_ row·6
+            (List._∷_ row·114 (List._∷_ row·7 List.[])))))))))))))))
+
+        abbrev g95 : List.List Row.Entry
+        g95 = List._∷_ row·0 (List._∷_ row·1 (List._∷_ row·119 (List._∷_ row·10 (List._∷_ row·11 (List._∷_ (
           5,
           Relend.mslice-owed (Record.the-row)
               (Syntax.tyRef (Syntax.named 2) Syntax.mut (Memory·.pointee (Record.the-row .written))) 2 13 (Row.lease (κs .1 .1 .0) (qs .1 .1 .0)),
         )
-            (List._∷_ row·13 (List._∷_ row·123 (List._∷_ row·15 (List._∷_ row·17 (List._∷_ row·101 (List._∷_ row·3 (List._∷_ row·103 (List._∷_ row·5
-            (List._∷_ row·105 (List._∷_ row·8 List.[])))))))))))))))
+            (List._∷_ row·13 (List._∷_ row·133 (List._∷_ row·15 (List._∷_ row·17 (List._∷_ row·109 (List._∷_ row·3 (List._∷_ row·111 (List._∷_ row·5
+            (List._∷_ row·113 (List._∷_ row·8 List.[])))))))))))))))
 
-        abbrev g97 : List.List Row.Entry
-        g97 = List._∷_ row·0 (List._∷_ row·1 (List._∷_ row·110 (List._∷_ row·10 (List._∷_ (
+        abbrev g98 : List.List Row.Entry
+        g98 = List._∷_ row·0 (List._∷_ row·1 (List._∷_ row·119 (List._∷_ row·10 (List._∷_ (
           4,
           Reshare.mslice-owedS (Referent.rtF (Referent.fInt
               Syntax.w8)) (Syntax.tyRef (Syntax.named 1) Syntax.mut (Syntax.tyInt Syntax.w8)) 1 14 (Row.lease (κs .1 .0) (qs .1 .0)),
@@ -3466,8 +3734,8 @@ module _ (claims· : Claims) where
           5,
           Relend.mslice-owed (Record.the-row) (Syntax.tyRef (Syntax.named 2) Syntax.mut (Memory·.pointee (Record.the-row .written))) 2 13 (Row.lease
               (κs .1 .1 .0) (qs .1 .1 .0)),
-        ) (List._∷_ row·13 (List._∷_ row·123 (List._∷_ row·15 (List._∷_ row·17 (List._∷_ row·101 (List._∷_ row·3
-            (List._∷_ row·103 (List._∷_ row·5 (List._∷_ row·105 (List._∷_ row·8 List.[])))))))))))))))
+        ) (List._∷_ row·13 (List._∷_ row·133 (List._∷_ row·15 (List._∷_ row·17 (List._∷_ row·109 (List._∷_ row·3
+            (List._∷_ row·111 (List._∷_ row·5 (List._∷_ row·113 (List._∷_ row·8 List.[])))))))))))))))
 
         abbrev g102 : List.List Row.Entry
         g102 = List._∷_ row·0 (List._∷_ row·1 (List._∷_ row·9 (List._∷_ row·10 (List._∷_ (
@@ -3478,8 +3746,8 @@ module _ (claims· : Claims) where
           5,
           Relend.mslice-owed (Record.the-row) (Syntax.tyRef (Syntax.named 2) Syntax.mut (Memory·.pointee (Record.the-row .written))) 2 13 (Row.lease
               (κs .1 .1 .0) (qs .1 .1 .0)),
-        ) (List._∷_ row·13 (List._∷_ row·123 (List._∷_ row·15 (List._∷_ row·17 (List._∷_ row·101 (List._∷_ row·3
-            (List._∷_ row·103 (List._∷_ row·5 (List._∷_ row·105 (List._∷_ row·8 List.[])))))))))))))))
+        ) (List._∷_ row·13 (List._∷_ row·133 (List._∷_ row·15 (List._∷_ row·17 (List._∷_ row·109 (List._∷_ row·3
+            (List._∷_ row·111 (List._∷_ row·5 (List._∷_ row·113 (List._∷_ row·8 List.[])))))))))))))))
 
         abbrev g103 : List.List Row.Entry
         g103 = List._∷_ row·0 (List._∷_ row·1 (List._∷_ row·9 (List._∷_ row·10 (List._∷_ (
@@ -3487,1373 +3755,1591 @@ module _ (claims· : Claims) where
           Reshare.mslice-owedS (Referent.rtF (Referent.fInt
               Syntax.w8)) (Syntax.tyRef (Syntax.named 1) Syntax.mut (Syntax.tyInt Syntax.w8)) 1 14 (Row.lease (κs .1 .0) (qs .1 .0)),
         ) (List._∷_ row·12
-            (List._∷_ row·13 (List._∷_ row·123 (List._∷_ row·15 (List._∷_ row·17 (List._∷_ row·101 (List._∷_ row·3 (List._∷_ row·103 (List._∷_ row·5
-            (List._∷_ row·105 (List._∷_ row·8 List.[])))))))))))))))
+            (List._∷_ row·13 (List._∷_ row·133 (List._∷_ row·15 (List._∷_ row·17 (List._∷_ row·109 (List._∷_ row·3 (List._∷_ row·111 (List._∷_ row·5
+            (List._∷_ row·113 (List._∷_ row·8 List.[])))))))))))))))
+
+        abbrev g108 : List.List Row.Entry
+        g108 = List._∷_ row·0 (List._∷_ row·1 (List._∷_ row·119 (List._∷_ row·10 (List._∷_ row·11 (List._∷_ (
+          5,
+          Relend.mslice-owed (Record.the-row)
+              (Syntax.tyRef (Syntax.named 2) Syntax.mut (Memory·.pointee (Record.the-row .written))) 2 15 (Row.lease (κs .1 .1 .0) (qs .1 .1 .0)),
+        )
+            (List._∷_ row·13 (List._∷_ row·133 (List._∷_ row·15 (List._∷_ row·17 (List._∷_ row·109 (List._∷_ row·3 (List._∷_ row·111 (List._∷_ row·5
+            (List._∷_ row·113 (List._∷_ row·7 List.[])))))))))))))))
+
+        abbrev g112 : List.List Row.Entry
+        g112 = List._∷_ row·0 (List._∷_ row·1 (List._∷_ row·9 (List._∷_ row·10 (List._∷_ row·11 (List._∷_ (
+          5,
+          Relend.mslice-owed (Record.the-row)
+              (Syntax.tyRef (Syntax.named 2) Syntax.mut (Memory·.pointee (Record.the-row .written))) 2 15 (Row.lease (κs .1 .1 .0) (qs .1 .1 .0)),
+        )
+            (List._∷_ row·13 (List._∷_ row·133 (List._∷_ row·15 (List._∷_ row·17 (List._∷_ row·109 (List._∷_ row·3 (List._∷_ row·111 (List._∷_ row·5
+            (List._∷_ row·113 (List._∷_ row·7 List.[])))))))))))))))
 
         abbrev G0 : Row.Cx
         G0 = record {
-          locals = List._++_ t0 (List._++_ t1 t2);
-          slots = List._∷_ (Row.lease (κs .0) (qs .0)) (List._∷_ (Row.lease (κs .1 .0) (qs .1
-              .0)) (List._∷_ (Row.lease (κs .1 .1 .0) (qs .1 .1 .0)) (List._∷_ Row.off (List._∷_ Row.off (List._∷_ Row.off (List._∷_ Row.off (List._∷_
-              Row.off (List._∷_ Row.off (List._∷_ Row.off (List._∷_ Row.off (List._∷_ Row.off (List._∷_ Row.off (List._∷_ Row.off (List._∷_ Row.off
-              List.[]))))))))))))));
+          locals = List._++_ t0 (List._++_ t1 (List._++_ t2 t3));
+          slots = List._∷_ (Row.lease (κs .0) (qs .0)) (List._∷_ (Row.lease (κs .1
+              .0) (qs .1 .0)) (List._∷_ (Row.lease (κs .1 .1 .0) (qs .1 .1 .0)) (List._∷_ Row.off (List._∷_ Row.off (List._∷_ Row.off (List._∷_ Row.off
+              (List._∷_ Row.off (List._∷_ Row.off (List._∷_ Row.off (List._∷_ Row.off (List._∷_ Row.off (List._∷_ Row.off (List._∷_ Row.off (List._∷_
+              Row.off (List._∷_ Row.off List.[])))))))))))))));
         }
 
         abbrev G1 : Row.Cx
         G1 = record {
-          locals = List._++_ t3 (List._++_ t1 t2);
-          slots = List._∷_ (Row.lease (κs .0) (qs .0)) (List._∷_ (Row.lease (κs .1 .0) (qs .1
-              .0)) (List._∷_ (Row.lease (κs .1 .1 .0) (qs .1 .1 .0)) (List._∷_ Row.off (List._∷_ Row.off (List._∷_ Row.off (List._∷_ Row.off (List._∷_
-              Row.off (List._∷_ Row.off (List._∷_ Row.off (List._∷_ Row.off (List._∷_ Row.off (List._∷_ Row.off (List._∷_ Row.off (List._∷_ Row.off
-              List.[]))))))))))))));
+          locals = List._++_ t4 (List._++_ t1 (List._++_ t2 t3));
+          slots = List._∷_ (Row.lease (κs .0) (qs .0)) (List._∷_ (Row.lease (κs .1
+              .0) (qs .1 .0)) (List._∷_ (Row.lease (κs .1 .1 .0) (qs .1 .1 .0)) (List._∷_ Row.off (List._∷_ Row.off (List._∷_ Row.off (List._∷_ Row.off
+              (List._∷_ Row.off (List._∷_ Row.off (List._∷_ Row.off (List._∷_ Row.off (List._∷_ Row.off (List._∷_ Row.off (List._∷_ Row.off (List._∷_
+              Row.off (List._∷_ Row.off List.[])))))))))))))));
         }
 
         abbrev G2 : Row.Cx
         G2 = record {
-          locals = List._++_ t4 (List._++_ t5 t2);
-          slots = List._∷_ (Row.lease (κs .0) (qs .0)) (List._∷_ (Row.lease (κs .1 .0) (qs .1
-              .0)) (List._∷_ (Row.lease (κs .1 .1 .0) (qs .1 .1 .0)) (List._∷_ Row.off (List._∷_ Row.off (List._∷_ Row.off (List._∷_ Row.off (List._∷_
-              Row.off (List._∷_ Row.off (List._∷_ Row.off (List._∷_ Row.off (List._∷_ Row.off (List._∷_ Row.off (List._∷_ Row.off (List._∷_ Row.off
-              List.[]))))))))))))));
+          locals = List._++_ t5 (List._++_ t6 (List._++_ t2 t3));
+          slots = List._∷_ (Row.lease (κs .0) (qs .0)) (List._∷_ (Row.lease (κs .1
+              .0) (qs .1 .0)) (List._∷_ (Row.lease (κs .1 .1 .0) (qs .1 .1 .0)) (List._∷_ Row.off (List._∷_ Row.off (List._∷_ Row.off (List._∷_ Row.off
+              (List._∷_ Row.off (List._∷_ Row.off (List._∷_ Row.off (List._∷_ Row.off (List._∷_ Row.off (List._∷_ Row.off (List._∷_ Row.off (List._∷_
+              Row.off (List._∷_ Row.off List.[])))))))))))))));
         }
 
         abbrev G3 : Row.Cx
         G3 = record {
-          locals = List._++_ t0 (List._++_ t1 t2);
-          slots = List._∷_ (Row.lease (κs .0) (qs .0)) (List._∷_ (Row.lease (κs .1 .0) (qs .1
-              .0)) (List._∷_ (Row.lease (κs .1 .1 .0) (qs .1 .1 .0)) (List._∷_ Row.off (List._∷_ Row.off (List._∷_ Row.off (List._∷_ Row.off (List._∷_
-              Row.off (List._∷_ Row.off (List._∷_ Row.off (List._∷_ Row.off (List._∷_ Row.off (List._∷_ Row.off (List._∷_ Row.off (List._∷_ Row.off
-              List.[]))))))))))))));
+          locals = List._++_ t0 (List._++_ t1 (List._++_ t2 t3));
+          slots = List._∷_ (Row.lease (κs .0) (qs .0)) (List._∷_ (Row.lease (κs .1
+              .0) (qs .1 .0)) (List._∷_ (Row.lease (κs .1 .1 .0) (qs .1 .1 .0)) (List._∷_ Row.off (List._∷_ Row.off (List._∷_ Row.off (List._∷_ Row.off
+              (List._∷_ Row.off (List._∷_ Row.off (List._∷_ Row.off (List._∷_ Row.off (List._∷_ Row.off (List._∷_ Row.off (List._∷_ Row.off (List._∷_
+              Row.off (List._∷_ Row.off List.[])))))))))))))));
         }
 
         abbrev G4 : Row.Cx
         G4 = record {
-          locals = List._++_ t0 (List._++_ t1 t2);
-          slots = List._∷_ (Row.lease (κs .0) (qs .0)) (List._∷_ (Row.lease (κs .1 .0) (qs .1
-              .0)) (List._∷_ (Row.lease (κs .1 .1 .0) (qs .1 .1 .0)) (List._∷_ Row.off (List._∷_ Row.off (List._∷_ Row.off (List._∷_ Row.off (List._∷_
-              Row.off (List._∷_ Row.off (List._∷_ Row.off (List._∷_ Row.off (List._∷_ Row.off (List._∷_ Row.off (List._∷_ Row.off (List._∷_ Row.off
-              List.[]))))))))))))));
+          locals = List._++_ t0 (List._++_ t1 (List._++_ t2 t3));
+          slots = List._∷_ (Row.lease (κs .0) (qs .0)) (List._∷_ (Row.lease (κs .1
+              .0) (qs .1 .0)) (List._∷_ (Row.lease (κs .1 .1 .0) (qs .1 .1 .0)) (List._∷_ Row.off (List._∷_ Row.off (List._∷_ Row.off (List._∷_ Row.off
+              (List._∷_ Row.off (List._∷_ Row.off (List._∷_ Row.off (List._∷_ Row.off (List._∷_ Row.off (List._∷_ Row.off (List._∷_ Row.off (List._∷_
+              Row.off (List._∷_ Row.off List.[])))))))))))))));
         }
 
         abbrev G5 : Row.Cx
         G5 = record {
-          locals = List._++_ t0 (List._++_ t1 t2);
-          slots = List._∷_ (Row.lease (κs .0) (qs .0)) (List._∷_ (Row.lease (κs .1 .0) (qs .1
-              .0)) (List._∷_ (Row.lease (κs .1 .1 .0) (qs .1 .1 .0)) (List._∷_ Row.off (List._∷_ Row.off (List._∷_ Row.off (List._∷_ Row.off (List._∷_
-              Row.off (List._∷_ Row.off (List._∷_ Row.off (List._∷_ Row.off (List._∷_ Row.off (List._∷_ Row.off (List._∷_ Row.off (List._∷_ Row.off
-              List.[]))))))))))))));
+          locals = List._++_ t0 (List._++_ t1 (List._++_ t2 t3));
+          slots = List._∷_ (Row.lease (κs .0) (qs .0)) (List._∷_ (Row.lease (κs .1
+              .0) (qs .1 .0)) (List._∷_ (Row.lease (κs .1 .1 .0) (qs .1 .1 .0)) (List._∷_ Row.off (List._∷_ Row.off (List._∷_ Row.off (List._∷_ Row.off
+              (List._∷_ Row.off (List._∷_ Row.off (List._∷_ Row.off (List._∷_ Row.off (List._∷_ Row.off (List._∷_ Row.off (List._∷_ Row.off (List._∷_
+              Row.off (List._∷_ Row.off List.[])))))))))))))));
         }
 
         abbrev G6 : Row.Cx
         G6 = record {
-          locals = List._++_ t6 (List._++_ t1 t2);
-          slots = List._∷_ (Row.lease (κs .0) (qs .0)) (List._∷_ (Row.lease (κs .1 .0) (qs .1
-              .0)) (List._∷_ (Row.lease (κs .1 .1 .0) (qs .1 .1 .0)) (List._∷_ Row.off (List._∷_ Row.off (List._∷_ Row.off (List._∷_ Row.off (List._∷_
-              Row.off (List._∷_ Row.off (List._∷_ Row.off (List._∷_ Row.off (List._∷_ Row.off (List._∷_ Row.off (List._∷_ Row.off (List._∷_ Row.off
-              List.[]))))))))))))));
+          locals = List._++_ t7 (List._++_ t1 (List._++_ t2 t3));
+          slots = List._∷_ (Row.lease (κs .0) (qs .0)) (List._∷_ (Row.lease (κs .1
+              .0) (qs .1 .0)) (List._∷_ (Row.lease (κs .1 .1 .0) (qs .1 .1 .0)) (List._∷_ Row.off (List._∷_ Row.off (List._∷_ Row.off (List._∷_ Row.off
+              (List._∷_ Row.off (List._∷_ Row.off (List._∷_ Row.off (List._∷_ Row.off (List._∷_ Row.off (List._∷_ Row.off (List._∷_ Row.off (List._∷_
+              Row.off (List._∷_ Row.off List.[])))))))))))))));
         }
 
         abbrev G7 : Row.Cx
         G7 = record {
-          locals = List._++_ t4 (List._++_ t1 t2);
-          slots = List._∷_ (Row.lease (κs .0) (qs .0)) (List._∷_ (Row.lease (κs .1 .0) (qs .1
-              .0)) (List._∷_ (Row.lease (κs .1 .1 .0) (qs .1 .1 .0)) (List._∷_ Row.off (List._∷_ Row.off (List._∷_ Row.off (List._∷_ Row.off (List._∷_
-              Row.off (List._∷_ Row.off (List._∷_ Row.off (List._∷_ Row.off (List._∷_ Row.off (List._∷_ Row.off (List._∷_ Row.off (List._∷_ Row.off
-              List.[]))))))))))))));
+          locals = List._++_ t5 (List._++_ t1 (List._++_ t2 t3));
+          slots = List._∷_ (Row.lease (κs .0) (qs .0)) (List._∷_ (Row.lease (κs .1
+              .0) (qs .1 .0)) (List._∷_ (Row.lease (κs .1 .1 .0) (qs .1 .1 .0)) (List._∷_ Row.off (List._∷_ Row.off (List._∷_ Row.off (List._∷_ Row.off
+              (List._∷_ Row.off (List._∷_ Row.off (List._∷_ Row.off (List._∷_ Row.off (List._∷_ Row.off (List._∷_ Row.off (List._∷_ Row.off (List._∷_
+              Row.off (List._∷_ Row.off List.[])))))))))))))));
         }
 
         abbrev G8 : Row.Cx
         G8 = record {
-          locals = List._++_ t4 (List._++_ t5 t2);
-          slots = List._∷_ (Row.lease (κs .0) (qs .0)) (List._∷_ (Row.lease (κs .1 .0) (qs .1
-              .0)) (List._∷_ (Row.lease (κs .1 .1 .0) (qs .1 .1 .0)) (List._∷_ Row.off (List._∷_ Row.off (List._∷_ Row.off (List._∷_ Row.off (List._∷_
-              Row.off (List._∷_ Row.off (List._∷_ Row.off (List._∷_ Row.off (List._∷_ Row.off (List._∷_ Row.off (List._∷_ Row.off (List._∷_ Row.off
-              List.[]))))))))))))));
+          locals = List._++_ t5 (List._++_ t6 (List._++_ t2 t3));
+          slots = List._∷_ (Row.lease (κs .0) (qs .0)) (List._∷_ (Row.lease (κs .1
+              .0) (qs .1 .0)) (List._∷_ (Row.lease (κs .1 .1 .0) (qs .1 .1 .0)) (List._∷_ Row.off (List._∷_ Row.off (List._∷_ Row.off (List._∷_ Row.off
+              (List._∷_ Row.off (List._∷_ Row.off (List._∷_ Row.off (List._∷_ Row.off (List._∷_ Row.off (List._∷_ Row.off (List._∷_ Row.off (List._∷_
+              Row.off (List._∷_ Row.off List.[])))))))))))))));
         }
 
         abbrev G9 : Row.Cx
         G9 = record {
-          locals = List._++_ t7 (List._++_ t1 t2);
-          slots = List._∷_ (Row.lease (κs .0) (qs .0)) (List._∷_ (Row.lease (κs .1 .0) (qs .1
-              .0)) (List._∷_ (Row.lease (κs .1 .1 .0) (qs .1 .1 .0)) (List._∷_ Row.off (List._∷_ Row.off (List._∷_ Row.off (List._∷_ Row.off (List._∷_
-              Row.off (List._∷_ Row.off (List._∷_ Row.off (List._∷_ Row.off (List._∷_ Row.off (List._∷_ Row.off (List._∷_ Row.off (List._∷_ Row.off
-              List.[]))))))))))))));
+          locals = List._++_ t8 (List._++_ t1 (List._++_ t2 t3));
+          slots = List._∷_ (Row.lease (κs .0) (qs .0)) (List._∷_ (Row.lease (κs .1
+              .0) (qs .1 .0)) (List._∷_ (Row.lease (κs .1 .1 .0) (qs .1 .1 .0)) (List._∷_ Row.off (List._∷_ Row.off (List._∷_ Row.off (List._∷_ Row.off
+              (List._∷_ Row.off (List._∷_ Row.off (List._∷_ Row.off (List._∷_ Row.off (List._∷_ Row.off (List._∷_ Row.off (List._∷_ Row.off (List._∷_
+              Row.off (List._∷_ Row.off List.[])))))))))))))));
         }
 
         abbrev G10 : Row.Cx
         G10 = record {
-          locals = List._++_ t7 (List._++_ t1 t2);
-          slots = List._∷_ (Row.lease (κs .0) (qs .0)) (List._∷_ (Row.lease (κs .1 .0) (qs .1
-              .0)) (List._∷_ (Row.lease (κs .1 .1 .0) (qs .1 .1 .0)) (List._∷_ Row.off (List._∷_ Row.off (List._∷_ Row.off (List._∷_ Row.off (List._∷_
+          locals = List._++_ t8 (List._++_ t1 (List._++_ t2 t3));
+          slots = List._∷_ (Row.lease (κs .0) (qs .0)) (List._∷_ (Row.lease (κs
+              .1 .0) (qs .1 .0)) (List._∷_ (Row.lease (κs .1 .1 .0) (qs .1 .1 .0)) (List._∷_ Row.off (List._∷_ Row.off (List._∷_ Row.off (List._∷_
               Row.off (List._∷_ Row.off (List._∷_ Row.off (List._∷_ Row.off (List._∷_ Row.off (List._∷_ Row.off (List._∷_ Row.off (List._∷_ Row.off
-              List.[]))))))))))))));
+              (List._∷_ Row.off (List._∷_ Row.off List.[])))))))))))))));
         }
 
         abbrev G11 : Row.Cx
         G11 = record {
-          locals = List._++_ t8 (List._++_ t1 t2);
-          slots = List._∷_ (Row.lease (κs .0) (qs .0)) (List._∷_ (Row.lease (κs .1 .0) (qs .1
-              .0)) (List._∷_ (Row.lease (κs .1 .1 .0) (qs .1 .1 .0)) (List._∷_ Row.off (List._∷_ Row.off (List._∷_ Row.off (List._∷_ Row.off (List._∷_
+          locals = List._++_ t9 (List._++_ t1 (List._++_ t2 t3));
+          slots = List._∷_ (Row.lease (κs .0) (qs .0)) (List._∷_ (Row.lease (κs
+              .1 .0) (qs .1 .0)) (List._∷_ (Row.lease (κs .1 .1 .0) (qs .1 .1 .0)) (List._∷_ Row.off (List._∷_ Row.off (List._∷_ Row.off (List._∷_
               Row.off (List._∷_ Row.off (List._∷_ Row.off (List._∷_ Row.off (List._∷_ Row.off (List._∷_ Row.off (List._∷_ Row.off (List._∷_ Row.off
-              List.[]))))))))))))));
+              (List._∷_ Row.off (List._∷_ Row.off List.[])))))))))))))));
         }
 
         abbrev G12 : Row.Cx
         G12 = record {
-          locals = List._++_ t9 (List._++_ t1 t2);
-          slots = List._∷_ (Row.lease (κs .0) (qs .0)) (List._∷_ (Row.lease (κs .1 .0) (qs .1
-              .0)) (List._∷_ (Row.lease (κs .1 .1 .0) (qs .1 .1 .0)) (List._∷_ Row.off (List._∷_ Row.off (List._∷_ Row.off (List._∷_ Row.off (List._∷_
+          locals = List._++_ t10 (List._++_ t1 (List._++_ t2 t3));
+          slots = List._∷_ (Row.lease (κs .0) (qs .0)) (List._∷_ (Row.lease (κs
+              .1 .0) (qs .1 .0)) (List._∷_ (Row.lease (κs .1 .1 .0) (qs .1 .1 .0)) (List._∷_ Row.off (List._∷_ Row.off (List._∷_ Row.off (List._∷_
               Row.off (List._∷_ Row.off (List._∷_ Row.off (List._∷_ Row.off (List._∷_ Row.off (List._∷_ Row.off (List._∷_ Row.off (List._∷_ Row.off
-              List.[]))))))))))))));
+              (List._∷_ Row.off (List._∷_ Row.off List.[])))))))))))))));
         }
 
         abbrev G13 : Row.Cx
         G13 = record {
-          locals = List._++_ t10 (List._++_ t1 t2);
-          slots = List._∷_ (Row.lease (κs .0) (qs .0)) (List._∷_ (Row.lease (κs .1 .0) (qs .1
-              .0)) (List._∷_ (Row.lease (κs .1 .1 .0) (qs .1 .1 .0)) (List._∷_ Row.off (List._∷_ Row.off (List._∷_ Row.off (List._∷_ Row.off (List._∷_
+          locals = List._++_ t11 (List._++_ t1 (List._++_ t2 t3));
+          slots = List._∷_ (Row.lease (κs .0) (qs .0)) (List._∷_ (Row.lease (κs
+              .1 .0) (qs .1 .0)) (List._∷_ (Row.lease (κs .1 .1 .0) (qs .1 .1 .0)) (List._∷_ Row.off (List._∷_ Row.off (List._∷_ Row.off (List._∷_
               Row.off (List._∷_ Row.off (List._∷_ Row.off (List._∷_ Row.off (List._∷_ Row.off (List._∷_ Row.off (List._∷_ Row.off (List._∷_ Row.off
-              List.[]))))))))))))));
+              (List._∷_ Row.off (List._∷_ Row.off List.[])))))))))))))));
         }
 
         abbrev G14 : Row.Cx
         G14 = record {
-          locals = List._++_ t11 (List._++_ t1 t2);
-          slots = List._∷_ (Row.lease (κs .0) (qs .0)) (List._∷_ (Row.lease (κs .1 .0) (qs .1
-              .0)) (List._∷_ (Row.lease (κs .1 .1 .0) (qs .1 .1 .0)) (List._∷_ Row.off (List._∷_ Row.off (List._∷_ Row.off (List._∷_ Row.off (List._∷_
+          locals = List._++_ t12 (List._++_ t1 (List._++_ t2 t3));
+          slots = List._∷_ (Row.lease (κs .0) (qs .0)) (List._∷_ (Row.lease (κs
+              .1 .0) (qs .1 .0)) (List._∷_ (Row.lease (κs .1 .1 .0) (qs .1 .1 .0)) (List._∷_ Row.off (List._∷_ Row.off (List._∷_ Row.off (List._∷_
               Row.off (List._∷_ Row.off (List._∷_ Row.off (List._∷_ Row.off (List._∷_ Row.off (List._∷_ Row.off (List._∷_ Row.off (List._∷_ Row.off
-              List.[]))))))))))))));
+              (List._∷_ Row.off (List._∷_ Row.off List.[])))))))))))))));
         }
 
         abbrev G15 : Row.Cx
         G15 = record {
-          locals = List._++_ t11 (List._++_ t1 t2);
-          slots = List._∷_ (Row.lease (κs .0) (qs .0)) (List._∷_ (Row.lease (κs .1 .0) (qs .1
-              .0)) (List._∷_ (Row.lease (κs .1 .1 .0) (qs .1 .1 .0)) (List._∷_ Row.alive (List._∷_ Row.off (List._∷_ Row.off (List._∷_ Row.off (List._∷_
+          locals = List._++_ t12 (List._++_ t1 (List._++_ t2 t3));
+          slots = List._∷_ (Row.lease (κs .0) (qs .0)) (List._∷_ (Row.lease (κs
+              .1 .0) (qs .1 .0)) (List._∷_ (Row.lease (κs .1 .1 .0) (qs .1 .1 .0)) (List._∷_ Row.alive (List._∷_ Row.off (List._∷_ Row.off (List._∷_
               Row.off (List._∷_ Row.off (List._∷_ Row.off (List._∷_ Row.off (List._∷_ Row.off (List._∷_ Row.off (List._∷_ Row.off (List._∷_ Row.off
-              List.[]))))))))))))));
+              (List._∷_ Row.off (List._∷_ Row.off List.[])))))))))))))));
         }
 
         abbrev G16 : Row.Cx
         G16 = record {
-          locals = List._++_ g12 (List._++_ t13 t2);
-          slots = List._∷_ (Row.lease (κs .0) (qs .0)) (List._∷_ (Row.lease (κs .1 .0) (qs .1
-              .0)) (List._∷_ Row.off (List._∷_ Row.alive (List._∷_ Row.off (List._∷_ Row.off (List._∷_ Row.off (List._∷_ Row.off (List._∷_ Row.off
-              (List._∷_ Row.off (List._∷_ Row.off (List._∷_ Row.off (List._∷_ Row.off (List._∷_ Row.off (List._∷_ Row.off List.[]))))))))))))));
+          locals = List._++_ g13 (List._++_ t14 (List._++_ t2 t3));
+          slots = List._∷_ (Row.lease (κs .0) (qs .0)) (List._∷_ (Row.lease (κs
+              .1 .0) (qs .1 .0)) (List._∷_ Row.off (List._∷_ Row.alive (List._∷_ Row.off (List._∷_ Row.off (List._∷_ Row.off (List._∷_ Row.off (List._∷_
+              Row.off (List._∷_ Row.off (List._∷_ Row.off (List._∷_ Row.off (List._∷_ Row.off (List._∷_ Row.off (List._∷_ Row.off (List._∷_ Row.off
+              List.[])))))))))))))));
         }
 
         abbrev G17 : Row.Cx
         G17 = record {
-          locals = List._++_ g12 (List._++_ t14 t2);
-          slots = List._∷_ (Row.lease (κs .0) (qs .0)) (List._∷_ (Row.lease (κs .1 .0) (qs .1
-              .0)) (List._∷_ Row.off (List._∷_ Row.alive (List._∷_ Row.off (List._∷_ Row.off (List._∷_ Row.off (List._∷_ Row.off (List._∷_ Row.off
-              (List._∷_ Row.off (List._∷_ Row.off (List._∷_ Row.off (List._∷_ Row.off (List._∷_ Row.off (List._∷_ Row.off List.[]))))))))))))));
+          locals = List._++_ g13 (List._++_ t15 (List._++_ t2 t3));
+          slots = List._∷_ (Row.lease (κs .0) (qs .0)) (List._∷_ (Row.lease (κs
+              .1 .0) (qs .1 .0)) (List._∷_ Row.off (List._∷_ Row.alive (List._∷_ Row.off (List._∷_ Row.off (List._∷_ Row.off (List._∷_ Row.off (List._∷_
+              Row.off (List._∷_ Row.off (List._∷_ Row.off (List._∷_ Row.off (List._∷_ Row.off (List._∷_ Row.off (List._∷_ Row.off (List._∷_ Row.off
+              List.[])))))))))))))));
         }
 
         abbrev G18 : Row.Cx
         G18 = record {
-          locals = List._++_ g12 (List._++_ t15 t2);
-          slots = List._∷_ (Row.lease (κs .0) (qs .0)) (List._∷_ (Row.lease (κs .1 .0) (qs .1
-              .0)) (List._∷_ Row.off (List._∷_ Row.alive (List._∷_ Row.off (List._∷_ Row.off (List._∷_ Row.off (List._∷_ Row.off (List._∷_ Row.off
-              (List._∷_ Row.off (List._∷_ Row.off (List._∷_ Row.off (List._∷_ Row.off (List._∷_ Row.off (List._∷_ Row.off List.[]))))))))))))));
+          locals = List._++_ g13 (List._++_ t16 (List._++_ t2 t3));
+          slots = List._∷_ (Row.lease (κs .0) (qs .0)) (List._∷_ (Row.lease (κs
+              .1 .0) (qs .1 .0)) (List._∷_ Row.off (List._∷_ Row.alive (List._∷_ Row.off (List._∷_ Row.off (List._∷_ Row.off (List._∷_ Row.off (List._∷_
+              Row.off (List._∷_ Row.off (List._∷_ Row.off (List._∷_ Row.off (List._∷_ Row.off (List._∷_ Row.off (List._∷_ Row.off (List._∷_ Row.off
+              List.[])))))))))))))));
         }
 
         abbrev G19 : Row.Cx
         G19 = record {
-          locals = List._++_ g12 (List._++_ t16 t2);
-          slots = List._∷_ (Row.lease (κs .0) (qs .0)) (List._∷_ (Row.lease (κs .1 .0) (qs .1
-              .0)) (List._∷_ Row.off (List._∷_ Row.alive (List._∷_ Row.off (List._∷_ Row.off (List._∷_ Row.off (List._∷_ Row.off (List._∷_ Row.off
-              (List._∷_ Row.off (List._∷_ Row.off (List._∷_ Row.off (List._∷_ Row.off (List._∷_ Row.off (List._∷_ Row.off List.[]))))))))))))));
+          locals = List._++_ g13 (List._++_ t17 (List._++_ t2 t3));
+          slots = List._∷_ (Row.lease (κs .0) (qs .0)) (List._∷_ (Row.lease (κs
+              .1 .0) (qs .1 .0)) (List._∷_ Row.off (List._∷_ Row.alive (List._∷_ Row.off (List._∷_ Row.off (List._∷_ Row.off (List._∷_ Row.off (List._∷_
+              Row.off (List._∷_ Row.off (List._∷_ Row.off (List._∷_ Row.off (List._∷_ Row.off (List._∷_ Row.off (List._∷_ Row.off (List._∷_ Row.off
+              List.[])))))))))))))));
         }
 
         abbrev G20 : Row.Cx
         G20 = record {
-          locals = List._++_ g12 (List._++_ t16 t2);
-          slots = List._∷_ (Row.lease (κs .0) (qs .0)) (List._∷_ (Row.lease (κs .1 .0) (qs .1
-              .0)) (List._∷_ Row.off (List._∷_ Row.dead (List._∷_ Row.off (List._∷_ Row.off (List._∷_ Row.off (List._∷_ Row.off (List._∷_ Row.off
-              (List._∷_ Row.off (List._∷_ Row.off (List._∷_ Row.off (List._∷_ Row.off (List._∷_ Row.off (List._∷_ Row.off List.[]))))))))))))));
+          locals = List._++_ g13 (List._++_ t17 (List._++_ t2 t3));
+          slots = List._∷_ (Row.lease (κs .0) (qs .0)) (List._∷_ (Row.lease (κs
+              .1 .0) (qs .1 .0)) (List._∷_ Row.off (List._∷_ Row.dead (List._∷_ Row.off (List._∷_ Row.off (List._∷_ Row.off (List._∷_ Row.off (List._∷_
+              Row.off (List._∷_ Row.off (List._∷_ Row.off (List._∷_ Row.off (List._∷_ Row.off (List._∷_ Row.off (List._∷_ Row.off (List._∷_ Row.off
+              List.[])))))))))))))));
         }
 
         abbrev G21 : Row.Cx
         G21 = record {
-          locals = List._++_ t11 (List._++_ t1 t2);
-          slots = List._∷_ (Row.lease (κs .0) (qs .0)) (List._∷_ (Row.lease (κs .1 .0) (qs .1
-              .0)) (List._∷_ (Row.lease (κs .1 .1 .0) (qs .1 .1 .0)) (List._∷_ Row.dead (List._∷_ Row.off (List._∷_ Row.off (List._∷_ Row.off (List._∷_
+          locals = List._++_ t12 (List._++_ t1 (List._++_ t2 t3));
+          slots = List._∷_ (Row.lease (κs .0) (qs .0)) (List._∷_ (Row.lease (κs
+              .1 .0) (qs .1 .0)) (List._∷_ (Row.lease (κs .1 .1 .0) (qs .1 .1 .0)) (List._∷_ Row.dead (List._∷_ Row.off (List._∷_ Row.off (List._∷_
               Row.off (List._∷_ Row.off (List._∷_ Row.off (List._∷_ Row.off (List._∷_ Row.off (List._∷_ Row.off (List._∷_ Row.off (List._∷_ Row.off
-              List.[]))))))))))))));
+              (List._∷_ Row.off (List._∷_ Row.off List.[])))))))))))))));
         }
 
         abbrev G22 : Row.Cx
         G22 = record {
-          locals = List._++_ t11 (List._++_ t1 t2);
-          slots = List._∷_ (Row.lease (κs .0) (qs .0)) (List._∷_ (Row.lease (κs .1 .0) (qs .1
-              .0)) (List._∷_ (Row.lease (κs .1 .1 .0) (qs .1 .1 .0)) (List._∷_ Row.off (List._∷_ Row.off (List._∷_ Row.off (List._∷_ Row.off (List._∷_
+          locals = List._++_ t12 (List._++_ t1 (List._++_ t2 t3));
+          slots = List._∷_ (Row.lease (κs .0) (qs .0)) (List._∷_ (Row.lease (κs
+              .1 .0) (qs .1 .0)) (List._∷_ (Row.lease (κs .1 .1 .0) (qs .1 .1 .0)) (List._∷_ Row.off (List._∷_ Row.off (List._∷_ Row.off (List._∷_
               Row.off (List._∷_ Row.off (List._∷_ Row.off (List._∷_ Row.off (List._∷_ Row.off (List._∷_ Row.off (List._∷_ Row.off (List._∷_ Row.off
-              List.[]))))))))))))));
+              (List._∷_ Row.off (List._∷_ Row.off List.[])))))))))))))));
         }
 
         abbrev G23 : Row.Cx
         G23 = record {
-          locals = List._++_ t11 (List._++_ t5 t2);
-          slots = List._∷_ (Row.lease (κs .0) (qs .0)) (List._∷_ (Row.lease (κs .1 .0) (qs .1
-              .0)) (List._∷_ (Row.lease (κs .1 .1 .0) (qs .1 .1 .0)) (List._∷_ Row.off (List._∷_ Row.off (List._∷_ Row.off (List._∷_ Row.off (List._∷_
+          locals = List._++_ t12 (List._++_ t6 (List._++_ t2 t3));
+          slots = List._∷_ (Row.lease (κs .0) (qs .0)) (List._∷_ (Row.lease (κs
+              .1 .0) (qs .1 .0)) (List._∷_ (Row.lease (κs .1 .1 .0) (qs .1 .1 .0)) (List._∷_ Row.off (List._∷_ Row.off (List._∷_ Row.off (List._∷_
               Row.off (List._∷_ Row.off (List._∷_ Row.off (List._∷_ Row.off (List._∷_ Row.off (List._∷_ Row.off (List._∷_ Row.off (List._∷_ Row.off
-              List.[]))))))))))))));
+              (List._∷_ Row.off (List._∷_ Row.off List.[])))))))))))))));
         }
 
         abbrev G24 : Row.Cx
         G24 = record {
-          locals = List._++_ t17 (List._++_ t5 t2);
-          slots = List._∷_ (Row.lease (κs .0) (qs .0)) (List._∷_ (Row.lease (κs .1 .0) (qs .1
-              .0)) (List._∷_ (Row.lease (κs .1 .1 .0) (qs .1 .1 .0)) (List._∷_ Row.off (List._∷_ Row.off (List._∷_ Row.off (List._∷_ Row.off (List._∷_
+          locals = List._++_ t18 (List._++_ t6 (List._++_ t2 t3));
+          slots = List._∷_ (Row.lease (κs .0) (qs .0)) (List._∷_ (Row.lease (κs
+              .1 .0) (qs .1 .0)) (List._∷_ (Row.lease (κs .1 .1 .0) (qs .1 .1 .0)) (List._∷_ Row.off (List._∷_ Row.off (List._∷_ Row.off (List._∷_
               Row.off (List._∷_ Row.off (List._∷_ Row.off (List._∷_ Row.off (List._∷_ Row.off (List._∷_ Row.off (List._∷_ Row.off (List._∷_ Row.off
-              List.[]))))))))))))));
+              (List._∷_ Row.off (List._∷_ Row.off List.[])))))))))))))));
         }
 
         abbrev G25 : Row.Cx
         G25 = record {
-          locals = List._++_ t4 (List._++_ t5 t2);
-          slots = List._∷_ (Row.lease (κs .0) (qs .0)) (List._∷_ (Row.lease (κs .1 .0) (qs .1
-              .0)) (List._∷_ (Row.lease (κs .1 .1 .0) (qs .1 .1 .0)) (List._∷_ Row.off (List._∷_ Row.off (List._∷_ Row.off (List._∷_ Row.off (List._∷_
+          locals = List._++_ t5 (List._++_ t6 (List._++_ t2 t3));
+          slots = List._∷_ (Row.lease (κs .0) (qs .0)) (List._∷_ (Row.lease (κs
+              .1 .0) (qs .1 .0)) (List._∷_ (Row.lease (κs .1 .1 .0) (qs .1 .1 .0)) (List._∷_ Row.off (List._∷_ Row.off (List._∷_ Row.off (List._∷_
               Row.off (List._∷_ Row.off (List._∷_ Row.off (List._∷_ Row.off (List._∷_ Row.off (List._∷_ Row.off (List._∷_ Row.off (List._∷_ Row.off
-              List.[]))))))))))))));
+              (List._∷_ Row.off (List._∷_ Row.off List.[])))))))))))))));
         }
 
         abbrev G26 : Row.Cx
         G26 = record {
-          locals = List._++_ t18 (List._++_ t1 t2);
-          slots = List._∷_ (Row.lease (κs .0) (qs .0)) (List._∷_ (Row.lease (κs .1 .0) (qs .1
-              .0)) (List._∷_ (Row.lease (κs .1 .1 .0) (qs .1 .1 .0)) (List._∷_ Row.off (List._∷_ Row.off (List._∷_ Row.off (List._∷_ Row.off (List._∷_
+          locals = List._++_ t19 (List._++_ t1 (List._++_ t2 t3));
+          slots = List._∷_ (Row.lease (κs .0) (qs .0)) (List._∷_ (Row.lease (κs
+              .1 .0) (qs .1 .0)) (List._∷_ (Row.lease (κs .1 .1 .0) (qs .1 .1 .0)) (List._∷_ Row.off (List._∷_ Row.off (List._∷_ Row.off (List._∷_
               Row.off (List._∷_ Row.off (List._∷_ Row.off (List._∷_ Row.off (List._∷_ Row.off (List._∷_ Row.off (List._∷_ Row.off (List._∷_ Row.off
-              List.[]))))))))))))));
+              (List._∷_ Row.off (List._∷_ Row.off List.[])))))))))))))));
         }
 
         abbrev G27 : Row.Cx
         G27 = record {
-          locals = List._++_ t18 (List._++_ t1 t2);
-          slots = List._∷_ (Row.lease (κs .0) (qs .0)) (List._∷_ (Row.lease (κs .1 .0) (qs .1
-              .0)) (List._∷_ (Row.lease (κs .1 .1 .0) (qs .1 .1 .0)) (List._∷_ Row.off (List._∷_ Row.off (List._∷_ Row.off (List._∷_ Row.off (List._∷_
+          locals = List._++_ t19 (List._++_ t1 (List._++_ t2 t3));
+          slots = List._∷_ (Row.lease (κs .0) (qs .0)) (List._∷_ (Row.lease (κs
+              .1 .0) (qs .1 .0)) (List._∷_ (Row.lease (κs .1 .1 .0) (qs .1 .1 .0)) (List._∷_ Row.off (List._∷_ Row.off (List._∷_ Row.off (List._∷_
               Row.off (List._∷_ Row.off (List._∷_ Row.off (List._∷_ Row.off (List._∷_ Row.off (List._∷_ Row.off (List._∷_ Row.off (List._∷_ Row.off
-              List.[]))))))))))))));
+              (List._∷_ Row.off (List._∷_ Row.off List.[])))))))))))))));
         }
 
         abbrev G28 : Row.Cx
         G28 = record {
-          locals = List._++_ t19 (List._++_ t1 t2);
-          slots = List._∷_ (Row.lease (κs .0) (qs .0)) (List._∷_ (Row.lease (κs .1 .0) (qs .1
-              .0)) (List._∷_ (Row.lease (κs .1 .1 .0) (qs .1 .1 .0)) (List._∷_ Row.off (List._∷_ Row.off (List._∷_ Row.off (List._∷_ Row.off (List._∷_
+          locals = List._++_ t20 (List._++_ t1 (List._++_ t2 t3));
+          slots = List._∷_ (Row.lease (κs .0) (qs .0)) (List._∷_ (Row.lease (κs
+              .1 .0) (qs .1 .0)) (List._∷_ (Row.lease (κs .1 .1 .0) (qs .1 .1 .0)) (List._∷_ Row.off (List._∷_ Row.off (List._∷_ Row.off (List._∷_
               Row.off (List._∷_ Row.off (List._∷_ Row.off (List._∷_ Row.off (List._∷_ Row.off (List._∷_ Row.off (List._∷_ Row.off (List._∷_ Row.off
-              List.[]))))))))))))));
+              (List._∷_ Row.off (List._∷_ Row.off List.[])))))))))))))));
         }
 
         abbrev G29 : Row.Cx
         G29 = record {
-          locals = List._++_ t20 (List._++_ t1 t2);
-          slots = List._∷_ (Row.lease (κs .0) (qs .0)) (List._∷_ (Row.lease (κs .1 .0) (qs .1
-              .0)) (List._∷_ (Row.lease (κs .1 .1 .0) (qs .1 .1 .0)) (List._∷_ Row.off (List._∷_ Row.off (List._∷_ Row.off (List._∷_ Row.off (List._∷_
+          locals = List._++_ t21 (List._++_ t1 (List._++_ t2 t3));
+          slots = List._∷_ (Row.lease (κs .0) (qs .0)) (List._∷_ (Row.lease (κs
+              .1 .0) (qs .1 .0)) (List._∷_ (Row.lease (κs .1 .1 .0) (qs .1 .1 .0)) (List._∷_ Row.off (List._∷_ Row.off (List._∷_ Row.off (List._∷_
               Row.off (List._∷_ Row.off (List._∷_ Row.off (List._∷_ Row.off (List._∷_ Row.off (List._∷_ Row.off (List._∷_ Row.off (List._∷_ Row.off
-              List.[]))))))))))))));
+              (List._∷_ Row.off (List._∷_ Row.off List.[])))))))))))))));
         }
 
         abbrev G30 : Row.Cx
         G30 = record {
-          locals = List._++_ t21 (List._++_ t1 t2);
-          slots = List._∷_ (Row.lease (κs .0) (qs .0)) (List._∷_ (Row.lease (κs .1 .0) (qs .1
-              .0)) (List._∷_ (Row.lease (κs .1 .1 .0) (qs .1 .1 .0)) (List._∷_ Row.off (List._∷_ Row.off (List._∷_ Row.off (List._∷_ Row.off (List._∷_
+          locals = List._++_ t22 (List._++_ t1 (List._++_ t2 t3));
+          slots = List._∷_ (Row.lease (κs .0) (qs .0)) (List._∷_ (Row.lease (κs
+              .1 .0) (qs .1 .0)) (List._∷_ (Row.lease (κs .1 .1 .0) (qs .1 .1 .0)) (List._∷_ Row.off (List._∷_ Row.off (List._∷_ Row.off (List._∷_
               Row.off (List._∷_ Row.off (List._∷_ Row.off (List._∷_ Row.off (List._∷_ Row.off (List._∷_ Row.off (List._∷_ Row.off (List._∷_ Row.off
-              List.[]))))))))))))));
+              (List._∷_ Row.off (List._∷_ Row.off List.[])))))))))))))));
         }
 
         abbrev G31 : Row.Cx
         G31 = record {
-          locals = List._++_ t22 (List._++_ t1 t2);
-          slots = List._∷_ (Row.lease (κs .0) (qs .0)) (List._∷_ (Row.lease (κs .1 .0) (qs .1
-              .0)) (List._∷_ (Row.lease (κs .1 .1 .0) (qs .1 .1 .0)) (List._∷_ Row.off (List._∷_ Row.off (List._∷_ Row.off (List._∷_ Row.off (List._∷_
+          locals = List._++_ t23 (List._++_ t1 (List._++_ t2 t3));
+          slots = List._∷_ (Row.lease (κs .0) (qs .0)) (List._∷_ (Row.lease (κs
+              .1 .0) (qs .1 .0)) (List._∷_ (Row.lease (κs .1 .1 .0) (qs .1 .1 .0)) (List._∷_ Row.off (List._∷_ Row.off (List._∷_ Row.off (List._∷_
               Row.off (List._∷_ Row.off (List._∷_ Row.off (List._∷_ Row.off (List._∷_ Row.off (List._∷_ Row.off (List._∷_ Row.off (List._∷_ Row.off
-              List.[]))))))))))))));
+              (List._∷_ Row.off (List._∷_ Row.off List.[])))))))))))))));
         }
 
         abbrev G32 : Row.Cx
         G32 = record {
-          locals = List._++_ t22 (List._++_ t1 t2);
-          slots = List._∷_ (Row.lease (κs .0) (qs .0)) (List._∷_ (Row.lease (κs .1 .0) (qs .1
-              .0)) (List._∷_ (Row.lease (κs .1 .1 .0) (qs .1 .1 .0)) (List._∷_ Row.off (List._∷_ Row.alive (List._∷_ Row.off (List._∷_ Row.off (List._∷_
+          locals = List._++_ t23 (List._++_ t1 (List._++_ t2 t3));
+          slots = List._∷_ (Row.lease (κs .0) (qs .0)) (List._∷_ (Row.lease (κs
+              .1 .0) (qs .1 .0)) (List._∷_ (Row.lease (κs .1 .1 .0) (qs .1 .1 .0)) (List._∷_ Row.off (List._∷_ Row.alive (List._∷_ Row.off (List._∷_
               Row.off (List._∷_ Row.off (List._∷_ Row.off (List._∷_ Row.off (List._∷_ Row.off (List._∷_ Row.off (List._∷_ Row.off (List._∷_ Row.off
-              List.[]))))))))))))));
+              (List._∷_ Row.off (List._∷_ Row.off List.[])))))))))))))));
         }
 
         abbrev G33 : Row.Cx
         G33 = record {
-          locals = List._++_ g23 (List._++_ t24 t2);
-          slots = List._∷_ (Row.lease (κs .0) (qs .0)) (List._∷_ (Row.lease (κs .1 .0) (qs .1
-              .0)) (List._∷_ Row.off (List._∷_ Row.off (List._∷_ Row.alive (List._∷_ Row.off (List._∷_ Row.off (List._∷_ Row.off (List._∷_ Row.off
-              (List._∷_ Row.off (List._∷_ Row.off (List._∷_ Row.off (List._∷_ Row.off (List._∷_ Row.off (List._∷_ Row.off List.[]))))))))))))));
+          locals = List._++_ g24 (List._++_ t25 (List._++_ t2 t3));
+          slots = List._∷_ (Row.lease (κs .0) (qs .0)) (List._∷_ (Row.lease (κs
+              .1 .0) (qs .1 .0)) (List._∷_ Row.off (List._∷_ Row.off (List._∷_ Row.alive (List._∷_ Row.off (List._∷_ Row.off (List._∷_ Row.off (List._∷_
+              Row.off (List._∷_ Row.off (List._∷_ Row.off (List._∷_ Row.off (List._∷_ Row.off (List._∷_ Row.off (List._∷_ Row.off (List._∷_ Row.off
+              List.[])))))))))))))));
         }
 
         abbrev G34 : Row.Cx
         G34 = record {
-          locals = List._++_ g23 (List._++_ t25 t2);
-          slots = List._∷_ (Row.lease (κs .0) (qs .0)) (List._∷_ (Row.lease (κs .1 .0) (qs .1
-              .0)) (List._∷_ Row.off (List._∷_ Row.off (List._∷_ Row.alive (List._∷_ Row.off (List._∷_ Row.off (List._∷_ Row.off (List._∷_ Row.off
-              (List._∷_ Row.off (List._∷_ Row.off (List._∷_ Row.off (List._∷_ Row.off (List._∷_ Row.off (List._∷_ Row.off List.[]))))))))))))));
+          locals = List._++_ g24 (List._++_ t26 (List._++_ t2 t3));
+          slots = List._∷_ (Row.lease (κs .0) (qs .0)) (List._∷_ (Row.lease (κs
+              .1 .0) (qs .1 .0)) (List._∷_ Row.off (List._∷_ Row.off (List._∷_ Row.alive (List._∷_ Row.off (List._∷_ Row.off (List._∷_ Row.off (List._∷_
+              Row.off (List._∷_ Row.off (List._∷_ Row.off (List._∷_ Row.off (List._∷_ Row.off (List._∷_ Row.off (List._∷_ Row.off (List._∷_ Row.off
+              List.[])))))))))))))));
         }
 
         abbrev G35 : Row.Cx
         G35 = record {
-          locals = List._++_ g23 (List._++_ t26 t2);
-          slots = List._∷_ (Row.lease (κs .0) (qs .0)) (List._∷_ (Row.lease (κs .1 .0) (qs .1
-              .0)) (List._∷_ Row.off (List._∷_ Row.off (List._∷_ Row.alive (List._∷_ Row.off (List._∷_ Row.off (List._∷_ Row.off (List._∷_ Row.off
-              (List._∷_ Row.off (List._∷_ Row.off (List._∷_ Row.off (List._∷_ Row.off (List._∷_ Row.off (List._∷_ Row.off List.[]))))))))))))));
+          locals = List._++_ g24 (List._++_ t27 (List._++_ t2 t3));
+          slots = List._∷_ (Row.lease (κs .0) (qs .0)) (List._∷_ (Row.lease (κs
+              .1 .0) (qs .1 .0)) (List._∷_ Row.off (List._∷_ Row.off (List._∷_ Row.alive (List._∷_ Row.off (List._∷_ Row.off (List._∷_ Row.off (List._∷_
+              Row.off (List._∷_ Row.off (List._∷_ Row.off (List._∷_ Row.off (List._∷_ Row.off (List._∷_ Row.off (List._∷_ Row.off (List._∷_ Row.off
+              List.[])))))))))))))));
         }
 
         abbrev G36 : Row.Cx
         G36 = record {
-          locals = List._++_ g27 (List._++_ t26 t2);
-          slots = List._∷_ (Row.lease (κs .0) (qs .0)) (List._∷_ (Row.lease (κs .1 .0) (qs .1
-              .0)) (List._∷_ Row.off (List._∷_ Row.off (List._∷_ Row.alive (List._∷_ Row.off (List._∷_ Row.off (List._∷_ Row.off (List._∷_ Row.off
-              (List._∷_ Row.off (List._∷_ Row.off (List._∷_ Row.off (List._∷_ Row.off (List._∷_ Row.off (List._∷_ Row.off List.[]))))))))))))));
+          locals = List._++_ g28 (List._++_ t27 (List._++_ t2 t3));
+          slots = List._∷_ (Row.lease (κs .0) (qs .0)) (List._∷_ (Row.lease (κs
+              .1 .0) (qs .1 .0)) (List._∷_ Row.off (List._∷_ Row.off (List._∷_ Row.alive (List._∷_ Row.off (List._∷_ Row.off (List._∷_ Row.off (List._∷_
+              Row.off (List._∷_ Row.off (List._∷_ Row.off (List._∷_ Row.off (List._∷_ Row.off (List._∷_ Row.off (List._∷_ Row.off (List._∷_ Row.off
+              List.[])))))))))))))));
         }
 
         abbrev G37 : Row.Cx
         G37 = record {
-          locals = List._++_ g27 (List._++_ t28 t2);
-          slots = List._∷_ (Row.lease (κs .0) (qs .0)) (List._∷_ (Row.lease (κs .1 .0) (qs .1
-              .0)) (List._∷_ Row.off (List._∷_ Row.off (List._∷_ Row.alive (List._∷_ Row.off (List._∷_ Row.off (List._∷_ Row.off (List._∷_ Row.off
-              (List._∷_ Row.off (List._∷_ Row.off (List._∷_ Row.off (List._∷_ Row.off (List._∷_ Row.off (List._∷_ Row.off List.[]))))))))))))));
+          locals = List._++_ g28 (List._++_ t29 (List._++_ t2 t3));
+          slots = List._∷_ (Row.lease (κs .0) (qs .0)) (List._∷_ (Row.lease (κs
+              .1 .0) (qs .1 .0)) (List._∷_ Row.off (List._∷_ Row.off (List._∷_ Row.alive (List._∷_ Row.off (List._∷_ Row.off (List._∷_ Row.off (List._∷_
+              Row.off (List._∷_ Row.off (List._∷_ Row.off (List._∷_ Row.off (List._∷_ Row.off (List._∷_ Row.off (List._∷_ Row.off (List._∷_ Row.off
+              List.[])))))))))))))));
         }
 
         abbrev G38 : Row.Cx
         G38 = record {
-          locals = List._++_ g27 (List._++_ t28 t2);
-          slots = List._∷_ (Row.lease (κs .0) (qs .0)) (List._∷_ (Row.lease (κs .1 .0) (qs .1
-              .0)) (List._∷_ Row.off (List._∷_ Row.off (List._∷_ Row.dead (List._∷_ Row.off (List._∷_ Row.off (List._∷_ Row.off (List._∷_ Row.off
-              (List._∷_ Row.off (List._∷_ Row.off (List._∷_ Row.off (List._∷_ Row.off (List._∷_ Row.off (List._∷_ Row.off List.[]))))))))))))));
+          locals = List._++_ g28 (List._++_ t29 (List._++_ t2 t3));
+          slots = List._∷_ (Row.lease (κs .0) (qs .0)) (List._∷_ (Row.lease (κs
+              .1 .0) (qs .1 .0)) (List._∷_ Row.off (List._∷_ Row.off (List._∷_ Row.dead (List._∷_ Row.off (List._∷_ Row.off (List._∷_ Row.off (List._∷_
+              Row.off (List._∷_ Row.off (List._∷_ Row.off (List._∷_ Row.off (List._∷_ Row.off (List._∷_ Row.off (List._∷_ Row.off (List._∷_ Row.off
+              List.[])))))))))))))));
         }
 
         abbrev G39 : Row.Cx
         G39 = record {
-          locals = List._++_ t29 (List._++_ t1 t2);
-          slots = List._∷_ (Row.lease (κs .0) (qs .0)) (List._∷_ (Row.lease (κs .1 .0) (qs .1
-              .0)) (List._∷_ (Row.lease (κs .1 .1 .0) (qs .1 .1 .0)) (List._∷_ Row.off (List._∷_ Row.dead (List._∷_ Row.off (List._∷_ Row.off (List._∷_
+          locals = List._++_ t30 (List._++_ t1 (List._++_ t2 t3));
+          slots = List._∷_ (Row.lease (κs .0) (qs .0)) (List._∷_ (Row.lease (κs
+              .1 .0) (qs .1 .0)) (List._∷_ (Row.lease (κs .1 .1 .0) (qs .1 .1 .0)) (List._∷_ Row.off (List._∷_ Row.dead (List._∷_ Row.off (List._∷_
               Row.off (List._∷_ Row.off (List._∷_ Row.off (List._∷_ Row.off (List._∷_ Row.off (List._∷_ Row.off (List._∷_ Row.off (List._∷_ Row.off
-              List.[]))))))))))))));
+              (List._∷_ Row.off (List._∷_ Row.off List.[])))))))))))))));
         }
 
         abbrev G40 : Row.Cx
         G40 = record {
-          locals = List._++_ t29 (List._++_ t1 t2);
-          slots = List._∷_ (Row.lease (κs .0) (qs .0)) (List._∷_ (Row.lease (κs .1 .0) (qs .1
-              .0)) (List._∷_ (Row.lease (κs .1 .1 .0) (qs .1 .1 .0)) (List._∷_ Row.off (List._∷_ Row.off (List._∷_ Row.off (List._∷_ Row.off (List._∷_
+          locals = List._++_ t30 (List._++_ t1 (List._++_ t2 t3));
+          slots = List._∷_ (Row.lease (κs .0) (qs .0)) (List._∷_ (Row.lease (κs
+              .1 .0) (qs .1 .0)) (List._∷_ (Row.lease (κs .1 .1 .0) (qs .1 .1 .0)) (List._∷_ Row.off (List._∷_ Row.off (List._∷_ Row.off (List._∷_
               Row.off (List._∷_ Row.off (List._∷_ Row.off (List._∷_ Row.off (List._∷_ Row.off (List._∷_ Row.off (List._∷_ Row.off (List._∷_ Row.off
-              List.[]))))))))))))));
+              (List._∷_ Row.off (List._∷_ Row.off List.[])))))))))))))));
         }
 
         abbrev G41 : Row.Cx
         G41 = record {
-          locals = List._++_ t29 (List._++_ t5 t2);
-          slots = List._∷_ (Row.lease (κs .0) (qs .0)) (List._∷_ (Row.lease (κs .1 .0) (qs .1
-              .0)) (List._∷_ (Row.lease (κs .1 .1 .0) (qs .1 .1 .0)) (List._∷_ Row.off (List._∷_ Row.off (List._∷_ Row.off (List._∷_ Row.off (List._∷_
+          locals = List._++_ t30 (List._++_ t6 (List._++_ t2 t3));
+          slots = List._∷_ (Row.lease (κs .0) (qs .0)) (List._∷_ (Row.lease (κs
+              .1 .0) (qs .1 .0)) (List._∷_ (Row.lease (κs .1 .1 .0) (qs .1 .1 .0)) (List._∷_ Row.off (List._∷_ Row.off (List._∷_ Row.off (List._∷_
               Row.off (List._∷_ Row.off (List._∷_ Row.off (List._∷_ Row.off (List._∷_ Row.off (List._∷_ Row.off (List._∷_ Row.off (List._∷_ Row.off
-              List.[]))))))))))))));
+              (List._∷_ Row.off (List._∷_ Row.off List.[])))))))))))))));
         }
 
         abbrev G42 : Row.Cx
         G42 = record {
-          locals = List._++_ t4 (List._++_ t5 t2);
-          slots = List._∷_ (Row.lease (κs .0) (qs .0)) (List._∷_ (Row.lease (κs .1 .0) (qs .1
-              .0)) (List._∷_ (Row.lease (κs .1 .1 .0) (qs .1 .1 .0)) (List._∷_ Row.off (List._∷_ Row.off (List._∷_ Row.off (List._∷_ Row.off (List._∷_
+          locals = List._++_ t5 (List._++_ t6 (List._++_ t2 t3));
+          slots = List._∷_ (Row.lease (κs .0) (qs .0)) (List._∷_ (Row.lease (κs
+              .1 .0) (qs .1 .0)) (List._∷_ (Row.lease (κs .1 .1 .0) (qs .1 .1 .0)) (List._∷_ Row.off (List._∷_ Row.off (List._∷_ Row.off (List._∷_
               Row.off (List._∷_ Row.off (List._∷_ Row.off (List._∷_ Row.off (List._∷_ Row.off (List._∷_ Row.off (List._∷_ Row.off (List._∷_ Row.off
-              List.[]))))))))))))));
+              (List._∷_ Row.off (List._∷_ Row.off List.[])))))))))))))));
         }
 
         abbrev G43 : Row.Cx
         G43 = record {
-          locals = List._++_ t0 (List._++_ t1 t2);
-          slots = List._∷_ (Row.lease (κs .0) (qs .0)) (List._∷_ (Row.lease (κs .1 .0) (qs .1
-              .0)) (List._∷_ (Row.lease (κs .1 .1 .0) (qs .1 .1 .0)) (List._∷_ Row.off (List._∷_ Row.off (List._∷_ Row.off (List._∷_ Row.off (List._∷_
+          locals = List._++_ t0 (List._++_ t1 (List._++_ t2 t3));
+          slots = List._∷_ (Row.lease (κs .0) (qs .0)) (List._∷_ (Row.lease (κs
+              .1 .0) (qs .1 .0)) (List._∷_ (Row.lease (κs .1 .1 .0) (qs .1 .1 .0)) (List._∷_ Row.off (List._∷_ Row.off (List._∷_ Row.off (List._∷_
               Row.off (List._∷_ Row.off (List._∷_ Row.off (List._∷_ Row.off (List._∷_ Row.off (List._∷_ Row.off (List._∷_ Row.off (List._∷_ Row.off
-              List.[]))))))))))))));
+              (List._∷_ Row.off (List._∷_ Row.off List.[])))))))))))))));
         }
 
         abbrev G44 : Row.Cx
         G44 = record {
-          locals = List._++_ t6 (List._++_ t1 t2);
-          slots = List._∷_ (Row.lease (κs .0) (qs .0)) (List._∷_ (Row.lease (κs .1 .0) (qs .1
-              .0)) (List._∷_ (Row.lease (κs .1 .1 .0) (qs .1 .1 .0)) (List._∷_ Row.off (List._∷_ Row.off (List._∷_ Row.off (List._∷_ Row.off (List._∷_
+          locals = List._++_ t7 (List._++_ t1 (List._++_ t2 t3));
+          slots = List._∷_ (Row.lease (κs .0) (qs .0)) (List._∷_ (Row.lease (κs
+              .1 .0) (qs .1 .0)) (List._∷_ (Row.lease (κs .1 .1 .0) (qs .1 .1 .0)) (List._∷_ Row.off (List._∷_ Row.off (List._∷_ Row.off (List._∷_
               Row.off (List._∷_ Row.off (List._∷_ Row.off (List._∷_ Row.off (List._∷_ Row.off (List._∷_ Row.off (List._∷_ Row.off (List._∷_ Row.off
-              List.[]))))))))))))));
+              (List._∷_ Row.off (List._∷_ Row.off List.[])))))))))))))));
         }
 
         abbrev G45 : Row.Cx
         G45 = record {
-          locals = List._++_ t4 (List._++_ t1 t2);
-          slots = List._∷_ (Row.lease (κs .0) (qs .0)) (List._∷_ (Row.lease (κs .1 .0) (qs .1
-              .0)) (List._∷_ (Row.lease (κs .1 .1 .0) (qs .1 .1 .0)) (List._∷_ Row.off (List._∷_ Row.off (List._∷_ Row.off (List._∷_ Row.off (List._∷_
+          locals = List._++_ t5 (List._++_ t1 (List._++_ t2 t3));
+          slots = List._∷_ (Row.lease (κs .0) (qs .0)) (List._∷_ (Row.lease (κs
+              .1 .0) (qs .1 .0)) (List._∷_ (Row.lease (κs .1 .1 .0) (qs .1 .1 .0)) (List._∷_ Row.off (List._∷_ Row.off (List._∷_ Row.off (List._∷_
               Row.off (List._∷_ Row.off (List._∷_ Row.off (List._∷_ Row.off (List._∷_ Row.off (List._∷_ Row.off (List._∷_ Row.off (List._∷_ Row.off
-              List.[]))))))))))))));
+              (List._∷_ Row.off (List._∷_ Row.off List.[])))))))))))))));
         }
 
         abbrev G46 : Row.Cx
         G46 = record {
-          locals = List._++_ t4 (List._++_ t1 t2);
-          slots = List._∷_ (Row.lease (κs .0) (qs .0)) (List._∷_ (Row.lease (κs .1 .0) (qs .1
-              .0)) (List._∷_ (Row.lease (κs .1 .1 .0) (qs .1 .1 .0)) (List._∷_ Row.off (List._∷_ Row.off (List._∷_ Row.alive (List._∷_ Row.off (List._∷_
+          locals = List._++_ t5 (List._++_ t1 (List._++_ t2 t3));
+          slots = List._∷_ (Row.lease (κs .0) (qs .0)) (List._∷_ (Row.lease (κs
+              .1 .0) (qs .1 .0)) (List._∷_ (Row.lease (κs .1 .1 .0) (qs .1 .1 .0)) (List._∷_ Row.off (List._∷_ Row.off (List._∷_ Row.alive (List._∷_
               Row.off (List._∷_ Row.off (List._∷_ Row.off (List._∷_ Row.off (List._∷_ Row.off (List._∷_ Row.off (List._∷_ Row.off (List._∷_ Row.off
-              List.[]))))))))))))));
+              (List._∷_ Row.off (List._∷_ Row.off List.[])))))))))))))));
         }
 
         abbrev G47 : Row.Cx
         G47 = record {
-          locals = List._++_ g30 (List._++_ t31 t2);
-          slots = List._∷_ (Row.lease (κs .0) (qs .0)) (List._∷_ (Row.lease (κs .1 .0) (qs .1
-              .0)) (List._∷_ Row.off (List._∷_ Row.off (List._∷_ Row.off (List._∷_ Row.alive (List._∷_ Row.off (List._∷_ Row.off (List._∷_ Row.off
-              (List._∷_ Row.off (List._∷_ Row.off (List._∷_ Row.off (List._∷_ Row.off (List._∷_ Row.off (List._∷_ Row.off List.[]))))))))))))));
+          locals = List._++_ g31 (List._++_ t32 (List._++_ t2 t3));
+          slots = List._∷_ (Row.lease (κs .0) (qs .0)) (List._∷_ (Row.lease (κs
+              .1 .0) (qs .1 .0)) (List._∷_ Row.off (List._∷_ Row.off (List._∷_ Row.off (List._∷_ Row.alive (List._∷_ Row.off (List._∷_ Row.off (List._∷_
+              Row.off (List._∷_ Row.off (List._∷_ Row.off (List._∷_ Row.off (List._∷_ Row.off (List._∷_ Row.off (List._∷_ Row.off (List._∷_ Row.off
+              List.[])))))))))))))));
         }
 
         abbrev G48 : Row.Cx
         G48 = record {
-          locals = List._++_ g30 (List._++_ t32 t2);
-          slots = List._∷_ (Row.lease (κs .0) (qs .0)) (List._∷_ (Row.lease (κs .1 .0) (qs .1
-              .0)) (List._∷_ Row.off (List._∷_ Row.off (List._∷_ Row.off (List._∷_ Row.alive (List._∷_ Row.off (List._∷_ Row.off (List._∷_ Row.off
-              (List._∷_ Row.off (List._∷_ Row.off (List._∷_ Row.off (List._∷_ Row.off (List._∷_ Row.off (List._∷_ Row.off List.[]))))))))))))));
+          locals = List._++_ g31 (List._++_ t33 (List._++_ t2 t3));
+          slots = List._∷_ (Row.lease (κs .0) (qs .0)) (List._∷_ (Row.lease (κs
+              .1 .0) (qs .1 .0)) (List._∷_ Row.off (List._∷_ Row.off (List._∷_ Row.off (List._∷_ Row.alive (List._∷_ Row.off (List._∷_ Row.off (List._∷_
+              Row.off (List._∷_ Row.off (List._∷_ Row.off (List._∷_ Row.off (List._∷_ Row.off (List._∷_ Row.off (List._∷_ Row.off (List._∷_ Row.off
+              List.[])))))))))))))));
         }
 
         abbrev G49 : Row.Cx
         G49 = record {
-          locals = List._++_ g30 (List._++_ t32 t2);
-          slots = List._∷_ (Row.lease (κs .0) (qs .0)) (List._∷_ (Row.lease (κs .1 .0) (qs .1
-              .0)) (List._∷_ Row.off (List._∷_ Row.off (List._∷_ Row.off (List._∷_ Row.alive (List._∷_ Row.alive (List._∷_ Row.off (List._∷_ Row.off
-              (List._∷_ Row.off (List._∷_ Row.off (List._∷_ Row.off (List._∷_ Row.off (List._∷_ Row.off (List._∷_ Row.off List.[]))))))))))))));
+          locals = List._++_ g31 (List._++_ t33 (List._++_ t2 t3));
+          slots = List._∷_ (Row.lease (κs .0) (qs .0)) (List._∷_ (Row.lease (κs
+              .1 .0) (qs .1 .0)) (List._∷_ Row.off (List._∷_ Row.off (List._∷_ Row.off (List._∷_ Row.alive (List._∷_ Row.alive (List._∷_ Row.off
+              (List._∷_ Row.off (List._∷_ Row.off (List._∷_ Row.off (List._∷_ Row.off (List._∷_ Row.off (List._∷_ Row.off (List._∷_ Row.off (List._∷_
+              Row.off List.[])))))))))))))));
         }
 
         abbrev G50 : Row.Cx
         G50 = record {
-          locals = List._++_ g33 (List._++_ t34 t2);
-          slots = List._∷_ (Row.lease (κs .0) (qs .0)) (List._∷_ Row.off (List._∷_ Row.off
-              (List._∷_ Row.off (List._∷_ Row.off (List._∷_ Row.alive (List._∷_ Row.alive (List._∷_ Row.off (List._∷_ Row.off (List._∷_ Row.off
-              (List._∷_ Row.off (List._∷_ Row.off (List._∷_ Row.off (List._∷_ Row.off (List._∷_ Row.off List.[]))))))))))))));
+          locals = List._++_ g34 (List._++_ t35 (List._++_ t2 t3));
+          slots = List._∷_ (Row.lease (κs .0) (qs .0)) (List._∷_ Row.off
+              (List._∷_ Row.off (List._∷_ Row.off (List._∷_ Row.off (List._∷_ Row.alive (List._∷_ Row.alive (List._∷_ Row.off (List._∷_ Row.off
+              (List._∷_ Row.off (List._∷_ Row.off (List._∷_ Row.off (List._∷_ Row.off (List._∷_ Row.off (List._∷_ Row.off (List._∷_ Row.off
+              List.[])))))))))))))));
         }
 
         abbrev G51 : Row.Cx
         G51 = record {
-          locals = List._++_ g33 (List._++_ t35 t2);
-          slots = List._∷_ (Row.lease (κs .0) (qs .0)) (List._∷_ Row.off (List._∷_ Row.off
-              (List._∷_ Row.off (List._∷_ Row.off (List._∷_ Row.alive (List._∷_ Row.alive (List._∷_ Row.off (List._∷_ Row.off (List._∷_ Row.off
-              (List._∷_ Row.off (List._∷_ Row.off (List._∷_ Row.off (List._∷_ Row.off (List._∷_ Row.off List.[]))))))))))))));
+          locals = List._++_ g34 (List._++_ t36 (List._++_ t2 t3));
+          slots = List._∷_ (Row.lease (κs .0) (qs .0)) (List._∷_ Row.off
+              (List._∷_ Row.off (List._∷_ Row.off (List._∷_ Row.off (List._∷_ Row.alive (List._∷_ Row.alive (List._∷_ Row.off (List._∷_ Row.off
+              (List._∷_ Row.off (List._∷_ Row.off (List._∷_ Row.off (List._∷_ Row.off (List._∷_ Row.off (List._∷_ Row.off (List._∷_ Row.off
+              List.[])))))))))))))));
         }
 
         abbrev G52 : Row.Cx
         G52 = record {
-          locals = List._++_ g33 (List._++_ t36 t2);
-          slots = List._∷_ (Row.lease (κs .0) (qs .0)) (List._∷_ Row.off (List._∷_ Row.off
-              (List._∷_ Row.off (List._∷_ Row.off (List._∷_ Row.alive (List._∷_ Row.alive (List._∷_ Row.off (List._∷_ Row.off (List._∷_ Row.off
-              (List._∷_ Row.off (List._∷_ Row.off (List._∷_ Row.off (List._∷_ Row.off (List._∷_ Row.off List.[]))))))))))))));
+          locals = List._++_ g34 (List._++_ t37 (List._++_ t2 t3));
+          slots = List._∷_ (Row.lease (κs .0) (qs .0)) (List._∷_ Row.off
+              (List._∷_ Row.off (List._∷_ Row.off (List._∷_ Row.off (List._∷_ Row.alive (List._∷_ Row.alive (List._∷_ Row.off (List._∷_ Row.off
+              (List._∷_ Row.off (List._∷_ Row.off (List._∷_ Row.off (List._∷_ Row.off (List._∷_ Row.off (List._∷_ Row.off (List._∷_ Row.off
+              List.[])))))))))))))));
         }
 
         abbrev G53 : Row.Cx
         G53 = record {
-          locals = List._++_ g33 (List._++_ t37 t2);
-          slots = List._∷_ (Row.lease (κs .0) (qs .0)) (List._∷_ Row.off (List._∷_ Row.off
-              (List._∷_ Row.off (List._∷_ Row.off (List._∷_ Row.alive (List._∷_ Row.alive (List._∷_ Row.off (List._∷_ Row.off (List._∷_ Row.off
-              (List._∷_ Row.off (List._∷_ Row.off (List._∷_ Row.off (List._∷_ Row.off (List._∷_ Row.off List.[]))))))))))))));
+          locals = List._++_ g34 (List._++_ t38 (List._++_ t2 t3));
+          slots = List._∷_ (Row.lease (κs .0) (qs .0)) (List._∷_ Row.off
+              (List._∷_ Row.off (List._∷_ Row.off (List._∷_ Row.off (List._∷_ Row.alive (List._∷_ Row.alive (List._∷_ Row.off (List._∷_ Row.off
+              (List._∷_ Row.off (List._∷_ Row.off (List._∷_ Row.off (List._∷_ Row.off (List._∷_ Row.off (List._∷_ Row.off (List._∷_ Row.off
+              List.[])))))))))))))));
         }
 
         abbrev G54 : Row.Cx
         G54 = record {
-          locals = List._++_ g33 (List._++_ t37 t2);
-          slots = List._∷_ (Row.lease (κs .0) (qs .0)) (List._∷_ Row.off (List._∷_ Row.off
-              (List._∷_ Row.off (List._∷_ Row.off (List._∷_ Row.dead (List._∷_ Row.alive (List._∷_ Row.off (List._∷_ Row.off (List._∷_ Row.off (List._∷_
-              Row.off (List._∷_ Row.off (List._∷_ Row.off (List._∷_ Row.off (List._∷_ Row.off List.[]))))))))))))));
+          locals = List._++_ g34 (List._++_ t38 (List._++_ t2 t3));
+          slots = List._∷_ (Row.lease (κs .0) (qs .0)) (List._∷_ Row.off
+              (List._∷_ Row.off (List._∷_ Row.off (List._∷_ Row.off (List._∷_ Row.dead (List._∷_ Row.alive (List._∷_ Row.off (List._∷_ Row.off (List._∷_
+              Row.off (List._∷_ Row.off (List._∷_ Row.off (List._∷_ Row.off (List._∷_ Row.off (List._∷_ Row.off (List._∷_ Row.off
+              List.[])))))))))))))));
         }
 
         abbrev G55 : Row.Cx
         G55 = record {
-          locals = List._++_ g38 (List._++_ t37 t2);
-          slots = List._∷_ (Row.lease (κs .0) (qs .0)) (List._∷_ Row.off (List._∷_ (Row.lease
-              (κs .1 .1 .0) (qs .1 .1 .0)) (List._∷_ Row.off (List._∷_ Row.off (List._∷_ Row.dead (List._∷_ Row.alive (List._∷_ Row.off (List._∷_
-              Row.off (List._∷_ Row.off (List._∷_ Row.off (List._∷_ Row.off (List._∷_ Row.off (List._∷_ Row.off (List._∷_ Row.off List.[]))))))))))))));
+          locals = List._++_ g39 (List._++_ t38 (List._++_ t2 t3));
+          slots = List._∷_ (Row.lease (κs .0) (qs .0)) (List._∷_ Row.off
+              (List._∷_ (Row.lease (κs .1 .1 .0) (qs .1 .1 .0)) (List._∷_ Row.off (List._∷_ Row.off (List._∷_ Row.dead (List._∷_ Row.alive (List._∷_
+              Row.off (List._∷_ Row.off (List._∷_ Row.off (List._∷_ Row.off (List._∷_ Row.off (List._∷_ Row.off (List._∷_ Row.off (List._∷_ Row.off
+              (List._∷_ Row.off List.[])))))))))))))));
         }
 
         abbrev G56 : Row.Cx
         G56 = record {
-          locals = List._++_ g38 (List._++_ t37 t2);
-          slots = List._∷_ (Row.lease (κs .0) (qs .0)) (List._∷_ Row.off (List._∷_ (Row.lease
-              (κs .1 .1 .0) (qs .1 .1 .0)) (List._∷_ Row.off (List._∷_ Row.off (List._∷_ Row.off (List._∷_ Row.alive (List._∷_ Row.off (List._∷_ Row.off
-              (List._∷_ Row.off (List._∷_ Row.off (List._∷_ Row.off (List._∷_ Row.off (List._∷_ Row.off (List._∷_ Row.off List.[]))))))))))))));
+          locals = List._++_ g39 (List._++_ t38 (List._++_ t2 t3));
+          slots = List._∷_ (Row.lease (κs .0) (qs .0)) (List._∷_ Row.off
+              (List._∷_ (Row.lease (κs .1 .1 .0) (qs .1 .1 .0)) (List._∷_ Row.off (List._∷_ Row.off (List._∷_ Row.off (List._∷_ Row.alive (List._∷_
+              Row.off (List._∷_ Row.off (List._∷_ Row.off (List._∷_ Row.off (List._∷_ Row.off (List._∷_ Row.off (List._∷_ Row.off (List._∷_ Row.off
+              (List._∷_ Row.off List.[])))))))))))))));
         }
 
         abbrev G57 : Row.Cx
         G57 = record {
-          locals = List._++_ g38 (List._++_ t37 t2);
-          slots = List._∷_ (Row.lease (κs .0) (qs .0)) (List._∷_ Row.off (List._∷_ (Row.lease
-              (κs .1 .1 .0) (qs .1 .1 .0)) (List._∷_ Row.off (List._∷_ Row.off (List._∷_ Row.off (List._∷_ Row.dead (List._∷_ Row.off (List._∷_ Row.off
-              (List._∷_ Row.off (List._∷_ Row.off (List._∷_ Row.off (List._∷_ Row.off (List._∷_ Row.off (List._∷_ Row.off List.[]))))))))))))));
+          locals = List._++_ g39 (List._++_ t38 (List._++_ t2 t3));
+          slots = List._∷_ (Row.lease (κs .0) (qs .0)) (List._∷_ Row.off
+              (List._∷_ (Row.lease (κs .1 .1 .0) (qs .1 .1 .0)) (List._∷_ Row.off (List._∷_ Row.off (List._∷_ Row.off (List._∷_ Row.dead (List._∷_
+              Row.off (List._∷_ Row.off (List._∷_ Row.off (List._∷_ Row.off (List._∷_ Row.off (List._∷_ Row.off (List._∷_ Row.off (List._∷_ Row.off
+              (List._∷_ Row.off List.[])))))))))))))));
         }
 
         abbrev G58 : Row.Cx
         G58 = record {
-          locals = List._++_ t4 (List._++_ t39 t2);
-          slots = List._∷_ (Row.lease (κs .0) (qs .0)) (List._∷_ (Row.lease (κs .1 .0) (qs .1
-              .0)) (List._∷_ (Row.lease (κs .1 .1 .0) (qs .1 .1 .0)) (List._∷_ Row.off (List._∷_ Row.off (List._∷_ Row.off (List._∷_ Row.dead (List._∷_
-              Row.off (List._∷_ Row.off (List._∷_ Row.off (List._∷_ Row.off (List._∷_ Row.off (List._∷_ Row.off (List._∷_ Row.off (List._∷_ Row.off
-              List.[]))))))))))))));
+          locals = List._++_ t5 (List._++_ t40 (List._++_ t2 t3));
+          slots = List._∷_ (Row.lease (κs .0) (qs .0)) (List._∷_ (Row.lease (κs
+              .1 .0) (qs .1 .0)) (List._∷_ (Row.lease (κs .1 .1 .0) (qs .1 .1 .0)) (List._∷_ Row.off (List._∷_ Row.off (List._∷_ Row.off (List._∷_
+              Row.dead (List._∷_ Row.off (List._∷_ Row.off (List._∷_ Row.off (List._∷_ Row.off (List._∷_ Row.off (List._∷_ Row.off (List._∷_ Row.off
+              (List._∷_ Row.off (List._∷_ Row.off List.[])))))))))))))));
         }
 
         abbrev G59 : Row.Cx
         G59 = record {
-          locals = List._++_ t4 (List._++_ t39 t2);
-          slots = List._∷_ (Row.lease (κs .0) (qs .0)) (List._∷_ (Row.lease (κs .1 .0) (qs .1
-              .0)) (List._∷_ (Row.lease (κs .1 .1 .0) (qs .1 .1 .0)) (List._∷_ Row.off (List._∷_ Row.off (List._∷_ Row.off (List._∷_ Row.dead (List._∷_
-              Row.off (List._∷_ Row.off (List._∷_ Row.off (List._∷_ Row.off (List._∷_ Row.off (List._∷_ Row.off (List._∷_ Row.off (List._∷_ Row.off
-              List.[]))))))))))))));
+          locals = List._++_ t5 (List._++_ t40 (List._++_ t2 t3));
+          slots = List._∷_ (Row.lease (κs .0) (qs .0)) (List._∷_ (Row.lease (κs
+              .1 .0) (qs .1 .0)) (List._∷_ (Row.lease (κs .1 .1 .0) (qs .1 .1 .0)) (List._∷_ Row.off (List._∷_ Row.off (List._∷_ Row.off (List._∷_
+              Row.dead (List._∷_ Row.off (List._∷_ Row.off (List._∷_ Row.off (List._∷_ Row.off (List._∷_ Row.off (List._∷_ Row.off (List._∷_ Row.off
+              (List._∷_ Row.off (List._∷_ Row.off List.[])))))))))))))));
         }
 
         abbrev G60 : Row.Cx
         G60 = record {
-          locals = List._++_ t4 (List._++_ t39 t2);
-          slots = List._∷_ (Row.lease (κs .0) (qs .0)) (List._∷_ (Row.lease (κs .1 .0) (qs .1
-              .0)) (List._∷_ (Row.lease (κs .1 .1 .0) (qs .1 .1 .0)) (List._∷_ Row.off (List._∷_ Row.off (List._∷_ Row.off (List._∷_ Row.off (List._∷_
+          locals = List._++_ t5 (List._++_ t40 (List._++_ t2 t3));
+          slots = List._∷_ (Row.lease (κs .0) (qs .0)) (List._∷_ (Row.lease (κs
+              .1 .0) (qs .1 .0)) (List._∷_ (Row.lease (κs .1 .1 .0) (qs .1 .1 .0)) (List._∷_ Row.off (List._∷_ Row.off (List._∷_ Row.off (List._∷_
               Row.off (List._∷_ Row.off (List._∷_ Row.off (List._∷_ Row.off (List._∷_ Row.off (List._∷_ Row.off (List._∷_ Row.off (List._∷_ Row.off
-              List.[]))))))))))))));
+              (List._∷_ Row.off (List._∷_ Row.off List.[])))))))))))))));
         }
 
         abbrev G61 : Row.Cx
         G61 = record {
-          locals = List._++_ t4 (List._++_ t40 t2);
-          slots = List._∷_ (Row.lease (κs .0) (qs .0)) (List._∷_ (Row.lease (κs .1 .0) (qs .1
-              .0)) (List._∷_ (Row.lease (κs .1 .1 .0) (qs .1 .1 .0)) (List._∷_ Row.off (List._∷_ Row.off (List._∷_ Row.off (List._∷_ Row.off (List._∷_
+          locals = List._++_ t5 (List._++_ t41 (List._++_ t2 t3));
+          slots = List._∷_ (Row.lease (κs .0) (qs .0)) (List._∷_ (Row.lease (κs
+              .1 .0) (qs .1 .0)) (List._∷_ (Row.lease (κs .1 .1 .0) (qs .1 .1 .0)) (List._∷_ Row.off (List._∷_ Row.off (List._∷_ Row.off (List._∷_
               Row.off (List._∷_ Row.off (List._∷_ Row.off (List._∷_ Row.off (List._∷_ Row.off (List._∷_ Row.off (List._∷_ Row.off (List._∷_ Row.off
-              List.[]))))))))))))));
+              (List._∷_ Row.off (List._∷_ Row.off List.[])))))))))))))));
         }
 
         abbrev G62 : Row.Cx
         G62 = record {
-          locals = List._++_ t4 (List._++_ t5 t2);
-          slots = List._∷_ (Row.lease (κs .0) (qs .0)) (List._∷_ (Row.lease (κs .1 .0) (qs .1
-              .0)) (List._∷_ (Row.lease (κs .1 .1 .0) (qs .1 .1 .0)) (List._∷_ Row.off (List._∷_ Row.off (List._∷_ Row.off (List._∷_ Row.off (List._∷_
+          locals = List._++_ t5 (List._++_ t6 (List._++_ t2 t3));
+          slots = List._∷_ (Row.lease (κs .0) (qs .0)) (List._∷_ (Row.lease (κs
+              .1 .0) (qs .1 .0)) (List._∷_ (Row.lease (κs .1 .1 .0) (qs .1 .1 .0)) (List._∷_ Row.off (List._∷_ Row.off (List._∷_ Row.off (List._∷_
               Row.off (List._∷_ Row.off (List._∷_ Row.off (List._∷_ Row.off (List._∷_ Row.off (List._∷_ Row.off (List._∷_ Row.off (List._∷_ Row.off
-              List.[]))))))))))))));
+              (List._∷_ Row.off (List._∷_ Row.off List.[])))))))))))))));
         }
 
         abbrev G63 : Row.Cx
         G63 = record {
-          locals = List._++_ t41 (List._++_ t1 t2);
-          slots = List._∷_ (Row.lease (κs .0) (qs .0)) (List._∷_ (Row.lease (κs .1 .0) (qs .1
-              .0)) (List._∷_ (Row.lease (κs .1 .1 .0) (qs .1 .1 .0)) (List._∷_ Row.off (List._∷_ Row.off (List._∷_ Row.off (List._∷_ Row.off (List._∷_
+          locals = List._++_ t42 (List._++_ t1 (List._++_ t2 t3));
+          slots = List._∷_ (Row.lease (κs .0) (qs .0)) (List._∷_ (Row.lease (κs
+              .1 .0) (qs .1 .0)) (List._∷_ (Row.lease (κs .1 .1 .0) (qs .1 .1 .0)) (List._∷_ Row.off (List._∷_ Row.off (List._∷_ Row.off (List._∷_
               Row.off (List._∷_ Row.off (List._∷_ Row.off (List._∷_ Row.off (List._∷_ Row.off (List._∷_ Row.off (List._∷_ Row.off (List._∷_ Row.off
-              List.[]))))))))))))));
+              (List._∷_ Row.off (List._∷_ Row.off List.[])))))))))))))));
         }
 
         abbrev G64 : Row.Cx
         G64 = record {
-          locals = List._++_ t41 (List._++_ t1 t2);
-          slots = List._∷_ (Row.lease (κs .0) (qs .0)) (List._∷_ (Row.lease (κs .1 .0) (qs .1
-              .0)) (List._∷_ (Row.lease (κs .1 .1 .0) (qs .1 .1 .0)) (List._∷_ Row.off (List._∷_ Row.off (List._∷_ Row.off (List._∷_ Row.off (List._∷_
+          locals = List._++_ t42 (List._++_ t1 (List._++_ t2 t3));
+          slots = List._∷_ (Row.lease (κs .0) (qs .0)) (List._∷_ (Row.lease (κs
+              .1 .0) (qs .1 .0)) (List._∷_ (Row.lease (κs .1 .1 .0) (qs .1 .1 .0)) (List._∷_ Row.off (List._∷_ Row.off (List._∷_ Row.off (List._∷_
               Row.off (List._∷_ Row.off (List._∷_ Row.off (List._∷_ Row.off (List._∷_ Row.off (List._∷_ Row.off (List._∷_ Row.off (List._∷_ Row.off
-              List.[]))))))))))))));
+              (List._∷_ Row.off (List._∷_ Row.off List.[])))))))))))))));
         }
 
         abbrev G65 : Row.Cx
         G65 = record {
-          locals = List._++_ t42 (List._++_ t1 t2);
-          slots = List._∷_ (Row.lease (κs .0) (qs .0)) (List._∷_ (Row.lease (κs .1 .0) (qs .1
-              .0)) (List._∷_ (Row.lease (κs .1 .1 .0) (qs .1 .1 .0)) (List._∷_ Row.off (List._∷_ Row.off (List._∷_ Row.off (List._∷_ Row.off (List._∷_
+          locals = List._++_ t43 (List._++_ t1 (List._++_ t2 t3));
+          slots = List._∷_ (Row.lease (κs .0) (qs .0)) (List._∷_ (Row.lease (κs
+              .1 .0) (qs .1 .0)) (List._∷_ (Row.lease (κs .1 .1 .0) (qs .1 .1 .0)) (List._∷_ Row.off (List._∷_ Row.off (List._∷_ Row.off (List._∷_
               Row.off (List._∷_ Row.off (List._∷_ Row.off (List._∷_ Row.off (List._∷_ Row.off (List._∷_ Row.off (List._∷_ Row.off (List._∷_ Row.off
-              List.[]))))))))))))));
+              (List._∷_ Row.off (List._∷_ Row.off List.[])))))))))))))));
         }
 
         abbrev G66 : Row.Cx
         G66 = record {
-          locals = List._++_ t43 (List._++_ t1 t2);
-          slots = List._∷_ (Row.lease (κs .0) (qs .0)) (List._∷_ (Row.lease (κs .1 .0) (qs .1
-              .0)) (List._∷_ (Row.lease (κs .1 .1 .0) (qs .1 .1 .0)) (List._∷_ Row.off (List._∷_ Row.off (List._∷_ Row.off (List._∷_ Row.off (List._∷_
+          locals = List._++_ t44 (List._++_ t1 (List._++_ t2 t3));
+          slots = List._∷_ (Row.lease (κs .0) (qs .0)) (List._∷_ (Row.lease (κs
+              .1 .0) (qs .1 .0)) (List._∷_ (Row.lease (κs .1 .1 .0) (qs .1 .1 .0)) (List._∷_ Row.off (List._∷_ Row.off (List._∷_ Row.off (List._∷_
               Row.off (List._∷_ Row.off (List._∷_ Row.off (List._∷_ Row.off (List._∷_ Row.off (List._∷_ Row.off (List._∷_ Row.off (List._∷_ Row.off
-              List.[]))))))))))))));
+              (List._∷_ Row.off (List._∷_ Row.off List.[])))))))))))))));
         }
 
         abbrev G67 : Row.Cx
         G67 = record {
-          locals = List._++_ t44 (List._++_ t1 t2);
-          slots = List._∷_ (Row.lease (κs .0) (qs .0)) (List._∷_ (Row.lease (κs .1 .0) (qs .1
-              .0)) (List._∷_ (Row.lease (κs .1 .1 .0) (qs .1 .1 .0)) (List._∷_ Row.off (List._∷_ Row.off (List._∷_ Row.off (List._∷_ Row.off (List._∷_
+          locals = List._++_ t45 (List._++_ t1 (List._++_ t2 t3));
+          slots = List._∷_ (Row.lease (κs .0) (qs .0)) (List._∷_ (Row.lease (κs
+              .1 .0) (qs .1 .0)) (List._∷_ (Row.lease (κs .1 .1 .0) (qs .1 .1 .0)) (List._∷_ Row.off (List._∷_ Row.off (List._∷_ Row.off (List._∷_
               Row.off (List._∷_ Row.off (List._∷_ Row.off (List._∷_ Row.off (List._∷_ Row.off (List._∷_ Row.off (List._∷_ Row.off (List._∷_ Row.off
-              List.[]))))))))))))));
+              (List._∷_ Row.off (List._∷_ Row.off List.[])))))))))))))));
         }
 
         abbrev G68 : Row.Cx
         G68 = record {
-          locals = List._++_ t44 (List._++_ t1 t2);
-          slots = List._∷_ (Row.lease (κs .0) (qs .0)) (List._∷_ (Row.lease (κs .1 .0) (qs .1
-              .0)) (List._∷_ (Row.lease (κs .1 .1 .0) (qs .1 .1 .0)) (List._∷_ Row.off (List._∷_ Row.off (List._∷_ Row.off (List._∷_ Row.off (List._∷_
-              Row.alive (List._∷_ Row.off (List._∷_ Row.off (List._∷_ Row.off (List._∷_ Row.off (List._∷_ Row.off (List._∷_ Row.off (List._∷_ Row.off
-              List.[]))))))))))))));
+          locals = List._++_ t45 (List._++_ t1 (List._++_ t2 t3));
+          slots = List._∷_ (Row.lease (κs .0) (qs .0)) (List._∷_ (Row.lease (κs
+              .1 .0) (qs .1 .0)) (List._∷_ (Row.lease (κs .1 .1 .0) (qs .1 .1 .0)) (List._∷_ Row.off (List._∷_ Row.off (List._∷_ Row.off (List._∷_
+              Row.off (List._∷_ Row.alive (List._∷_ Row.off (List._∷_ Row.off (List._∷_ Row.off (List._∷_ Row.off (List._∷_ Row.off (List._∷_ Row.off
+              (List._∷_ Row.off (List._∷_ Row.off List.[])))))))))))))));
         }
 
         abbrev G69 : Row.Cx
         G69 = record {
-          locals = List._++_ g45 (List._++_ t46 t2);
-          slots = List._∷_ Row.off (List._∷_ (Row.lease (κs .1 .0) (qs .1 .0)) (List._∷_
-              (Row.lease (κs .1 .1 .0) (qs .1 .1 .0)) (List._∷_ Row.off (List._∷_ Row.off (List._∷_ Row.off (List._∷_ Row.off (List._∷_ Row.alive
-              (List._∷_ Row.off (List._∷_ Row.off (List._∷_ Row.off (List._∷_ Row.off (List._∷_ Row.off (List._∷_ Row.off (List._∷_ Row.off
-              List.[]))))))))))))));
+          locals = List._++_ g46 (List._++_ t47 (List._++_ t2 t3));
+          slots = List._∷_ Row.off (List._∷_ (Row.lease (κs .1 .0) (qs .1 .0))
+              (List._∷_ (Row.lease (κs .1 .1 .0) (qs .1 .1 .0)) (List._∷_ Row.off (List._∷_ Row.off (List._∷_ Row.off (List._∷_ Row.off (List._∷_
+              Row.alive (List._∷_ Row.off (List._∷_ Row.off (List._∷_ Row.off (List._∷_ Row.off (List._∷_ Row.off (List._∷_ Row.off (List._∷_ Row.off
+              (List._∷_ Row.off List.[])))))))))))))));
         }
 
         abbrev G70 : Row.Cx
         G70 = record {
-          locals = List._++_ g45 (List._++_ t47 t2);
-          slots = List._∷_ Row.off (List._∷_ (Row.lease (κs .1 .0) (qs .1 .0)) (List._∷_
-              (Row.lease (κs .1 .1 .0) (qs .1 .1 .0)) (List._∷_ Row.off (List._∷_ Row.off (List._∷_ Row.off (List._∷_ Row.off (List._∷_ Row.alive
-              (List._∷_ Row.off (List._∷_ Row.off (List._∷_ Row.off (List._∷_ Row.off (List._∷_ Row.off (List._∷_ Row.off (List._∷_ Row.off
-              List.[]))))))))))))));
+          locals = List._++_ g46 (List._++_ t48 (List._++_ t2 t3));
+          slots = List._∷_ Row.off (List._∷_ (Row.lease (κs .1 .0) (qs .1 .0))
+              (List._∷_ (Row.lease (κs .1 .1 .0) (qs .1 .1 .0)) (List._∷_ Row.off (List._∷_ Row.off (List._∷_ Row.off (List._∷_ Row.off (List._∷_
+              Row.alive (List._∷_ Row.off (List._∷_ Row.off (List._∷_ Row.off (List._∷_ Row.off (List._∷_ Row.off (List._∷_ Row.off (List._∷_ Row.off
+              (List._∷_ Row.off List.[])))))))))))))));
         }
 
         abbrev G71 : Row.Cx
         G71 = record {
-          locals = List._++_ g45 (List._++_ t47 t2);
-          slots = List._∷_ Row.off (List._∷_ (Row.lease (κs .1 .0) (qs .1 .0)) (List._∷_
-              (Row.lease (κs .1 .1 .0) (qs .1 .1 .0)) (List._∷_ Row.off (List._∷_ Row.off (List._∷_ Row.off (List._∷_ Row.off (List._∷_ Row.alive
-              (List._∷_ Row.alive (List._∷_ Row.off (List._∷_ Row.off (List._∷_ Row.off (List._∷_ Row.off (List._∷_ Row.off (List._∷_ Row.off
-              List.[]))))))))))))));
+          locals = List._++_ g46 (List._++_ t48 (List._++_ t2 t3));
+          slots = List._∷_ Row.off (List._∷_ (Row.lease (κs .1 .0) (qs .1 .0))
+              (List._∷_ (Row.lease (κs .1 .1 .0) (qs .1 .1 .0)) (List._∷_ Row.off (List._∷_ Row.off (List._∷_ Row.off (List._∷_ Row.off (List._∷_
+              Row.alive (List._∷_ Row.alive (List._∷_ Row.off (List._∷_ Row.off (List._∷_ Row.off (List._∷_ Row.off (List._∷_ Row.off (List._∷_ Row.off
+              (List._∷_ Row.off List.[])))))))))))))));
         }
 
         abbrev G72 : Row.Cx
         G72 = record {
-          locals = List._++_ g48 (List._++_ t49 t2);
-          slots = List._∷_ Row.off (List._∷_ (Row.lease (κs .1 .0) (qs .1 .0)) (List._∷_
-              Row.off (List._∷_ Row.off (List._∷_ Row.off (List._∷_ Row.off (List._∷_ Row.off (List._∷_ Row.alive (List._∷_ Row.alive (List._∷_ Row.off
-              (List._∷_ Row.off (List._∷_ Row.off (List._∷_ Row.off (List._∷_ Row.off (List._∷_ Row.off List.[]))))))))))))));
+          locals = List._++_ g49 (List._++_ t48 (List._++_ t50 t3));
+          slots = List._∷_ Row.off (List._∷_ (Row.lease (κs .1 .0) (qs .1 .0))
+              (List._∷_ Row.off (List._∷_ Row.off (List._∷_ Row.off (List._∷_ Row.off (List._∷_ Row.off (List._∷_ Row.alive (List._∷_ Row.alive
+              (List._∷_ Row.off (List._∷_ Row.off (List._∷_ Row.off (List._∷_ Row.off (List._∷_ Row.off (List._∷_ Row.off (List._∷_ Row.off
+              List.[])))))))))))))));
         }
 
         abbrev G73 : Row.Cx
         G73 = record {
-          locals = List._++_ g48 (List._++_ t47 t50);
-          slots = List._∷_ Row.off (List._∷_ (Row.lease (κs .1 .0) (qs .1 .0)) (List._∷_
-              Row.off (List._∷_ Row.off (List._∷_ Row.off (List._∷_ Row.off (List._∷_ Row.off (List._∷_ Row.alive (List._∷_ Row.alive (List._∷_ Row.off
-              (List._∷_ Row.off (List._∷_ Row.off (List._∷_ Row.off (List._∷_ Row.off (List._∷_ Row.off List.[]))))))))))))));
+          locals = List._++_ g49 (List._++_ t48 (List._++_ t51 t3));
+          slots = List._∷_ Row.off (List._∷_ (Row.lease (κs .1 .0) (qs .1 .0))
+              (List._∷_ Row.off (List._∷_ Row.off (List._∷_ Row.off (List._∷_ Row.off (List._∷_ Row.off (List._∷_ Row.alive (List._∷_ Row.alive
+              (List._∷_ Row.off (List._∷_ Row.off (List._∷_ Row.off (List._∷_ Row.off (List._∷_ Row.off (List._∷_ Row.off (List._∷_ Row.off
+              List.[])))))))))))))));
         }
 
         abbrev G74 : Row.Cx
         G74 = record {
-          locals = List._++_ g48 (List._++_ t51 t52);
-          slots = List._∷_ Row.off (List._∷_ (Row.lease (κs .1 .0) (qs .1 .0)) (List._∷_
-              Row.off (List._∷_ Row.off (List._∷_ Row.off (List._∷_ Row.off (List._∷_ Row.off (List._∷_ Row.alive (List._∷_ Row.alive (List._∷_ Row.off
-              (List._∷_ Row.off (List._∷_ Row.off (List._∷_ Row.off (List._∷_ Row.off (List._∷_ Row.off List.[]))))))))))))));
+          locals = List._++_ g49 (List._++_ t52 (List._++_ t53 t3));
+          slots = List._∷_ Row.off (List._∷_ (Row.lease (κs .1 .0) (qs .1 .0))
+              (List._∷_ Row.off (List._∷_ Row.off (List._∷_ Row.off (List._∷_ Row.off (List._∷_ Row.off (List._∷_ Row.alive (List._∷_ Row.alive
+              (List._∷_ Row.off (List._∷_ Row.off (List._∷_ Row.off (List._∷_ Row.off (List._∷_ Row.off (List._∷_ Row.off (List._∷_ Row.off
+              List.[])))))))))))))));
         }
 
         abbrev G75 : Row.Cx
         G75 = record {
-          locals = List._++_ g53 (List._++_ t51 t52);
-          slots = List._∷_ Row.off (List._∷_ (Row.lease (κs .1 .0) (qs .1 .0)) (List._∷_
-              Row.off (List._∷_ Row.off (List._∷_ Row.off (List._∷_ Row.off (List._∷_ Row.off (List._∷_ Row.alive (List._∷_ Row.alive (List._∷_ Row.off
-              (List._∷_ Row.off (List._∷_ Row.off (List._∷_ Row.off (List._∷_ Row.off (List._∷_ Row.off List.[]))))))))))))));
+          locals = List._++_ g54 (List._++_ t52 (List._++_ t53 t3));
+          slots = List._∷_ Row.off (List._∷_ (Row.lease (κs .1 .0) (qs .1 .0))
+              (List._∷_ Row.off (List._∷_ Row.off (List._∷_ Row.off (List._∷_ Row.off (List._∷_ Row.off (List._∷_ Row.alive (List._∷_ Row.alive
+              (List._∷_ Row.off (List._∷_ Row.off (List._∷_ Row.off (List._∷_ Row.off (List._∷_ Row.off (List._∷_ Row.off (List._∷_ Row.off
+              List.[])))))))))))))));
         }
 
         abbrev G76 : Row.Cx
         G76 = record {
-          locals = List._++_ g54 (List._++_ t51 t52);
-          slots = List._∷_ Row.off (List._∷_ (Row.lease (κs .1 .0) (qs .1 .0)) (List._∷_
-              Row.off (List._∷_ Row.off (List._∷_ Row.off (List._∷_ Row.off (List._∷_ Row.off (List._∷_ Row.alive (List._∷_ Row.alive (List._∷_ Row.off
-              (List._∷_ Row.off (List._∷_ Row.off (List._∷_ Row.off (List._∷_ Row.off (List._∷_ Row.off List.[]))))))))))))));
+          locals = List._++_ g55 (List._++_ t52 (List._++_ t53 t3));
+          slots = List._∷_ Row.off (List._∷_ (Row.lease (κs .1 .0) (qs .1 .0))
+              (List._∷_ Row.off (List._∷_ Row.off (List._∷_ Row.off (List._∷_ Row.off (List._∷_ Row.off (List._∷_ Row.alive (List._∷_ Row.alive
+              (List._∷_ Row.off (List._∷_ Row.off (List._∷_ Row.off (List._∷_ Row.off (List._∷_ Row.off (List._∷_ Row.off (List._∷_ Row.off
+              List.[])))))))))))))));
         }
 
         abbrev G77 : Row.Cx
         G77 = record {
-          locals = List._++_ g54 (List._++_ t51 t52);
-          slots = List._∷_ Row.off (List._∷_ (Row.lease (κs .1 .0) (qs .1 .0)) (List._∷_
-              Row.off (List._∷_ Row.off (List._∷_ Row.off (List._∷_ Row.off (List._∷_ Row.off (List._∷_ Row.dead (List._∷_ Row.alive (List._∷_ Row.off
-              (List._∷_ Row.off (List._∷_ Row.off (List._∷_ Row.off (List._∷_ Row.off (List._∷_ Row.off List.[]))))))))))))));
+          locals = List._++_ g55 (List._++_ t52 (List._++_ t53 t3));
+          slots = List._∷_ Row.off (List._∷_ (Row.lease (κs .1 .0) (qs .1 .0))
+              (List._∷_ Row.off (List._∷_ Row.off (List._∷_ Row.off (List._∷_ Row.off (List._∷_ Row.off (List._∷_ Row.dead (List._∷_ Row.alive (List._∷_
+              Row.off (List._∷_ Row.off (List._∷_ Row.off (List._∷_ Row.off (List._∷_ Row.off (List._∷_ Row.off (List._∷_ Row.off
+              List.[])))))))))))))));
         }
 
         abbrev G78 : Row.Cx
         G78 = record {
-          locals = List._++_ g55 (List._++_ t56 t52);
-          slots = List._∷_ (Row.lease (κs .0) (qs .0)) (List._∷_ (Row.lease (κs .1 .0) (qs .1
-              .0)) (List._∷_ Row.off (List._∷_ Row.off (List._∷_ Row.off (List._∷_ Row.off (List._∷_ Row.off (List._∷_ Row.dead (List._∷_ Row.alive
-              (List._∷_ Row.off (List._∷_ Row.off (List._∷_ Row.off (List._∷_ Row.off (List._∷_ Row.off (List._∷_ Row.off List.[]))))))))))))));
+          locals = List._++_ g56 (List._++_ t57 (List._++_ t53 t3));
+          slots = List._∷_ (Row.lease (κs .0) (qs .0)) (List._∷_ (Row.lease
+              (κs .1 .0) (qs .1 .0)) (List._∷_ Row.off (List._∷_ Row.off (List._∷_ Row.off (List._∷_ Row.off (List._∷_ Row.off (List._∷_ Row.dead
+              (List._∷_ Row.alive (List._∷_ Row.off (List._∷_ Row.off (List._∷_ Row.off (List._∷_ Row.off (List._∷_ Row.off (List._∷_ Row.off (List._∷_
+              Row.off List.[])))))))))))))));
         }
 
         abbrev G79 : Row.Cx
         G79 = record {
-          locals = List._++_ g55 (List._++_ t56 t52);
-          slots = List._∷_ (Row.lease (κs .0) (qs .0)) (List._∷_ (Row.lease (κs .1 .0) (qs .1
-              .0)) (List._∷_ Row.off (List._∷_ Row.off (List._∷_ Row.off (List._∷_ Row.off (List._∷_ Row.off (List._∷_ Row.dead (List._∷_ Row.alive
-              (List._∷_ Row.off (List._∷_ Row.off (List._∷_ Row.off (List._∷_ Row.off (List._∷_ Row.off (List._∷_ Row.off List.[]))))))))))))));
+          locals = List._++_ g56 (List._++_ t57 (List._++_ t53 t3));
+          slots = List._∷_ (Row.lease (κs .0) (qs .0)) (List._∷_ (Row.lease
+              (κs .1 .0) (qs .1 .0)) (List._∷_ Row.off (List._∷_ Row.off (List._∷_ Row.off (List._∷_ Row.off (List._∷_ Row.off (List._∷_ Row.dead
+              (List._∷_ Row.alive (List._∷_ Row.off (List._∷_ Row.off (List._∷_ Row.off (List._∷_ Row.off (List._∷_ Row.off (List._∷_ Row.off (List._∷_
+              Row.off List.[])))))))))))))));
         }
 
         abbrev G80 : Row.Cx
         G80 = record {
-          locals = List._++_ g55 (List._++_ t56 t52);
-          slots = List._∷_ (Row.lease (κs .0) (qs .0)) (List._∷_ (Row.lease (κs .1 .0) (qs .1
-              .0)) (List._∷_ Row.off (List._∷_ Row.off (List._∷_ Row.off (List._∷_ Row.off (List._∷_ Row.off (List._∷_ Row.off (List._∷_ Row.alive
-              (List._∷_ Row.off (List._∷_ Row.off (List._∷_ Row.off (List._∷_ Row.off (List._∷_ Row.off (List._∷_ Row.off List.[]))))))))))))));
+          locals = List._++_ g56 (List._++_ t57 (List._++_ t53 t3));
+          slots = List._∷_ (Row.lease (κs .0) (qs .0)) (List._∷_ (Row.lease
+              (κs .1 .0) (qs .1 .0)) (List._∷_ Row.off (List._∷_ Row.off (List._∷_ Row.off (List._∷_ Row.off (List._∷_ Row.off (List._∷_ Row.off
+              (List._∷_ Row.alive (List._∷_ Row.off (List._∷_ Row.off (List._∷_ Row.off (List._∷_ Row.off (List._∷_ Row.off (List._∷_ Row.off (List._∷_
+              Row.off List.[])))))))))))))));
         }
 
         abbrev G81 : Row.Cx
         G81 = record {
-          locals = List._++_ g55 (List._++_ t56 t52);
-          slots = List._∷_ (Row.lease (κs .0) (qs .0)) (List._∷_ (Row.lease (κs .1 .0) (qs .1
-              .0)) (List._∷_ Row.off (List._∷_ Row.off (List._∷_ Row.off (List._∷_ Row.off (List._∷_ Row.off (List._∷_ Row.off (List._∷_ Row.dead
-              (List._∷_ Row.off (List._∷_ Row.off (List._∷_ Row.off (List._∷_ Row.off (List._∷_ Row.off (List._∷_ Row.off List.[]))))))))))))));
+          locals = List._++_ g56 (List._++_ t57 (List._++_ t53 t3));
+          slots = List._∷_ (Row.lease (κs .0) (qs .0)) (List._∷_ (Row.lease
+              (κs .1 .0) (qs .1 .0)) (List._∷_ Row.off (List._∷_ Row.off (List._∷_ Row.off (List._∷_ Row.off (List._∷_ Row.off (List._∷_ Row.off
+              (List._∷_ Row.dead (List._∷_ Row.off (List._∷_ Row.off (List._∷_ Row.off (List._∷_ Row.off (List._∷_ Row.off (List._∷_ Row.off (List._∷_
+              Row.off List.[])))))))))))))));
         }
 
         abbrev G82 : Row.Cx
         G82 = record {
-          locals = List._++_ t57 (List._++_ t56 t2);
-          slots = List._∷_ (Row.lease (κs .0) (qs .0)) (List._∷_ (Row.lease (κs .1 .0) (qs .1
-              .0)) (List._∷_ (Row.lease (κs .1 .1 .0) (qs .1 .1 .0)) (List._∷_ Row.off (List._∷_ Row.off (List._∷_ Row.off (List._∷_ Row.off (List._∷_
-              Row.off (List._∷_ Row.dead (List._∷_ Row.off (List._∷_ Row.off (List._∷_ Row.off (List._∷_ Row.off (List._∷_ Row.off (List._∷_ Row.off
-              List.[]))))))))))))));
+          locals = List._++_ t58 (List._++_ t57 (List._++_ t2 t3));
+          slots = List._∷_ (Row.lease (κs .0) (qs .0)) (List._∷_ (Row.lease (κs
+              .1 .0) (qs .1 .0)) (List._∷_ (Row.lease (κs .1 .1 .0) (qs .1 .1 .0)) (List._∷_ Row.off (List._∷_ Row.off (List._∷_ Row.off (List._∷_
+              Row.off (List._∷_ Row.off (List._∷_ Row.dead (List._∷_ Row.off (List._∷_ Row.off (List._∷_ Row.off (List._∷_ Row.off (List._∷_ Row.off
+              (List._∷_ Row.off (List._∷_ Row.off List.[])))))))))))))));
         }
 
         abbrev G83 : Row.Cx
         G83 = record {
-          locals = List._++_ t57 (List._++_ t56 t2);
-          slots = List._∷_ (Row.lease (κs .0) (qs .0)) (List._∷_ (Row.lease (κs .1 .0) (qs .1
-              .0)) (List._∷_ (Row.lease (κs .1 .1 .0) (qs .1 .1 .0)) (List._∷_ Row.off (List._∷_ Row.off (List._∷_ Row.off (List._∷_ Row.off (List._∷_
+          locals = List._++_ t58 (List._++_ t57 (List._++_ t2 t3));
+          slots = List._∷_ (Row.lease (κs .0) (qs .0)) (List._∷_ (Row.lease (κs
+              .1 .0) (qs .1 .0)) (List._∷_ (Row.lease (κs .1 .1 .0) (qs .1 .1 .0)) (List._∷_ Row.off (List._∷_ Row.off (List._∷_ Row.off (List._∷_
               Row.off (List._∷_ Row.off (List._∷_ Row.off (List._∷_ Row.off (List._∷_ Row.off (List._∷_ Row.off (List._∷_ Row.off (List._∷_ Row.off
-              List.[]))))))))))))));
+              (List._∷_ Row.off (List._∷_ Row.off List.[])))))))))))))));
         }
 
         abbrev G84 : Row.Cx
         G84 = record {
-          locals = List._++_ t57 (List._++_ t58 t2);
-          slots = List._∷_ (Row.lease (κs .0) (qs .0)) (List._∷_ (Row.lease (κs .1 .0) (qs .1
-              .0)) (List._∷_ (Row.lease (κs .1 .1 .0) (qs .1 .1 .0)) (List._∷_ Row.off (List._∷_ Row.off (List._∷_ Row.off (List._∷_ Row.off (List._∷_
+          locals = List._++_ t58 (List._++_ t59 (List._++_ t2 t3));
+          slots = List._∷_ (Row.lease (κs .0) (qs .0)) (List._∷_ (Row.lease (κs
+              .1 .0) (qs .1 .0)) (List._∷_ (Row.lease (κs .1 .1 .0) (qs .1 .1 .0)) (List._∷_ Row.off (List._∷_ Row.off (List._∷_ Row.off (List._∷_
               Row.off (List._∷_ Row.off (List._∷_ Row.off (List._∷_ Row.off (List._∷_ Row.off (List._∷_ Row.off (List._∷_ Row.off (List._∷_ Row.off
-              List.[]))))))))))))));
+              (List._∷_ Row.off (List._∷_ Row.off List.[])))))))))))))));
         }
 
         abbrev G85 : Row.Cx
         G85 = record {
-          locals = List._++_ t4 (List._++_ t58 t2);
-          slots = List._∷_ (Row.lease (κs .0) (qs .0)) (List._∷_ (Row.lease (κs .1 .0) (qs .1
-              .0)) (List._∷_ (Row.lease (κs .1 .1 .0) (qs .1 .1 .0)) (List._∷_ Row.off (List._∷_ Row.off (List._∷_ Row.off (List._∷_ Row.off (List._∷_
+          locals = List._++_ t5 (List._++_ t59 (List._++_ t2 t3));
+          slots = List._∷_ (Row.lease (κs .0) (qs .0)) (List._∷_ (Row.lease (κs
+              .1 .0) (qs .1 .0)) (List._∷_ (Row.lease (κs .1 .1 .0) (qs .1 .1 .0)) (List._∷_ Row.off (List._∷_ Row.off (List._∷_ Row.off (List._∷_
               Row.off (List._∷_ Row.off (List._∷_ Row.off (List._∷_ Row.off (List._∷_ Row.off (List._∷_ Row.off (List._∷_ Row.off (List._∷_ Row.off
-              List.[]))))))))))))));
+              (List._∷_ Row.off (List._∷_ Row.off List.[])))))))))))))));
         }
 
         abbrev G86 : Row.Cx
         G86 = record {
-          locals = List._++_ t4 (List._++_ t5 t2);
-          slots = List._∷_ (Row.lease (κs .0) (qs .0)) (List._∷_ (Row.lease (κs .1 .0) (qs .1
-              .0)) (List._∷_ (Row.lease (κs .1 .1 .0) (qs .1 .1 .0)) (List._∷_ Row.off (List._∷_ Row.off (List._∷_ Row.off (List._∷_ Row.off (List._∷_
+          locals = List._++_ t5 (List._++_ t6 (List._++_ t2 t3));
+          slots = List._∷_ (Row.lease (κs .0) (qs .0)) (List._∷_ (Row.lease (κs
+              .1 .0) (qs .1 .0)) (List._∷_ (Row.lease (κs .1 .1 .0) (qs .1 .1 .0)) (List._∷_ Row.off (List._∷_ Row.off (List._∷_ Row.off (List._∷_
               Row.off (List._∷_ Row.off (List._∷_ Row.off (List._∷_ Row.off (List._∷_ Row.off (List._∷_ Row.off (List._∷_ Row.off (List._∷_ Row.off
-              List.[]))))))))))))));
+              (List._∷_ Row.off (List._∷_ Row.off List.[])))))))))))))));
         }
 
         abbrev G87 : Row.Cx
         G87 = record {
-          locals = List._++_ t59 (List._++_ t1 t2);
-          slots = List._∷_ (Row.lease (κs .0) (qs .0)) (List._∷_ (Row.lease (κs .1 .0) (qs .1
-              .0)) (List._∷_ (Row.lease (κs .1 .1 .0) (qs .1 .1 .0)) (List._∷_ Row.off (List._∷_ Row.off (List._∷_ Row.off (List._∷_ Row.off (List._∷_
+          locals = List._++_ t60 (List._++_ t1 (List._++_ t2 t3));
+          slots = List._∷_ (Row.lease (κs .0) (qs .0)) (List._∷_ (Row.lease (κs
+              .1 .0) (qs .1 .0)) (List._∷_ (Row.lease (κs .1 .1 .0) (qs .1 .1 .0)) (List._∷_ Row.off (List._∷_ Row.off (List._∷_ Row.off (List._∷_
               Row.off (List._∷_ Row.off (List._∷_ Row.off (List._∷_ Row.off (List._∷_ Row.off (List._∷_ Row.off (List._∷_ Row.off (List._∷_ Row.off
-              List.[]))))))))))))));
+              (List._∷_ Row.off (List._∷_ Row.off List.[])))))))))))))));
         }
 
         abbrev G88 : Row.Cx
         G88 = record {
-          locals = List._++_ t59 (List._++_ t1 t2);
-          slots = List._∷_ (Row.lease (κs .0) (qs .0)) (List._∷_ (Row.lease (κs .1 .0) (qs .1
-              .0)) (List._∷_ (Row.lease (κs .1 .1 .0) (qs .1 .1 .0)) (List._∷_ Row.off (List._∷_ Row.off (List._∷_ Row.off (List._∷_ Row.off (List._∷_
+          locals = List._++_ t60 (List._++_ t1 (List._++_ t2 t3));
+          slots = List._∷_ (Row.lease (κs .0) (qs .0)) (List._∷_ (Row.lease (κs
+              .1 .0) (qs .1 .0)) (List._∷_ (Row.lease (κs .1 .1 .0) (qs .1 .1 .0)) (List._∷_ Row.off (List._∷_ Row.off (List._∷_ Row.off (List._∷_
               Row.off (List._∷_ Row.off (List._∷_ Row.off (List._∷_ Row.off (List._∷_ Row.off (List._∷_ Row.off (List._∷_ Row.off (List._∷_ Row.off
-              List.[]))))))))))))));
+              (List._∷_ Row.off (List._∷_ Row.off List.[])))))))))))))));
         }
 
         abbrev G89 : Row.Cx
         G89 = record {
-          locals = List._++_ t60 (List._++_ t1 t2);
-          slots = List._∷_ (Row.lease (κs .0) (qs .0)) (List._∷_ (Row.lease (κs .1 .0) (qs .1
-              .0)) (List._∷_ (Row.lease (κs .1 .1 .0) (qs .1 .1 .0)) (List._∷_ Row.off (List._∷_ Row.off (List._∷_ Row.off (List._∷_ Row.off (List._∷_
+          locals = List._++_ t61 (List._++_ t1 (List._++_ t2 t3));
+          slots = List._∷_ (Row.lease (κs .0) (qs .0)) (List._∷_ (Row.lease (κs
+              .1 .0) (qs .1 .0)) (List._∷_ (Row.lease (κs .1 .1 .0) (qs .1 .1 .0)) (List._∷_ Row.off (List._∷_ Row.off (List._∷_ Row.off (List._∷_
               Row.off (List._∷_ Row.off (List._∷_ Row.off (List._∷_ Row.off (List._∷_ Row.off (List._∷_ Row.off (List._∷_ Row.off (List._∷_ Row.off
-              List.[]))))))))))))));
+              (List._∷_ Row.off (List._∷_ Row.off List.[])))))))))))))));
         }
 
         abbrev G90 : Row.Cx
         G90 = record {
-          locals = List._++_ t61 (List._++_ t1 t2);
-          slots = List._∷_ (Row.lease (κs .0) (qs .0)) (List._∷_ (Row.lease (κs .1 .0) (qs .1
-              .0)) (List._∷_ (Row.lease (κs .1 .1 .0) (qs .1 .1 .0)) (List._∷_ Row.off (List._∷_ Row.off (List._∷_ Row.off (List._∷_ Row.off (List._∷_
+          locals = List._++_ t62 (List._++_ t1 (List._++_ t2 t3));
+          slots = List._∷_ (Row.lease (κs .0) (qs .0)) (List._∷_ (Row.lease (κs
+              .1 .0) (qs .1 .0)) (List._∷_ (Row.lease (κs .1 .1 .0) (qs .1 .1 .0)) (List._∷_ Row.off (List._∷_ Row.off (List._∷_ Row.off (List._∷_
               Row.off (List._∷_ Row.off (List._∷_ Row.off (List._∷_ Row.off (List._∷_ Row.off (List._∷_ Row.off (List._∷_ Row.off (List._∷_ Row.off
-              List.[]))))))))))))));
+              (List._∷_ Row.off (List._∷_ Row.off List.[])))))))))))))));
         }
 
         abbrev G91 : Row.Cx
         G91 = record {
-          locals = List._++_ t61 (List._++_ t1 t2);
-          slots = List._∷_ (Row.lease (κs .0) (qs .0)) (List._∷_ (Row.lease (κs .1 .0) (qs .1
-              .0)) (List._∷_ (Row.lease (κs .1 .1 .0) (qs .1 .1 .0)) (List._∷_ Row.off (List._∷_ Row.off (List._∷_ Row.off (List._∷_ Row.off (List._∷_
-              Row.off (List._∷_ Row.off (List._∷_ Row.alive (List._∷_ Row.off (List._∷_ Row.off (List._∷_ Row.off (List._∷_ Row.off (List._∷_ Row.off
-              List.[]))))))))))))));
+          locals = List._++_ t62 (List._++_ t1 (List._++_ t2 t3));
+          slots = List._∷_ (Row.lease (κs .0) (qs .0)) (List._∷_ (Row.lease (κs
+              .1 .0) (qs .1 .0)) (List._∷_ (Row.lease (κs .1 .1 .0) (qs .1 .1 .0)) (List._∷_ Row.off (List._∷_ Row.off (List._∷_ Row.off (List._∷_
+              Row.off (List._∷_ Row.off (List._∷_ Row.off (List._∷_ Row.alive (List._∷_ Row.off (List._∷_ Row.off (List._∷_ Row.off (List._∷_ Row.off
+              (List._∷_ Row.off (List._∷_ Row.off List.[])))))))))))))));
         }
 
         abbrev G92 : Row.Cx
         G92 = record {
-          locals = List._++_ g62 (List._++_ t1 t63);
-          slots = List._∷_ (Row.lease (κs .0) (qs .0)) (List._∷_ (Row.lease (κs .1 .0) (qs .1
-              .0)) (List._∷_ Row.off (List._∷_ Row.off (List._∷_ Row.off (List._∷_ Row.off (List._∷_ Row.off (List._∷_ Row.off (List._∷_ Row.off
-              (List._∷_ Row.alive (List._∷_ Row.off (List._∷_ Row.off (List._∷_ Row.off (List._∷_ Row.off (List._∷_ Row.off List.[]))))))))))))));
+          locals = List._++_ g63 (List._++_ t1 (List._++_ t64 t3));
+          slots = List._∷_ (Row.lease (κs .0) (qs .0)) (List._∷_ (Row.lease (κs
+              .1 .0) (qs .1 .0)) (List._∷_ Row.off (List._∷_ Row.off (List._∷_ Row.off (List._∷_ Row.off (List._∷_ Row.off (List._∷_ Row.off (List._∷_
+              Row.off (List._∷_ Row.alive (List._∷_ Row.off (List._∷_ Row.off (List._∷_ Row.off (List._∷_ Row.off (List._∷_ Row.off (List._∷_ Row.off
+              List.[])))))))))))))));
         }
 
         abbrev G93 : Row.Cx
         G93 = record {
-          locals = List._++_ g62 (List._++_ t1 t64);
-          slots = List._∷_ (Row.lease (κs .0) (qs .0)) (List._∷_ (Row.lease (κs .1 .0) (qs .1
-              .0)) (List._∷_ Row.off (List._∷_ Row.off (List._∷_ Row.off (List._∷_ Row.off (List._∷_ Row.off (List._∷_ Row.off (List._∷_ Row.off
-              (List._∷_ Row.alive (List._∷_ Row.off (List._∷_ Row.off (List._∷_ Row.off (List._∷_ Row.off (List._∷_ Row.off List.[]))))))))))))));
+          locals = List._++_ g63 (List._++_ t1 (List._++_ t65 t3));
+          slots = List._∷_ (Row.lease (κs .0) (qs .0)) (List._∷_ (Row.lease (κs
+              .1 .0) (qs .1 .0)) (List._∷_ Row.off (List._∷_ Row.off (List._∷_ Row.off (List._∷_ Row.off (List._∷_ Row.off (List._∷_ Row.off (List._∷_
+              Row.off (List._∷_ Row.alive (List._∷_ Row.off (List._∷_ Row.off (List._∷_ Row.off (List._∷_ Row.off (List._∷_ Row.off (List._∷_ Row.off
+              List.[])))))))))))))));
         }
 
         abbrev G94 : Row.Cx
         G94 = record {
-          locals = List._++_ g62 (List._++_ t1 t64);
-          slots = List._∷_ (Row.lease (κs .0) (qs .0)) (List._∷_ (Row.lease (κs .1 .0) (qs .1
-              .0)) (List._∷_ Row.off (List._∷_ Row.off (List._∷_ Row.off (List._∷_ Row.off (List._∷_ Row.off (List._∷_ Row.off (List._∷_ Row.off
-              (List._∷_ Row.alive (List._∷_ Row.alive (List._∷_ Row.off (List._∷_ Row.off (List._∷_ Row.off (List._∷_ Row.off List.[]))))))))))))));
+          locals = List._++_ g63 (List._++_ t1 (List._++_ t65 t3));
+          slots = List._∷_ (Row.lease (κs .0) (qs .0)) (List._∷_ (Row.lease (κs
+              .1 .0) (qs .1 .0)) (List._∷_ Row.off (List._∷_ Row.off (List._∷_ Row.off (List._∷_ Row.off (List._∷_ Row.off (List._∷_ Row.off (List._∷_
+              Row.off (List._∷_ Row.alive (List._∷_ Row.alive (List._∷_ Row.off (List._∷_ Row.off (List._∷_ Row.off (List._∷_ Row.off (List._∷_ Row.off
+              List.[])))))))))))))));
         }
 
         abbrev G95 : Row.Cx
         G95 = record {
-          locals = List._++_ g65 (List._++_ t1 t66);
-          slots = List._∷_ (Row.lease (κs .0) (qs .0)) (List._∷_ Row.off (List._∷_ Row.off
-              (List._∷_ Row.off (List._∷_ Row.off (List._∷_ Row.off (List._∷_ Row.off (List._∷_ Row.off (List._∷_ Row.off (List._∷_ Row.alive (List._∷_
-              Row.alive (List._∷_ Row.off (List._∷_ Row.off (List._∷_ Row.off (List._∷_ Row.off List.[]))))))))))))));
+          locals = List._++_ g66 (List._++_ t1 (List._++_ t67 t3));
+          slots = List._∷_ (Row.lease (κs .0) (qs .0)) (List._∷_ Row.off
+              (List._∷_ Row.off (List._∷_ Row.off (List._∷_ Row.off (List._∷_ Row.off (List._∷_ Row.off (List._∷_ Row.off (List._∷_ Row.off (List._∷_
+              Row.alive (List._∷_ Row.alive (List._∷_ Row.off (List._∷_ Row.off (List._∷_ Row.off (List._∷_ Row.off (List._∷_ Row.off
+              List.[])))))))))))))));
         }
 
         abbrev G96 : Row.Cx
         G96 = record {
-          locals = List._++_ g65 (List._++_ t1 t67);
-          slots = List._∷_ (Row.lease (κs .0) (qs .0)) (List._∷_ Row.off (List._∷_ Row.off
-              (List._∷_ Row.off (List._∷_ Row.off (List._∷_ Row.off (List._∷_ Row.off (List._∷_ Row.off (List._∷_ Row.off (List._∷_ Row.alive (List._∷_
-              Row.alive (List._∷_ Row.off (List._∷_ Row.off (List._∷_ Row.off (List._∷_ Row.off List.[]))))))))))))));
+          locals = List._++_ g66 (List._++_ t1 (List._++_ t68 t3));
+          slots = List._∷_ (Row.lease (κs .0) (qs .0)) (List._∷_ Row.off
+              (List._∷_ Row.off (List._∷_ Row.off (List._∷_ Row.off (List._∷_ Row.off (List._∷_ Row.off (List._∷_ Row.off (List._∷_ Row.off (List._∷_
+              Row.alive (List._∷_ Row.alive (List._∷_ Row.off (List._∷_ Row.off (List._∷_ Row.off (List._∷_ Row.off (List._∷_ Row.off
+              List.[])))))))))))))));
         }
 
         abbrev G97 : Row.Cx
         G97 = record {
-          locals = List._++_ g65 (List._++_ t1 t68);
-          slots = List._∷_ (Row.lease (κs .0) (qs .0)) (List._∷_ Row.off (List._∷_ Row.off
-              (List._∷_ Row.off (List._∷_ Row.off (List._∷_ Row.off (List._∷_ Row.off (List._∷_ Row.off (List._∷_ Row.off (List._∷_ Row.alive (List._∷_
-              Row.alive (List._∷_ Row.off (List._∷_ Row.off (List._∷_ Row.off (List._∷_ Row.off List.[]))))))))))))));
+          locals = List._++_ g66 (List._++_ t1 (List._++_ t69 t3));
+          slots = List._∷_ (Row.lease (κs .0) (qs .0)) (List._∷_ Row.off
+              (List._∷_ Row.off (List._∷_ Row.off (List._∷_ Row.off (List._∷_ Row.off (List._∷_ Row.off (List._∷_ Row.off (List._∷_ Row.off (List._∷_
+              Row.alive (List._∷_ Row.alive (List._∷_ Row.off (List._∷_ Row.off (List._∷_ Row.off (List._∷_ Row.off (List._∷_ Row.off
+              List.[])))))))))))))));
         }
 
         abbrev G98 : Row.Cx
         G98 = record {
-          locals = List._++_ g65 (List._++_ t1 t69);
-          slots = List._∷_ (Row.lease (κs .0) (qs .0)) (List._∷_ Row.off (List._∷_ Row.off
-              (List._∷_ Row.off (List._∷_ Row.off (List._∷_ Row.off (List._∷_ Row.off (List._∷_ Row.off (List._∷_ Row.off (List._∷_ Row.alive (List._∷_
-              Row.alive (List._∷_ Row.off (List._∷_ Row.off (List._∷_ Row.off (List._∷_ Row.off List.[]))))))))))))));
+          locals = List._++_ g66 (List._++_ t1 (List._++_ t70 t3));
+          slots = List._∷_ (Row.lease (κs .0) (qs .0)) (List._∷_ Row.off
+              (List._∷_ Row.off (List._∷_ Row.off (List._∷_ Row.off (List._∷_ Row.off (List._∷_ Row.off (List._∷_ Row.off (List._∷_ Row.off (List._∷_
+              Row.alive (List._∷_ Row.alive (List._∷_ Row.off (List._∷_ Row.off (List._∷_ Row.off (List._∷_ Row.off (List._∷_ Row.off
+              List.[])))))))))))))));
         }
 
         abbrev G99 : Row.Cx
         G99 = record {
-          locals = List._++_ g70 (List._++_ t1 t69);
-          slots = List._∷_ (Row.lease (κs .0) (qs .0)) (List._∷_ Row.off (List._∷_ Row.off
-              (List._∷_ Row.off (List._∷_ Row.off (List._∷_ Row.off (List._∷_ Row.off (List._∷_ Row.off (List._∷_ Row.off (List._∷_ Row.alive (List._∷_
-              Row.alive (List._∷_ Row.off (List._∷_ Row.off (List._∷_ Row.off (List._∷_ Row.off List.[]))))))))))))));
+          locals = List._++_ g71 (List._++_ t1 (List._++_ t70 t3));
+          slots = List._∷_ (Row.lease (κs .0) (qs .0)) (List._∷_ Row.off
+              (List._∷_ Row.off (List._∷_ Row.off (List._∷_ Row.off (List._∷_ Row.off (List._∷_ Row.off (List._∷_ Row.off (List._∷_ Row.off (List._∷_
+              Row.alive (List._∷_ Row.alive (List._∷_ Row.off (List._∷_ Row.off (List._∷_ Row.off (List._∷_ Row.off (List._∷_ Row.off
+              List.[])))))))))))))));
         }
 
         abbrev G100 : Row.Cx
         G100 = record {
-          locals = List._++_ g70 (List._++_ t1 t69);
-          slots = List._∷_ (Row.lease (κs .0) (qs .0)) (List._∷_ Row.off (List._∷_ Row.off
-              (List._∷_ Row.off (List._∷_ Row.off (List._∷_ Row.off (List._∷_ Row.off (List._∷_ Row.off (List._∷_ Row.off (List._∷_ Row.dead (List._∷_
-              Row.alive (List._∷_ Row.off (List._∷_ Row.off (List._∷_ Row.off (List._∷_ Row.off List.[]))))))))))))));
+          locals = List._++_ g71 (List._++_ t1 (List._++_ t70 t3));
+          slots = List._∷_ (Row.lease (κs .0) (qs .0)) (List._∷_ Row.off
+              (List._∷_ Row.off (List._∷_ Row.off (List._∷_ Row.off (List._∷_ Row.off (List._∷_ Row.off (List._∷_ Row.off (List._∷_ Row.off (List._∷_
+              Row.dead (List._∷_ Row.alive (List._∷_ Row.off (List._∷_ Row.off (List._∷_ Row.off (List._∷_ Row.off (List._∷_ Row.off
+              List.[])))))))))))))));
         }
 
         abbrev G101 : Row.Cx
         G101 = record {
-          locals = List._++_ g71 (List._++_ t1 t69);
-          slots = List._∷_ (Row.lease (κs .0) (qs .0)) (List._∷_ Row.off (List._∷_ (Row.lease
-              (κs .1 .1 .0) (qs .1 .1 .0)) (List._∷_ Row.off (List._∷_ Row.off (List._∷_ Row.off (List._∷_ Row.off (List._∷_ Row.off (List._∷_ Row.off
-              (List._∷_ Row.dead (List._∷_ Row.alive (List._∷_ Row.off (List._∷_ Row.off (List._∷_ Row.off (List._∷_ Row.off List.[]))))))))))))));
+          locals = List._++_ g72 (List._++_ t1 (List._++_ t70 t3));
+          slots = List._∷_ (Row.lease (κs .0) (qs .0)) (List._∷_ Row.off
+              (List._∷_ (Row.lease (κs .1 .1 .0) (qs .1 .1 .0)) (List._∷_ Row.off (List._∷_ Row.off (List._∷_ Row.off (List._∷_ Row.off (List._∷_
+              Row.off (List._∷_ Row.off (List._∷_ Row.dead (List._∷_ Row.alive (List._∷_ Row.off (List._∷_ Row.off (List._∷_ Row.off (List._∷_ Row.off
+              (List._∷_ Row.off List.[])))))))))))))));
         }
 
         abbrev G102 : Row.Cx
         G102 = record {
-          locals = List._++_ g71 (List._++_ t1 t69);
-          slots = List._∷_ (Row.lease (κs .0) (qs .0)) (List._∷_ Row.off (List._∷_ (Row.lease
-              (κs .1 .1 .0) (qs .1 .1 .0)) (List._∷_ Row.off (List._∷_ Row.off (List._∷_ Row.off (List._∷_ Row.off (List._∷_ Row.off (List._∷_ Row.off
-              (List._∷_ Row.off (List._∷_ Row.alive (List._∷_ Row.off (List._∷_ Row.off (List._∷_ Row.off (List._∷_ Row.off List.[]))))))))))))));
+          locals = List._++_ g72 (List._++_ t1 (List._++_ t70 t3));
+          slots = List._∷_ (Row.lease (κs .0) (qs .0)) (List._∷_ Row.off
+              (List._∷_ (Row.lease (κs .1 .1 .0) (qs .1 .1 .0)) (List._∷_ Row.off (List._∷_ Row.off (List._∷_ Row.off (List._∷_ Row.off (List._∷_
+              Row.off (List._∷_ Row.off (List._∷_ Row.off (List._∷_ Row.alive (List._∷_ Row.off (List._∷_ Row.off (List._∷_ Row.off (List._∷_ Row.off
+              (List._∷_ Row.off List.[])))))))))))))));
         }
 
         abbrev G103 : Row.Cx
         G103 = record {
-          locals = List._++_ g71 (List._++_ t1 t69);
-          slots = List._∷_ (Row.lease (κs .0) (qs .0)) (List._∷_ Row.off (List._∷_ (Row.lease
-              (κs .1 .1 .0) (qs .1 .1 .0)) (List._∷_ Row.off (List._∷_ Row.off (List._∷_ Row.off (List._∷_ Row.off (List._∷_ Row.off (List._∷_ Row.off
-              (List._∷_ Row.off (List._∷_ Row.dead (List._∷_ Row.off (List._∷_ Row.off (List._∷_ Row.off (List._∷_ Row.off List.[]))))))))))))));
+          locals = List._++_ g72 (List._++_ t1 (List._++_ t70 t3));
+          slots = List._∷_ (Row.lease (κs .0) (qs .0)) (List._∷_ Row.off
+              (List._∷_ (Row.lease (κs .1 .1 .0) (qs .1 .1 .0)) (List._∷_ Row.off (List._∷_ Row.off (List._∷_ Row.off (List._∷_ Row.off (List._∷_
+              Row.off (List._∷_ Row.off (List._∷_ Row.off (List._∷_ Row.dead (List._∷_ Row.off (List._∷_ Row.off (List._∷_ Row.off (List._∷_ Row.off
+              (List._∷_ Row.off List.[])))))))))))))));
         }
 
         abbrev G104 : Row.Cx
         G104 = record {
-          locals = List._++_ t72 (List._++_ t1 t73);
-          slots = List._∷_ (Row.lease (κs .0) (qs .0)) (List._∷_ (Row.lease (κs .1 .0) (qs .1
-              .0)) (List._∷_ (Row.lease (κs .1 .1 .0) (qs .1 .1 .0)) (List._∷_ Row.off (List._∷_ Row.off (List._∷_ Row.off (List._∷_ Row.off (List._∷_
-              Row.off (List._∷_ Row.off (List._∷_ Row.off (List._∷_ Row.dead (List._∷_ Row.off (List._∷_ Row.off (List._∷_ Row.off (List._∷_ Row.off
-              List.[]))))))))))))));
+          locals = List._++_ t73 (List._++_ t1 (List._++_ t74 t3));
+          slots = List._∷_ (Row.lease (κs .0) (qs .0)) (List._∷_ (Row.lease
+              (κs .1 .0) (qs .1 .0)) (List._∷_ (Row.lease (κs .1 .1 .0) (qs .1 .1 .0)) (List._∷_ Row.off (List._∷_ Row.off (List._∷_ Row.off (List._∷_
+              Row.off (List._∷_ Row.off (List._∷_ Row.off (List._∷_ Row.off (List._∷_ Row.dead (List._∷_ Row.off (List._∷_ Row.off (List._∷_ Row.off
+              (List._∷_ Row.off (List._∷_ Row.off List.[])))))))))))))));
         }
 
         abbrev G105 : Row.Cx
         G105 = record {
-          locals = List._++_ t72 (List._++_ t1 t73);
-          slots = List._∷_ (Row.lease (κs .0) (qs .0)) (List._∷_ (Row.lease (κs .1 .0) (qs .1
-              .0)) (List._∷_ (Row.lease (κs .1 .1 .0) (qs .1 .1 .0)) (List._∷_ Row.off (List._∷_ Row.off (List._∷_ Row.off (List._∷_ Row.off (List._∷_
-              Row.off (List._∷_ Row.off (List._∷_ Row.off (List._∷_ Row.dead (List._∷_ Row.off (List._∷_ Row.off (List._∷_ Row.off (List._∷_ Row.off
-              List.[]))))))))))))));
+          locals = List._++_ t73 (List._++_ t1 (List._++_ t74 t3));
+          slots = List._∷_ (Row.lease (κs .0) (qs .0)) (List._∷_ (Row.lease
+              (κs .1 .0) (qs .1 .0)) (List._∷_ (Row.lease (κs .1 .1 .0) (qs .1 .1 .0)) (List._∷_ Row.off (List._∷_ Row.off (List._∷_ Row.off (List._∷_
+              Row.off (List._∷_ Row.off (List._∷_ Row.off (List._∷_ Row.off (List._∷_ Row.dead (List._∷_ Row.off (List._∷_ Row.off (List._∷_ Row.off
+              (List._∷_ Row.off (List._∷_ Row.off List.[])))))))))))))));
         }
 
         abbrev G106 : Row.Cx
         G106 = record {
-          locals = List._++_ t72 (List._++_ t1 t73);
-          slots = List._∷_ (Row.lease (κs .0) (qs .0)) (List._∷_ (Row.lease (κs .1 .0) (qs .1
-              .0)) (List._∷_ (Row.lease (κs .1 .1 .0) (qs .1 .1 .0)) (List._∷_ Row.off (List._∷_ Row.off (List._∷_ Row.off (List._∷_ Row.off (List._∷_
+          locals = List._++_ t73 (List._++_ t1 (List._++_ t74 t3));
+          slots = List._∷_ (Row.lease (κs .0) (qs .0)) (List._∷_ (Row.lease
+              (κs .1 .0) (qs .1 .0)) (List._∷_ (Row.lease (κs .1 .1 .0) (qs .1 .1 .0)) (List._∷_ Row.off (List._∷_ Row.off (List._∷_ Row.off (List._∷_
               Row.off (List._∷_ Row.off (List._∷_ Row.off (List._∷_ Row.off (List._∷_ Row.off (List._∷_ Row.off (List._∷_ Row.off (List._∷_ Row.off
-              List.[]))))))))))))));
+              (List._∷_ Row.off (List._∷_ Row.off List.[])))))))))))))));
         }
 
         abbrev G107 : Row.Cx
         G107 = record {
-          locals = List._++_ t72 (List._++_ t5 t73);
-          slots = List._∷_ (Row.lease (κs .0) (qs .0)) (List._∷_ (Row.lease (κs .1 .0) (qs .1
-              .0)) (List._∷_ (Row.lease (κs .1 .1 .0) (qs .1 .1 .0)) (List._∷_ Row.off (List._∷_ Row.off (List._∷_ Row.off (List._∷_ Row.off (List._∷_
+          locals = List._++_ t73 (List._++_ t6 (List._++_ t74 t3));
+          slots = List._∷_ (Row.lease (κs .0) (qs .0)) (List._∷_ (Row.lease
+              (κs .1 .0) (qs .1 .0)) (List._∷_ (Row.lease (κs .1 .1 .0) (qs .1 .1 .0)) (List._∷_ Row.off (List._∷_ Row.off (List._∷_ Row.off (List._∷_
               Row.off (List._∷_ Row.off (List._∷_ Row.off (List._∷_ Row.off (List._∷_ Row.off (List._∷_ Row.off (List._∷_ Row.off (List._∷_ Row.off
-              List.[]))))))))))))));
+              (List._∷_ Row.off (List._∷_ Row.off List.[])))))))))))))));
         }
 
         abbrev G108 : Row.Cx
         G108 = record {
-          locals = List._++_ t4 (List._++_ t5 t73);
-          slots = List._∷_ (Row.lease (κs .0) (qs .0)) (List._∷_ (Row.lease (κs .1 .0) (qs .1
-              .0)) (List._∷_ (Row.lease (κs .1 .1 .0) (qs .1 .1 .0)) (List._∷_ Row.off (List._∷_ Row.off (List._∷_ Row.off (List._∷_ Row.off (List._∷_
+          locals = List._++_ t5 (List._++_ t6 (List._++_ t74 t3));
+          slots = List._∷_ (Row.lease (κs .0) (qs .0)) (List._∷_ (Row.lease (κs
+              .1 .0) (qs .1 .0)) (List._∷_ (Row.lease (κs .1 .1 .0) (qs .1 .1 .0)) (List._∷_ Row.off (List._∷_ Row.off (List._∷_ Row.off (List._∷_
               Row.off (List._∷_ Row.off (List._∷_ Row.off (List._∷_ Row.off (List._∷_ Row.off (List._∷_ Row.off (List._∷_ Row.off (List._∷_ Row.off
-              List.[]))))))))))))));
+              (List._∷_ Row.off (List._∷_ Row.off List.[])))))))))))))));
         }
 
         abbrev G109 : Row.Cx
         G109 = record {
-          locals = List._++_ t4 (List._++_ t5 t2);
-          slots = List._∷_ (Row.lease (κs .0) (qs .0)) (List._∷_ (Row.lease (κs .1 .0) (qs .1
-              .0)) (List._∷_ (Row.lease (κs .1 .1 .0) (qs .1 .1 .0)) (List._∷_ Row.off (List._∷_ Row.off (List._∷_ Row.off (List._∷_ Row.off (List._∷_
+          locals = List._++_ t5 (List._++_ t6 (List._++_ t2 t3));
+          slots = List._∷_ (Row.lease (κs .0) (qs .0)) (List._∷_ (Row.lease (κs
+              .1 .0) (qs .1 .0)) (List._∷_ (Row.lease (κs .1 .1 .0) (qs .1 .1 .0)) (List._∷_ Row.off (List._∷_ Row.off (List._∷_ Row.off (List._∷_
               Row.off (List._∷_ Row.off (List._∷_ Row.off (List._∷_ Row.off (List._∷_ Row.off (List._∷_ Row.off (List._∷_ Row.off (List._∷_ Row.off
-              List.[]))))))))))))));
+              (List._∷_ Row.off (List._∷_ Row.off List.[])))))))))))))));
         }
 
         abbrev G110 : Row.Cx
         G110 = record {
-          locals = List._++_ t74 (List._++_ t1 t2);
-          slots = List._∷_ (Row.lease (κs .0) (qs .0)) (List._∷_ (Row.lease (κs .1 .0) (qs .1
-              .0)) (List._∷_ (Row.lease (κs .1 .1 .0) (qs .1 .1 .0)) (List._∷_ Row.off (List._∷_ Row.off (List._∷_ Row.off (List._∷_ Row.off (List._∷_
+          locals = List._++_ t75 (List._++_ t1 (List._++_ t2 t3));
+          slots = List._∷_ (Row.lease (κs .0) (qs .0)) (List._∷_ (Row.lease (κs
+              .1 .0) (qs .1 .0)) (List._∷_ (Row.lease (κs .1 .1 .0) (qs .1 .1 .0)) (List._∷_ Row.off (List._∷_ Row.off (List._∷_ Row.off (List._∷_
               Row.off (List._∷_ Row.off (List._∷_ Row.off (List._∷_ Row.off (List._∷_ Row.off (List._∷_ Row.off (List._∷_ Row.off (List._∷_ Row.off
-              List.[]))))))))))))));
+              (List._∷_ Row.off (List._∷_ Row.off List.[])))))))))))))));
         }
 
         abbrev G111 : Row.Cx
         G111 = record {
-          locals = List._++_ t74 (List._++_ t1 t2);
-          slots = List._∷_ (Row.lease (κs .0) (qs .0)) (List._∷_ (Row.lease (κs .1 .0) (qs .1
-              .0)) (List._∷_ (Row.lease (κs .1 .1 .0) (qs .1 .1 .0)) (List._∷_ Row.off (List._∷_ Row.off (List._∷_ Row.off (List._∷_ Row.off (List._∷_
+          locals = List._++_ t75 (List._++_ t1 (List._++_ t2 t3));
+          slots = List._∷_ (Row.lease (κs .0) (qs .0)) (List._∷_ (Row.lease (κs
+              .1 .0) (qs .1 .0)) (List._∷_ (Row.lease (κs .1 .1 .0) (qs .1 .1 .0)) (List._∷_ Row.off (List._∷_ Row.off (List._∷_ Row.off (List._∷_
               Row.off (List._∷_ Row.off (List._∷_ Row.off (List._∷_ Row.off (List._∷_ Row.off (List._∷_ Row.off (List._∷_ Row.off (List._∷_ Row.off
-              List.[]))))))))))))));
+              (List._∷_ Row.off (List._∷_ Row.off List.[])))))))))))))));
         }
 
         abbrev G112 : Row.Cx
         G112 = record {
-          locals = List._++_ t75 (List._++_ t1 t2);
-          slots = List._∷_ (Row.lease (κs .0) (qs .0)) (List._∷_ (Row.lease (κs .1 .0) (qs .1
-              .0)) (List._∷_ (Row.lease (κs .1 .1 .0) (qs .1 .1 .0)) (List._∷_ Row.off (List._∷_ Row.off (List._∷_ Row.off (List._∷_ Row.off (List._∷_
+          locals = List._++_ t76 (List._++_ t1 (List._++_ t2 t3));
+          slots = List._∷_ (Row.lease (κs .0) (qs .0)) (List._∷_ (Row.lease (κs
+              .1 .0) (qs .1 .0)) (List._∷_ (Row.lease (κs .1 .1 .0) (qs .1 .1 .0)) (List._∷_ Row.off (List._∷_ Row.off (List._∷_ Row.off (List._∷_
               Row.off (List._∷_ Row.off (List._∷_ Row.off (List._∷_ Row.off (List._∷_ Row.off (List._∷_ Row.off (List._∷_ Row.off (List._∷_ Row.off
-              List.[]))))))))))))));
+              (List._∷_ Row.off (List._∷_ Row.off List.[])))))))))))))));
         }
 
         abbrev G113 : Row.Cx
         G113 = record {
-          locals = List._++_ t76 (List._++_ t1 t2);
-          slots = List._∷_ (Row.lease (κs .0) (qs .0)) (List._∷_ (Row.lease (κs .1 .0) (qs .1
-              .0)) (List._∷_ (Row.lease (κs .1 .1 .0) (qs .1 .1 .0)) (List._∷_ Row.off (List._∷_ Row.off (List._∷_ Row.off (List._∷_ Row.off (List._∷_
+          locals = List._++_ t77 (List._++_ t1 (List._++_ t2 t3));
+          slots = List._∷_ (Row.lease (κs .0) (qs .0)) (List._∷_ (Row.lease (κs
+              .1 .0) (qs .1 .0)) (List._∷_ (Row.lease (κs .1 .1 .0) (qs .1 .1 .0)) (List._∷_ Row.off (List._∷_ Row.off (List._∷_ Row.off (List._∷_
               Row.off (List._∷_ Row.off (List._∷_ Row.off (List._∷_ Row.off (List._∷_ Row.off (List._∷_ Row.off (List._∷_ Row.off (List._∷_ Row.off
-              List.[]))))))))))))));
+              (List._∷_ Row.off (List._∷_ Row.off List.[])))))))))))))));
         }
 
         abbrev G114 : Row.Cx
         G114 = record {
-          locals = List._++_ t77 (List._++_ t1 t2);
-          slots = List._∷_ (Row.lease (κs .0) (qs .0)) (List._∷_ (Row.lease (κs .1 .0) (qs .1
-              .0)) (List._∷_ (Row.lease (κs .1 .1 .0) (qs .1 .1 .0)) (List._∷_ Row.off (List._∷_ Row.off (List._∷_ Row.off (List._∷_ Row.off (List._∷_
+          locals = List._++_ t78 (List._++_ t1 (List._++_ t2 t3));
+          slots = List._∷_ (Row.lease (κs .0) (qs .0)) (List._∷_ (Row.lease (κs
+              .1 .0) (qs .1 .0)) (List._∷_ (Row.lease (κs .1 .1 .0) (qs .1 .1 .0)) (List._∷_ Row.off (List._∷_ Row.off (List._∷_ Row.off (List._∷_
               Row.off (List._∷_ Row.off (List._∷_ Row.off (List._∷_ Row.off (List._∷_ Row.off (List._∷_ Row.off (List._∷_ Row.off (List._∷_ Row.off
-              List.[]))))))))))))));
+              (List._∷_ Row.off (List._∷_ Row.off List.[])))))))))))))));
         }
 
         abbrev G115 : Row.Cx
         G115 = record {
-          locals = List._++_ t77 (List._++_ t1 t2);
-          slots = List._∷_ (Row.lease (κs .0) (qs .0)) (List._∷_ (Row.lease (κs .1 .0) (qs .1
-              .0)) (List._∷_ (Row.lease (κs .1 .1 .0) (qs .1 .1 .0)) (List._∷_ Row.off (List._∷_ Row.off (List._∷_ Row.off (List._∷_ Row.off (List._∷_
-              Row.off (List._∷_ Row.off (List._∷_ Row.off (List._∷_ Row.off (List._∷_ Row.alive (List._∷_ Row.off (List._∷_ Row.off (List._∷_ Row.off
-              List.[]))))))))))))));
+          locals = List._++_ t78 (List._++_ t1 (List._++_ t2 t3));
+          slots = List._∷_ (Row.lease (κs .0) (qs .0)) (List._∷_ (Row.lease (κs
+              .1 .0) (qs .1 .0)) (List._∷_ (Row.lease (κs .1 .1 .0) (qs .1 .1 .0)) (List._∷_ Row.off (List._∷_ Row.off (List._∷_ Row.off (List._∷_
+              Row.off (List._∷_ Row.off (List._∷_ Row.off (List._∷_ Row.off (List._∷_ Row.off (List._∷_ Row.alive (List._∷_ Row.off (List._∷_ Row.off
+              (List._∷_ Row.off (List._∷_ Row.off List.[])))))))))))))));
         }
 
         abbrev G116 : Row.Cx
         G116 = record {
-          locals = List._++_ g78 (List._++_ t1 t79);
-          slots = List._∷_ (Row.lease (κs .0) (qs .0)) (List._∷_ (Row.lease (κs .1 .0) (qs .1
-              .0)) (List._∷_ Row.off (List._∷_ Row.off (List._∷_ Row.off (List._∷_ Row.off (List._∷_ Row.off (List._∷_ Row.off (List._∷_ Row.off
-              (List._∷_ Row.off (List._∷_ Row.off (List._∷_ Row.alive (List._∷_ Row.off (List._∷_ Row.off (List._∷_ Row.off List.[]))))))))))))));
+          locals = List._++_ g79 (List._++_ t1 (List._++_ t80 t3));
+          slots = List._∷_ (Row.lease (κs .0) (qs .0)) (List._∷_ (Row.lease
+              (κs .1 .0) (qs .1 .0)) (List._∷_ Row.off (List._∷_ Row.off (List._∷_ Row.off (List._∷_ Row.off (List._∷_ Row.off (List._∷_ Row.off
+              (List._∷_ Row.off (List._∷_ Row.off (List._∷_ Row.off (List._∷_ Row.alive (List._∷_ Row.off (List._∷_ Row.off (List._∷_ Row.off (List._∷_
+              Row.off List.[])))))))))))))));
         }
 
         abbrev G117 : Row.Cx
         G117 = record {
-          locals = List._++_ g78 (List._++_ t1 t80);
-          slots = List._∷_ (Row.lease (κs .0) (qs .0)) (List._∷_ (Row.lease (κs .1 .0) (qs .1
-              .0)) (List._∷_ Row.off (List._∷_ Row.off (List._∷_ Row.off (List._∷_ Row.off (List._∷_ Row.off (List._∷_ Row.off (List._∷_ Row.off
-              (List._∷_ Row.off (List._∷_ Row.off (List._∷_ Row.alive (List._∷_ Row.off (List._∷_ Row.off (List._∷_ Row.off List.[]))))))))))))));
+          locals = List._++_ g79 (List._++_ t1 (List._++_ t81 t3));
+          slots = List._∷_ (Row.lease (κs .0) (qs .0)) (List._∷_ (Row.lease
+              (κs .1 .0) (qs .1 .0)) (List._∷_ Row.off (List._∷_ Row.off (List._∷_ Row.off (List._∷_ Row.off (List._∷_ Row.off (List._∷_ Row.off
+              (List._∷_ Row.off (List._∷_ Row.off (List._∷_ Row.off (List._∷_ Row.alive (List._∷_ Row.off (List._∷_ Row.off (List._∷_ Row.off (List._∷_
+              Row.off List.[])))))))))))))));
         }
 
         abbrev G118 : Row.Cx
         G118 = record {
-          locals = List._++_ g78 (List._++_ t1 t80);
-          slots = List._∷_ (Row.lease (κs .0) (qs .0)) (List._∷_ (Row.lease (κs .1 .0) (qs .1
-              .0)) (List._∷_ Row.off (List._∷_ Row.off (List._∷_ Row.off (List._∷_ Row.off (List._∷_ Row.off (List._∷_ Row.off (List._∷_ Row.off
-              (List._∷_ Row.off (List._∷_ Row.off (List._∷_ Row.alive (List._∷_ Row.alive (List._∷_ Row.off (List._∷_ Row.off List.[]))))))))))))));
+          locals = List._++_ g79 (List._++_ t1 (List._++_ t81 t3));
+          slots = List._∷_ (Row.lease (κs .0) (qs .0)) (List._∷_ (Row.lease
+              (κs .1 .0) (qs .1 .0)) (List._∷_ Row.off (List._∷_ Row.off (List._∷_ Row.off (List._∷_ Row.off (List._∷_ Row.off (List._∷_ Row.off
+              (List._∷_ Row.off (List._∷_ Row.off (List._∷_ Row.off (List._∷_ Row.alive (List._∷_ Row.alive (List._∷_ Row.off (List._∷_ Row.off
+              (List._∷_ Row.off List.[])))))))))))))));
         }
 
         abbrev G119 : Row.Cx
         G119 = record {
-          locals = List._++_ g81 (List._++_ t1 t82);
-          slots = List._∷_ (Row.lease (κs .0) (qs .0)) (List._∷_ Row.off (List._∷_ Row.off
+          locals = List._++_ g82 (List._++_ t1 (List._++_ t83 t3));
+          slots = List._∷_ (Row.lease (κs .0) (qs .0)) (List._∷_ Row.off
               (List._∷_ Row.off (List._∷_ Row.off (List._∷_ Row.off (List._∷_ Row.off (List._∷_ Row.off (List._∷_ Row.off (List._∷_ Row.off (List._∷_
-              Row.off (List._∷_ Row.alive (List._∷_ Row.alive (List._∷_ Row.off (List._∷_ Row.off List.[]))))))))))))));
+              Row.off (List._∷_ Row.off (List._∷_ Row.alive (List._∷_ Row.alive (List._∷_ Row.off (List._∷_ Row.off (List._∷_ Row.off
+              List.[])))))))))))))));
         }
 
         abbrev G120 : Row.Cx
         G120 = record {
-          locals = List._++_ g81 (List._++_ t1 t83);
-          slots = List._∷_ (Row.lease (κs .0) (qs .0)) (List._∷_ Row.off (List._∷_ Row.off
+          locals = List._++_ g82 (List._++_ t1 (List._++_ t84 t3));
+          slots = List._∷_ (Row.lease (κs .0) (qs .0)) (List._∷_ Row.off
               (List._∷_ Row.off (List._∷_ Row.off (List._∷_ Row.off (List._∷_ Row.off (List._∷_ Row.off (List._∷_ Row.off (List._∷_ Row.off (List._∷_
-              Row.off (List._∷_ Row.alive (List._∷_ Row.alive (List._∷_ Row.off (List._∷_ Row.off List.[]))))))))))))));
+              Row.off (List._∷_ Row.off (List._∷_ Row.alive (List._∷_ Row.alive (List._∷_ Row.off (List._∷_ Row.off (List._∷_ Row.off
+              List.[])))))))))))))));
         }
 
         abbrev G121 : Row.Cx
         G121 = record {
-          locals = List._++_ g81 (List._++_ t1 t84);
-          slots = List._∷_ (Row.lease (κs .0) (qs .0)) (List._∷_ Row.off (List._∷_ Row.off
+          locals = List._++_ g82 (List._++_ t1 (List._++_ t85 t3));
+          slots = List._∷_ (Row.lease (κs .0) (qs .0)) (List._∷_ Row.off
               (List._∷_ Row.off (List._∷_ Row.off (List._∷_ Row.off (List._∷_ Row.off (List._∷_ Row.off (List._∷_ Row.off (List._∷_ Row.off (List._∷_
-              Row.off (List._∷_ Row.alive (List._∷_ Row.alive (List._∷_ Row.off (List._∷_ Row.off List.[]))))))))))))));
+              Row.off (List._∷_ Row.off (List._∷_ Row.alive (List._∷_ Row.alive (List._∷_ Row.off (List._∷_ Row.off (List._∷_ Row.off
+              List.[])))))))))))))));
         }
 
         abbrev G122 : Row.Cx
         G122 = record {
-          locals = List._++_ g81 (List._++_ t1 t85);
-          slots = List._∷_ (Row.lease (κs .0) (qs .0)) (List._∷_ Row.off (List._∷_ Row.off
+          locals = List._++_ g82 (List._++_ t1 (List._++_ t86 t3));
+          slots = List._∷_ (Row.lease (κs .0) (qs .0)) (List._∷_ Row.off
               (List._∷_ Row.off (List._∷_ Row.off (List._∷_ Row.off (List._∷_ Row.off (List._∷_ Row.off (List._∷_ Row.off (List._∷_ Row.off (List._∷_
-              Row.off (List._∷_ Row.alive (List._∷_ Row.alive (List._∷_ Row.off (List._∷_ Row.off List.[]))))))))))))));
+              Row.off (List._∷_ Row.off (List._∷_ Row.alive (List._∷_ Row.alive (List._∷_ Row.off (List._∷_ Row.off (List._∷_ Row.off
+              List.[])))))))))))))));
         }
 
         abbrev G123 : Row.Cx
         G123 = record {
-          locals = List._++_ g86 (List._++_ t1 t85);
-          slots = List._∷_ (Row.lease (κs .0) (qs .0)) (List._∷_ Row.off (List._∷_ Row.off
+          locals = List._++_ g87 (List._++_ t1 (List._++_ t86 t3));
+          slots = List._∷_ (Row.lease (κs .0) (qs .0)) (List._∷_ Row.off
               (List._∷_ Row.off (List._∷_ Row.off (List._∷_ Row.off (List._∷_ Row.off (List._∷_ Row.off (List._∷_ Row.off (List._∷_ Row.off (List._∷_
-              Row.off (List._∷_ Row.alive (List._∷_ Row.alive (List._∷_ Row.off (List._∷_ Row.off List.[]))))))))))))));
+              Row.off (List._∷_ Row.off (List._∷_ Row.alive (List._∷_ Row.alive (List._∷_ Row.off (List._∷_ Row.off (List._∷_ Row.off
+              List.[])))))))))))))));
         }
 
         abbrev G124 : Row.Cx
         G124 = record {
-          locals = List._++_ g86 (List._++_ t1 t85);
-          slots = List._∷_ (Row.lease (κs .0) (qs .0)) (List._∷_ Row.off (List._∷_ Row.off
+          locals = List._++_ g87 (List._++_ t1 (List._++_ t86 t3));
+          slots = List._∷_ (Row.lease (κs .0) (qs .0)) (List._∷_ Row.off
               (List._∷_ Row.off (List._∷_ Row.off (List._∷_ Row.off (List._∷_ Row.off (List._∷_ Row.off (List._∷_ Row.off (List._∷_ Row.off (List._∷_
-              Row.off (List._∷_ Row.dead (List._∷_ Row.alive (List._∷_ Row.off (List._∷_ Row.off List.[]))))))))))))));
+              Row.off (List._∷_ Row.off (List._∷_ Row.dead (List._∷_ Row.alive (List._∷_ Row.off (List._∷_ Row.off (List._∷_ Row.off
+              List.[])))))))))))))));
         }
 
         abbrev G125 : Row.Cx
         G125 = record {
-          locals = List._++_ g87 (List._++_ t1 t85);
-          slots = List._∷_ (Row.lease (κs .0) (qs .0)) (List._∷_ Row.off (List._∷_ (Row.lease
-              (κs .1 .1 .0) (qs .1 .1 .0)) (List._∷_ Row.off (List._∷_ Row.off (List._∷_ Row.off (List._∷_ Row.off (List._∷_ Row.off (List._∷_ Row.off
-              (List._∷_ Row.off (List._∷_ Row.off (List._∷_ Row.dead (List._∷_ Row.alive (List._∷_ Row.off (List._∷_ Row.off List.[]))))))))))))));
+          locals = List._++_ g88 (List._++_ t1 (List._++_ t86 t3));
+          slots = List._∷_ (Row.lease (κs .0) (qs .0)) (List._∷_ Row.off
+              (List._∷_ (Row.lease (κs .1 .1 .0) (qs .1 .1 .0)) (List._∷_ Row.off (List._∷_ Row.off (List._∷_ Row.off (List._∷_ Row.off (List._∷_
+              Row.off (List._∷_ Row.off (List._∷_ Row.off (List._∷_ Row.off (List._∷_ Row.dead (List._∷_ Row.alive (List._∷_ Row.off (List._∷_ Row.off
+              (List._∷_ Row.off List.[])))))))))))))));
         }
 
         abbrev G126 : Row.Cx
         G126 = record {
-          locals = List._++_ g87 (List._++_ t1 t85);
-          slots = List._∷_ (Row.lease (κs .0) (qs .0)) (List._∷_ Row.off (List._∷_ (Row.lease
-              (κs .1 .1 .0) (qs .1 .1 .0)) (List._∷_ Row.off (List._∷_ Row.off (List._∷_ Row.off (List._∷_ Row.off (List._∷_ Row.off (List._∷_ Row.off
-              (List._∷_ Row.off (List._∷_ Row.off (List._∷_ Row.off (List._∷_ Row.alive (List._∷_ Row.off (List._∷_ Row.off List.[]))))))))))))));
+          locals = List._++_ g88 (List._++_ t1 (List._++_ t86 t3));
+          slots = List._∷_ (Row.lease (κs .0) (qs .0)) (List._∷_ Row.off
+              (List._∷_ (Row.lease (κs .1 .1 .0) (qs .1 .1 .0)) (List._∷_ Row.off (List._∷_ Row.off (List._∷_ Row.off (List._∷_ Row.off (List._∷_
+              Row.off (List._∷_ Row.off (List._∷_ Row.off (List._∷_ Row.off (List._∷_ Row.off (List._∷_ Row.alive (List._∷_ Row.off (List._∷_ Row.off
+              (List._∷_ Row.off List.[])))))))))))))));
         }
 
         abbrev G127 : Row.Cx
         G127 = record {
-          locals = List._++_ g87 (List._++_ t1 t85);
-          slots = List._∷_ (Row.lease (κs .0) (qs .0)) (List._∷_ Row.off (List._∷_ (Row.lease
-              (κs .1 .1 .0) (qs .1 .1 .0)) (List._∷_ Row.off (List._∷_ Row.off (List._∷_ Row.off (List._∷_ Row.off (List._∷_ Row.off (List._∷_ Row.off
-              (List._∷_ Row.off (List._∷_ Row.off (List._∷_ Row.off (List._∷_ Row.dead (List._∷_ Row.off (List._∷_ Row.off List.[]))))))))))))));
+          locals = List._++_ g88 (List._++_ t1 (List._++_ t86 t3));
+          slots = List._∷_ (Row.lease (κs .0) (qs .0)) (List._∷_ Row.off
+              (List._∷_ (Row.lease (κs .1 .1 .0) (qs .1 .1 .0)) (List._∷_ Row.off (List._∷_ Row.off (List._∷_ Row.off (List._∷_ Row.off (List._∷_
+              Row.off (List._∷_ Row.off (List._∷_ Row.off (List._∷_ Row.off (List._∷_ Row.off (List._∷_ Row.dead (List._∷_ Row.off (List._∷_ Row.off
+              (List._∷_ Row.off List.[])))))))))))))));
         }
 
         abbrev G128 : Row.Cx
         G128 = record {
-          locals = List._++_ t88 (List._++_ t1 t89);
-          slots = List._∷_ (Row.lease (κs .0) (qs .0)) (List._∷_ (Row.lease (κs .1 .0) (qs .1
-              .0)) (List._∷_ (Row.lease (κs .1 .1 .0) (qs .1 .1 .0)) (List._∷_ Row.off (List._∷_ Row.off (List._∷_ Row.off (List._∷_ Row.off (List._∷_
-              Row.off (List._∷_ Row.off (List._∷_ Row.off (List._∷_ Row.off (List._∷_ Row.off (List._∷_ Row.dead (List._∷_ Row.off (List._∷_ Row.off
-              List.[]))))))))))))));
+          locals = List._++_ t89 (List._++_ t1 (List._++_ t90 t3));
+          slots = List._∷_ (Row.lease (κs .0) (qs .0)) (List._∷_ (Row.lease
+              (κs .1 .0) (qs .1 .0)) (List._∷_ (Row.lease (κs .1 .1 .0) (qs .1 .1 .0)) (List._∷_ Row.off (List._∷_ Row.off (List._∷_ Row.off (List._∷_
+              Row.off (List._∷_ Row.off (List._∷_ Row.off (List._∷_ Row.off (List._∷_ Row.off (List._∷_ Row.off (List._∷_ Row.dead (List._∷_ Row.off
+              (List._∷_ Row.off (List._∷_ Row.off List.[])))))))))))))));
         }
 
         abbrev G129 : Row.Cx
         G129 = record {
-          locals = List._++_ t88 (List._++_ t1 t89);
-          slots = List._∷_ (Row.lease (κs .0) (qs .0)) (List._∷_ (Row.lease (κs .1 .0) (qs .1
-              .0)) (List._∷_ (Row.lease (κs .1 .1 .0) (qs .1 .1 .0)) (List._∷_ Row.off (List._∷_ Row.off (List._∷_ Row.off (List._∷_ Row.off (List._∷_
-              Row.off (List._∷_ Row.off (List._∷_ Row.off (List._∷_ Row.off (List._∷_ Row.off (List._∷_ Row.dead (List._∷_ Row.off (List._∷_ Row.off
-              List.[]))))))))))))));
+          locals = List._++_ t89 (List._++_ t1 (List._++_ t90 t3));
+          slots = List._∷_ (Row.lease (κs .0) (qs .0)) (List._∷_ (Row.lease
+              (κs .1 .0) (qs .1 .0)) (List._∷_ (Row.lease (κs .1 .1 .0) (qs .1 .1 .0)) (List._∷_ Row.off (List._∷_ Row.off (List._∷_ Row.off (List._∷_
+              Row.off (List._∷_ Row.off (List._∷_ Row.off (List._∷_ Row.off (List._∷_ Row.off (List._∷_ Row.off (List._∷_ Row.dead (List._∷_ Row.off
+              (List._∷_ Row.off (List._∷_ Row.off List.[])))))))))))))));
         }
 
         abbrev G130 : Row.Cx
         G130 = record {
-          locals = List._++_ t88 (List._++_ t1 t89);
-          slots = List._∷_ (Row.lease (κs .0) (qs .0)) (List._∷_ (Row.lease (κs .1 .0) (qs .1
-              .0)) (List._∷_ (Row.lease (κs .1 .1 .0) (qs .1 .1 .0)) (List._∷_ Row.off (List._∷_ Row.off (List._∷_ Row.off (List._∷_ Row.off (List._∷_
+          locals = List._++_ t89 (List._++_ t1 (List._++_ t90 t3));
+          slots = List._∷_ (Row.lease (κs .0) (qs .0)) (List._∷_ (Row.lease
+              (κs .1 .0) (qs .1 .0)) (List._∷_ (Row.lease (κs .1 .1 .0) (qs .1 .1 .0)) (List._∷_ Row.off (List._∷_ Row.off (List._∷_ Row.off (List._∷_
               Row.off (List._∷_ Row.off (List._∷_ Row.off (List._∷_ Row.off (List._∷_ Row.off (List._∷_ Row.off (List._∷_ Row.off (List._∷_ Row.off
-              List.[]))))))))))))));
+              (List._∷_ Row.off (List._∷_ Row.off List.[])))))))))))))));
         }
 
         abbrev G131 : Row.Cx
         G131 = record {
-          locals = List._++_ t88 (List._++_ t5 t89);
-          slots = List._∷_ (Row.lease (κs .0) (qs .0)) (List._∷_ (Row.lease (κs .1 .0) (qs .1
-              .0)) (List._∷_ (Row.lease (κs .1 .1 .0) (qs .1 .1 .0)) (List._∷_ Row.off (List._∷_ Row.off (List._∷_ Row.off (List._∷_ Row.off (List._∷_
+          locals = List._++_ t89 (List._++_ t6 (List._++_ t90 t3));
+          slots = List._∷_ (Row.lease (κs .0) (qs .0)) (List._∷_ (Row.lease
+              (κs .1 .0) (qs .1 .0)) (List._∷_ (Row.lease (κs .1 .1 .0) (qs .1 .1 .0)) (List._∷_ Row.off (List._∷_ Row.off (List._∷_ Row.off (List._∷_
               Row.off (List._∷_ Row.off (List._∷_ Row.off (List._∷_ Row.off (List._∷_ Row.off (List._∷_ Row.off (List._∷_ Row.off (List._∷_ Row.off
-              List.[]))))))))))))));
+              (List._∷_ Row.off (List._∷_ Row.off List.[])))))))))))))));
         }
 
         abbrev G132 : Row.Cx
         G132 = record {
-          locals = List._++_ t90 (List._++_ t5 t89);
-          slots = List._∷_ (Row.lease (κs .0) (qs .0)) (List._∷_ (Row.lease (κs .1 .0) (qs .1
-              .0)) (List._∷_ (Row.lease (κs .1 .1 .0) (qs .1 .1 .0)) (List._∷_ Row.off (List._∷_ Row.off (List._∷_ Row.off (List._∷_ Row.off (List._∷_
+          locals = List._++_ t91 (List._++_ t6 (List._++_ t90 t3));
+          slots = List._∷_ (Row.lease (κs .0) (qs .0)) (List._∷_ (Row.lease
+              (κs .1 .0) (qs .1 .0)) (List._∷_ (Row.lease (κs .1 .1 .0) (qs .1 .1 .0)) (List._∷_ Row.off (List._∷_ Row.off (List._∷_ Row.off (List._∷_
               Row.off (List._∷_ Row.off (List._∷_ Row.off (List._∷_ Row.off (List._∷_ Row.off (List._∷_ Row.off (List._∷_ Row.off (List._∷_ Row.off
-              List.[]))))))))))))));
+              (List._∷_ Row.off (List._∷_ Row.off List.[])))))))))))))));
         }
 
         abbrev G133 : Row.Cx
         G133 = record {
-          locals = List._++_ t4 (List._++_ t5 t89);
-          slots = List._∷_ (Row.lease (κs .0) (qs .0)) (List._∷_ (Row.lease (κs .1 .0) (qs .1
-              .0)) (List._∷_ (Row.lease (κs .1 .1 .0) (qs .1 .1 .0)) (List._∷_ Row.off (List._∷_ Row.off (List._∷_ Row.off (List._∷_ Row.off (List._∷_
+          locals = List._++_ t5 (List._++_ t6 (List._++_ t90 t3));
+          slots = List._∷_ (Row.lease (κs .0) (qs .0)) (List._∷_ (Row.lease (κs
+              .1 .0) (qs .1 .0)) (List._∷_ (Row.lease (κs .1 .1 .0) (qs .1 .1 .0)) (List._∷_ Row.off (List._∷_ Row.off (List._∷_ Row.off (List._∷_
               Row.off (List._∷_ Row.off (List._∷_ Row.off (List._∷_ Row.off (List._∷_ Row.off (List._∷_ Row.off (List._∷_ Row.off (List._∷_ Row.off
-              List.[]))))))))))))));
+              (List._∷_ Row.off (List._∷_ Row.off List.[])))))))))))))));
         }
 
         abbrev G134 : Row.Cx
         G134 = record {
-          locals = List._++_ t4 (List._++_ t5 t2);
-          slots = List._∷_ (Row.lease (κs .0) (qs .0)) (List._∷_ (Row.lease (κs .1 .0) (qs .1
-              .0)) (List._∷_ (Row.lease (κs .1 .1 .0) (qs .1 .1 .0)) (List._∷_ Row.off (List._∷_ Row.off (List._∷_ Row.off (List._∷_ Row.off (List._∷_
+          locals = List._++_ t5 (List._++_ t6 (List._++_ t2 t3));
+          slots = List._∷_ (Row.lease (κs .0) (qs .0)) (List._∷_ (Row.lease (κs
+              .1 .0) (qs .1 .0)) (List._∷_ (Row.lease (κs .1 .1 .0) (qs .1 .1 .0)) (List._∷_ Row.off (List._∷_ Row.off (List._∷_ Row.off (List._∷_
               Row.off (List._∷_ Row.off (List._∷_ Row.off (List._∷_ Row.off (List._∷_ Row.off (List._∷_ Row.off (List._∷_ Row.off (List._∷_ Row.off
-              List.[]))))))))))))));
+              (List._∷_ Row.off (List._∷_ Row.off List.[])))))))))))))));
         }
 
         abbrev G135 : Row.Cx
         G135 = record {
-          locals = List._++_ t91 (List._++_ t1 t2);
-          slots = List._∷_ (Row.lease (κs .0) (qs .0)) (List._∷_ (Row.lease (κs .1 .0) (qs .1
-              .0)) (List._∷_ (Row.lease (κs .1 .1 .0) (qs .1 .1 .0)) (List._∷_ Row.off (List._∷_ Row.off (List._∷_ Row.off (List._∷_ Row.off (List._∷_
+          locals = List._++_ t92 (List._++_ t1 (List._++_ t2 t3));
+          slots = List._∷_ (Row.lease (κs .0) (qs .0)) (List._∷_ (Row.lease (κs
+              .1 .0) (qs .1 .0)) (List._∷_ (Row.lease (κs .1 .1 .0) (qs .1 .1 .0)) (List._∷_ Row.off (List._∷_ Row.off (List._∷_ Row.off (List._∷_
               Row.off (List._∷_ Row.off (List._∷_ Row.off (List._∷_ Row.off (List._∷_ Row.off (List._∷_ Row.off (List._∷_ Row.off (List._∷_ Row.off
-              List.[]))))))))))))));
+              (List._∷_ Row.off (List._∷_ Row.off List.[])))))))))))))));
         }
 
         abbrev G136 : Row.Cx
         G136 = record {
-          locals = List._++_ t91 (List._++_ t1 t2);
-          slots = List._∷_ (Row.lease (κs .0) (qs .0)) (List._∷_ (Row.lease (κs .1 .0) (qs .1
-              .0)) (List._∷_ (Row.lease (κs .1 .1 .0) (qs .1 .1 .0)) (List._∷_ Row.off (List._∷_ Row.off (List._∷_ Row.off (List._∷_ Row.off (List._∷_
+          locals = List._++_ t92 (List._++_ t1 (List._++_ t2 t3));
+          slots = List._∷_ (Row.lease (κs .0) (qs .0)) (List._∷_ (Row.lease (κs
+              .1 .0) (qs .1 .0)) (List._∷_ (Row.lease (κs .1 .1 .0) (qs .1 .1 .0)) (List._∷_ Row.off (List._∷_ Row.off (List._∷_ Row.off (List._∷_
               Row.off (List._∷_ Row.off (List._∷_ Row.off (List._∷_ Row.off (List._∷_ Row.off (List._∷_ Row.off (List._∷_ Row.off (List._∷_ Row.off
-              List.[]))))))))))))));
+              (List._∷_ Row.off (List._∷_ Row.off List.[])))))))))))))));
         }
 
         abbrev G137 : Row.Cx
         G137 = record {
-          locals = List._++_ t92 (List._++_ t1 t2);
-          slots = List._∷_ (Row.lease (κs .0) (qs .0)) (List._∷_ (Row.lease (κs .1 .0) (qs .1
-              .0)) (List._∷_ (Row.lease (κs .1 .1 .0) (qs .1 .1 .0)) (List._∷_ Row.off (List._∷_ Row.off (List._∷_ Row.off (List._∷_ Row.off (List._∷_
+          locals = List._++_ t93 (List._++_ t1 (List._++_ t2 t3));
+          slots = List._∷_ (Row.lease (κs .0) (qs .0)) (List._∷_ (Row.lease (κs
+              .1 .0) (qs .1 .0)) (List._∷_ (Row.lease (κs .1 .1 .0) (qs .1 .1 .0)) (List._∷_ Row.off (List._∷_ Row.off (List._∷_ Row.off (List._∷_
               Row.off (List._∷_ Row.off (List._∷_ Row.off (List._∷_ Row.off (List._∷_ Row.off (List._∷_ Row.off (List._∷_ Row.off (List._∷_ Row.off
-              List.[]))))))))))))));
+              (List._∷_ Row.off (List._∷_ Row.off List.[])))))))))))))));
         }
 
         abbrev G138 : Row.Cx
         G138 = record {
-          locals = List._++_ t93 (List._++_ t1 t2);
-          slots = List._∷_ (Row.lease (κs .0) (qs .0)) (List._∷_ (Row.lease (κs .1 .0) (qs .1
-              .0)) (List._∷_ (Row.lease (κs .1 .1 .0) (qs .1 .1 .0)) (List._∷_ Row.off (List._∷_ Row.off (List._∷_ Row.off (List._∷_ Row.off (List._∷_
+          locals = List._++_ t94 (List._++_ t1 (List._++_ t2 t3));
+          slots = List._∷_ (Row.lease (κs .0) (qs .0)) (List._∷_ (Row.lease (κs
+              .1 .0) (qs .1 .0)) (List._∷_ (Row.lease (κs .1 .1 .0) (qs .1 .1 .0)) (List._∷_ Row.off (List._∷_ Row.off (List._∷_ Row.off (List._∷_
               Row.off (List._∷_ Row.off (List._∷_ Row.off (List._∷_ Row.off (List._∷_ Row.off (List._∷_ Row.off (List._∷_ Row.off (List._∷_ Row.off
-              List.[]))))))))))))));
+              (List._∷_ Row.off (List._∷_ Row.off List.[])))))))))))))));
         }
 
         abbrev G139 : Row.Cx
         G139 = record {
-          locals = List._++_ t93 (List._++_ t1 t2);
-          slots = List._∷_ (Row.lease (κs .0) (qs .0)) (List._∷_ (Row.lease (κs .1 .0) (qs .1
-              .0)) (List._∷_ (Row.lease (κs .1 .1 .0) (qs .1 .1 .0)) (List._∷_ Row.off (List._∷_ Row.off (List._∷_ Row.off (List._∷_ Row.off (List._∷_
-              Row.off (List._∷_ Row.off (List._∷_ Row.off (List._∷_ Row.off (List._∷_ Row.off (List._∷_ Row.off (List._∷_ Row.alive (List._∷_ Row.off
-              List.[]))))))))))))));
+          locals = List._++_ t94 (List._++_ t1 (List._++_ t2 t3));
+          slots = List._∷_ (Row.lease (κs .0) (qs .0)) (List._∷_ (Row.lease (κs
+              .1 .0) (qs .1 .0)) (List._∷_ (Row.lease (κs .1 .1 .0) (qs .1 .1 .0)) (List._∷_ Row.off (List._∷_ Row.off (List._∷_ Row.off (List._∷_
+              Row.off (List._∷_ Row.off (List._∷_ Row.off (List._∷_ Row.off (List._∷_ Row.off (List._∷_ Row.off (List._∷_ Row.off (List._∷_ Row.alive
+              (List._∷_ Row.off (List._∷_ Row.off List.[])))))))))))))));
         }
 
         abbrev G140 : Row.Cx
         G140 = record {
-          locals = List._++_ g94 (List._++_ t1 t95);
-          slots = List._∷_ (Row.lease (κs .0) (qs .0)) (List._∷_ (Row.lease (κs .1 .0) (qs .1
-              .0)) (List._∷_ Row.off (List._∷_ Row.off (List._∷_ Row.off (List._∷_ Row.off (List._∷_ Row.off (List._∷_ Row.off (List._∷_ Row.off
-              (List._∷_ Row.off (List._∷_ Row.off (List._∷_ Row.off (List._∷_ Row.off (List._∷_ Row.alive (List._∷_ Row.off List.[]))))))))))))));
+          locals = List._++_ g95 (List._++_ t1 (List._++_ t96 t3));
+          slots = List._∷_ (Row.lease (κs .0) (qs .0)) (List._∷_ (Row.lease
+              (κs .1 .0) (qs .1 .0)) (List._∷_ Row.off (List._∷_ Row.off (List._∷_ Row.off (List._∷_ Row.off (List._∷_ Row.off (List._∷_ Row.off
+              (List._∷_ Row.off (List._∷_ Row.off (List._∷_ Row.off (List._∷_ Row.off (List._∷_ Row.off (List._∷_ Row.alive (List._∷_ Row.off (List._∷_
+              Row.off List.[])))))))))))))));
         }
 
         abbrev G141 : Row.Cx
         G141 = record {
-          locals = List._++_ g94 (List._++_ t1 t96);
-          slots = List._∷_ (Row.lease (κs .0) (qs .0)) (List._∷_ (Row.lease (κs .1 .0) (qs .1
-              .0)) (List._∷_ Row.off (List._∷_ Row.off (List._∷_ Row.off (List._∷_ Row.off (List._∷_ Row.off (List._∷_ Row.off (List._∷_ Row.off
-              (List._∷_ Row.off (List._∷_ Row.off (List._∷_ Row.off (List._∷_ Row.off (List._∷_ Row.alive (List._∷_ Row.off List.[]))))))))))))));
+          locals = List._++_ g95 (List._++_ t1 (List._++_ t97 t3));
+          slots = List._∷_ (Row.lease (κs .0) (qs .0)) (List._∷_ (Row.lease
+              (κs .1 .0) (qs .1 .0)) (List._∷_ Row.off (List._∷_ Row.off (List._∷_ Row.off (List._∷_ Row.off (List._∷_ Row.off (List._∷_ Row.off
+              (List._∷_ Row.off (List._∷_ Row.off (List._∷_ Row.off (List._∷_ Row.off (List._∷_ Row.off (List._∷_ Row.alive (List._∷_ Row.off (List._∷_
+              Row.off List.[])))))))))))))));
         }
 
         abbrev G142 : Row.Cx
         G142 = record {
-          locals = List._++_ g94 (List._++_ t1 t96);
-          slots = List._∷_ (Row.lease (κs .0) (qs .0)) (List._∷_ (Row.lease (κs .1 .0) (qs .1
-              .0)) (List._∷_ Row.off (List._∷_ Row.off (List._∷_ Row.off (List._∷_ Row.off (List._∷_ Row.off (List._∷_ Row.off (List._∷_ Row.off
-              (List._∷_ Row.off (List._∷_ Row.off (List._∷_ Row.off (List._∷_ Row.off (List._∷_ Row.alive (List._∷_ Row.alive List.[]))))))))))))));
+          locals = List._++_ g95 (List._++_ t1 (List._++_ t97 t3));
+          slots = List._∷_ (Row.lease (κs .0) (qs .0)) (List._∷_ (Row.lease
+              (κs .1 .0) (qs .1 .0)) (List._∷_ Row.off (List._∷_ Row.off (List._∷_ Row.off (List._∷_ Row.off (List._∷_ Row.off (List._∷_ Row.off
+              (List._∷_ Row.off (List._∷_ Row.off (List._∷_ Row.off (List._∷_ Row.off (List._∷_ Row.off (List._∷_ Row.alive (List._∷_ Row.alive
+              (List._∷_ Row.off List.[])))))))))))))));
         }
 
         abbrev G143 : Row.Cx
         G143 = record {
-          locals = List._++_ g97 (List._++_ t1 t98);
-          slots = List._∷_ (Row.lease (κs .0) (qs .0)) (List._∷_ Row.off (List._∷_ Row.off
+          locals = List._++_ g98 (List._++_ t1 (List._++_ t99 t3));
+          slots = List._∷_ (Row.lease (κs .0) (qs .0)) (List._∷_ Row.off
               (List._∷_ Row.off (List._∷_ Row.off (List._∷_ Row.off (List._∷_ Row.off (List._∷_ Row.off (List._∷_ Row.off (List._∷_ Row.off (List._∷_
-              Row.off (List._∷_ Row.off (List._∷_ Row.off (List._∷_ Row.alive (List._∷_ Row.alive List.[]))))))))))))));
+              Row.off (List._∷_ Row.off (List._∷_ Row.off (List._∷_ Row.off (List._∷_ Row.alive (List._∷_ Row.alive (List._∷_ Row.off
+              List.[])))))))))))))));
         }
 
         abbrev G144 : Row.Cx
         G144 = record {
-          locals = List._++_ g97 (List._++_ t1 t99);
-          slots = List._∷_ (Row.lease (κs .0) (qs .0)) (List._∷_ Row.off (List._∷_ Row.off
+          locals = List._++_ g98 (List._++_ t1 (List._++_ t97 t100));
+          slots = List._∷_ (Row.lease (κs .0) (qs .0)) (List._∷_ Row.off
               (List._∷_ Row.off (List._∷_ Row.off (List._∷_ Row.off (List._∷_ Row.off (List._∷_ Row.off (List._∷_ Row.off (List._∷_ Row.off (List._∷_
-              Row.off (List._∷_ Row.off (List._∷_ Row.off (List._∷_ Row.alive (List._∷_ Row.alive List.[]))))))))))))));
+              Row.off (List._∷_ Row.off (List._∷_ Row.off (List._∷_ Row.off (List._∷_ Row.alive (List._∷_ Row.alive (List._∷_ Row.off
+              List.[])))))))))))))));
         }
 
         abbrev G145 : Row.Cx
         G145 = record {
-          locals = List._++_ g97 (List._++_ t1 t100);
-          slots = List._∷_ (Row.lease (κs .0) (qs .0)) (List._∷_ Row.off (List._∷_ Row.off
+          locals = List._++_ g98 (List._++_ t1 (List._++_ t101 t100));
+          slots = List._∷_ (Row.lease (κs .0) (qs .0)) (List._∷_ Row.off
               (List._∷_ Row.off (List._∷_ Row.off (List._∷_ Row.off (List._∷_ Row.off (List._∷_ Row.off (List._∷_ Row.off (List._∷_ Row.off (List._∷_
-              Row.off (List._∷_ Row.off (List._∷_ Row.off (List._∷_ Row.alive (List._∷_ Row.alive List.[]))))))))))))));
+              Row.off (List._∷_ Row.off (List._∷_ Row.off (List._∷_ Row.off (List._∷_ Row.alive (List._∷_ Row.alive (List._∷_ Row.off
+              List.[])))))))))))))));
         }
 
         abbrev G146 : Row.Cx
         G146 = record {
-          locals = List._++_ g97 (List._++_ t1 t101);
-          slots = List._∷_ (Row.lease (κs .0) (qs .0)) (List._∷_ Row.off (List._∷_ Row.off
+          locals = List._++_ g98 (List._++_ t1 (List._++_ t101 t3));
+          slots = List._∷_ (Row.lease (κs .0) (qs .0)) (List._∷_ Row.off
               (List._∷_ Row.off (List._∷_ Row.off (List._∷_ Row.off (List._∷_ Row.off (List._∷_ Row.off (List._∷_ Row.off (List._∷_ Row.off (List._∷_
-              Row.off (List._∷_ Row.off (List._∷_ Row.off (List._∷_ Row.alive (List._∷_ Row.alive List.[]))))))))))))));
+              Row.off (List._∷_ Row.off (List._∷_ Row.off (List._∷_ Row.off (List._∷_ Row.alive (List._∷_ Row.alive (List._∷_ Row.off
+              List.[])))))))))))))));
         }
 
         abbrev G147 : Row.Cx
         G147 = record {
-          locals = List._++_ g102 (List._++_ t1 t101);
-          slots = List._∷_ (Row.lease (κs .0) (qs .0)) (List._∷_ Row.off (List._∷_ Row.off
+          locals = List._++_ g102 (List._++_ t1 (List._++_ t101 t3));
+          slots = List._∷_ (Row.lease (κs .0) (qs .0)) (List._∷_ Row.off
               (List._∷_ Row.off (List._∷_ Row.off (List._∷_ Row.off (List._∷_ Row.off (List._∷_ Row.off (List._∷_ Row.off (List._∷_ Row.off (List._∷_
-              Row.off (List._∷_ Row.off (List._∷_ Row.off (List._∷_ Row.alive (List._∷_ Row.alive List.[]))))))))))))));
+              Row.off (List._∷_ Row.off (List._∷_ Row.off (List._∷_ Row.off (List._∷_ Row.alive (List._∷_ Row.alive (List._∷_ Row.off
+              List.[])))))))))))))));
         }
 
         abbrev G148 : Row.Cx
         G148 = record {
-          locals = List._++_ g102 (List._++_ t1 t101);
-          slots = List._∷_ (Row.lease (κs .0) (qs .0)) (List._∷_ Row.off (List._∷_ Row.off
+          locals = List._++_ g102 (List._++_ t1 (List._++_ t101 t3));
+          slots = List._∷_ (Row.lease (κs .0) (qs .0)) (List._∷_ Row.off
               (List._∷_ Row.off (List._∷_ Row.off (List._∷_ Row.off (List._∷_ Row.off (List._∷_ Row.off (List._∷_ Row.off (List._∷_ Row.off (List._∷_
-              Row.off (List._∷_ Row.off (List._∷_ Row.off (List._∷_ Row.dead (List._∷_ Row.alive List.[]))))))))))))));
+              Row.off (List._∷_ Row.off (List._∷_ Row.off (List._∷_ Row.off (List._∷_ Row.dead (List._∷_ Row.alive (List._∷_ Row.off
+              List.[])))))))))))))));
         }
 
         abbrev G149 : Row.Cx
         G149 = record {
-          locals = List._++_ g103 (List._++_ t1 t104);
-          slots = List._∷_ (Row.lease (κs .0) (qs .0)) (List._∷_ Row.off (List._∷_
-              (Row.lease (κs .1 .1 .0) (qs .1 .1 .0)) (List._∷_ Row.off (List._∷_ Row.off (List._∷_ Row.off (List._∷_ Row.off (List._∷_ Row.off
-              (List._∷_ Row.off (List._∷_ Row.off (List._∷_ Row.off (List._∷_ Row.off (List._∷_ Row.off (List._∷_ Row.dead (List._∷_ Row.alive
-              List.[]))))))))))))));
+          locals = List._++_ g103 (List._++_ t1 (List._++_ t104 t3));
+          slots = List._∷_ (Row.lease (κs .0) (qs .0)) (List._∷_ Row.off
+              (List._∷_ (Row.lease (κs .1 .1 .0) (qs .1 .1 .0)) (List._∷_ Row.off (List._∷_ Row.off (List._∷_ Row.off (List._∷_ Row.off (List._∷_
+              Row.off (List._∷_ Row.off (List._∷_ Row.off (List._∷_ Row.off (List._∷_ Row.off (List._∷_ Row.off (List._∷_ Row.dead (List._∷_ Row.alive
+              (List._∷_ Row.off List.[])))))))))))))));
         }
 
         abbrev G150 : Row.Cx
         G150 = record {
-          locals = List._++_ g103 (List._++_ t1 t104);
-          slots = List._∷_ (Row.lease (κs .0) (qs .0)) (List._∷_ Row.off (List._∷_
-              (Row.lease (κs .1 .1 .0) (qs .1 .1 .0)) (List._∷_ Row.off (List._∷_ Row.off (List._∷_ Row.off (List._∷_ Row.off (List._∷_ Row.off
-              (List._∷_ Row.off (List._∷_ Row.off (List._∷_ Row.off (List._∷_ Row.off (List._∷_ Row.off (List._∷_ Row.off (List._∷_ Row.alive
-              List.[]))))))))))))));
+          locals = List._++_ g103 (List._++_ t1 (List._++_ t104 t3));
+          slots = List._∷_ (Row.lease (κs .0) (qs .0)) (List._∷_ Row.off
+              (List._∷_ (Row.lease (κs .1 .1 .0) (qs .1 .1 .0)) (List._∷_ Row.off (List._∷_ Row.off (List._∷_ Row.off (List._∷_ Row.off (List._∷_
+              Row.off (List._∷_ Row.off (List._∷_ Row.off (List._∷_ Row.off (List._∷_ Row.off (List._∷_ Row.off (List._∷_ Row.off (List._∷_ Row.alive
+              (List._∷_ Row.off List.[])))))))))))))));
         }
 
         abbrev G151 : Row.Cx
         G151 = record {
-          locals = List._++_ g103 (List._++_ t1 t104);
-          slots = List._∷_ (Row.lease (κs .0) (qs .0)) (List._∷_ Row.off (List._∷_
-              (Row.lease (κs .1 .1 .0) (qs .1 .1 .0)) (List._∷_ Row.off (List._∷_ Row.off (List._∷_ Row.off (List._∷_ Row.off (List._∷_ Row.off
-              (List._∷_ Row.off (List._∷_ Row.off (List._∷_ Row.off (List._∷_ Row.off (List._∷_ Row.off (List._∷_ Row.off (List._∷_ Row.dead
-              List.[]))))))))))))));
+          locals = List._++_ g103 (List._++_ t1 (List._++_ t104 t3));
+          slots = List._∷_ (Row.lease (κs .0) (qs .0)) (List._∷_ Row.off
+              (List._∷_ (Row.lease (κs .1 .1 .0) (qs .1 .1 .0)) (List._∷_ Row.off (List._∷_ Row.off (List._∷_ Row.off (List._∷_ Row.off (List._∷_
+              Row.off (List._∷_ Row.off (List._∷_ Row.off (List._∷_ Row.off (List._∷_ Row.off (List._∷_ Row.off (List._∷_ Row.off (List._∷_ Row.dead
+              (List._∷_ Row.off List.[])))))))))))))));
         }
 
         abbrev G152 : Row.Cx
         G152 = record {
-          locals = List._++_ t105 (List._++_ t1 t104);
-          slots = List._∷_ (Row.lease (κs .0) (qs .0)) (List._∷_ (Row.lease (κs .1 .0) (qs
-              .1 .0)) (List._∷_ (Row.lease (κs .1 .1 .0) (qs .1 .1 .0)) (List._∷_ Row.off (List._∷_ Row.off (List._∷_ Row.off (List._∷_ Row.off
-              (List._∷_ Row.off (List._∷_ Row.off (List._∷_ Row.off (List._∷_ Row.off (List._∷_ Row.off (List._∷_ Row.off (List._∷_ Row.off (List._∷_
-              Row.dead List.[]))))))))))))));
+          locals = List._++_ t105 (List._++_ t1 (List._++_ t104 t3));
+          slots = List._∷_ (Row.lease (κs .0) (qs .0)) (List._∷_ (Row.lease
+              (κs .1 .0) (qs .1 .0)) (List._∷_ (Row.lease (κs .1 .1 .0) (qs .1 .1 .0)) (List._∷_ Row.off (List._∷_ Row.off (List._∷_ Row.off (List._∷_
+              Row.off (List._∷_ Row.off (List._∷_ Row.off (List._∷_ Row.off (List._∷_ Row.off (List._∷_ Row.off (List._∷_ Row.off (List._∷_ Row.off
+              (List._∷_ Row.dead (List._∷_ Row.off List.[])))))))))))))));
         }
 
         abbrev G153 : Row.Cx
         G153 = record {
-          locals = List._++_ t105 (List._++_ t1 t104);
-          slots = List._∷_ (Row.lease (κs .0) (qs .0)) (List._∷_ (Row.lease (κs .1 .0) (qs
-              .1 .0)) (List._∷_ (Row.lease (κs .1 .1 .0) (qs .1 .1 .0)) (List._∷_ Row.off (List._∷_ Row.off (List._∷_ Row.off (List._∷_ Row.off
-              (List._∷_ Row.off (List._∷_ Row.off (List._∷_ Row.off (List._∷_ Row.off (List._∷_ Row.off (List._∷_ Row.off (List._∷_ Row.off (List._∷_
-              Row.off List.[]))))))))))))));
+          locals = List._++_ t105 (List._++_ t1 (List._++_ t104 t3));
+          slots = List._∷_ (Row.lease (κs .0) (qs .0)) (List._∷_ (Row.lease
+              (κs .1 .0) (qs .1 .0)) (List._∷_ (Row.lease (κs .1 .1 .0) (qs .1 .1 .0)) (List._∷_ Row.off (List._∷_ Row.off (List._∷_ Row.off (List._∷_
+              Row.off (List._∷_ Row.off (List._∷_ Row.off (List._∷_ Row.off (List._∷_ Row.off (List._∷_ Row.off (List._∷_ Row.off (List._∷_ Row.off
+              (List._∷_ Row.off (List._∷_ Row.off List.[])))))))))))))));
         }
 
         abbrev G154 : Row.Cx
         G154 = record {
-          locals = List._++_ t105 (List._++_ t5 t104);
-          slots = List._∷_ (Row.lease (κs .0) (qs .0)) (List._∷_ (Row.lease (κs .1 .0) (qs
-              .1 .0)) (List._∷_ (Row.lease (κs .1 .1 .0) (qs .1 .1 .0)) (List._∷_ Row.off (List._∷_ Row.off (List._∷_ Row.off (List._∷_ Row.off
-              (List._∷_ Row.off (List._∷_ Row.off (List._∷_ Row.off (List._∷_ Row.off (List._∷_ Row.off (List._∷_ Row.off (List._∷_ Row.off (List._∷_
-              Row.off List.[]))))))))))))));
+          locals = List._++_ t105 (List._++_ t6 (List._++_ t104 t3));
+          slots = List._∷_ (Row.lease (κs .0) (qs .0)) (List._∷_ (Row.lease
+              (κs .1 .0) (qs .1 .0)) (List._∷_ (Row.lease (κs .1 .1 .0) (qs .1 .1 .0)) (List._∷_ Row.off (List._∷_ Row.off (List._∷_ Row.off (List._∷_
+              Row.off (List._∷_ Row.off (List._∷_ Row.off (List._∷_ Row.off (List._∷_ Row.off (List._∷_ Row.off (List._∷_ Row.off (List._∷_ Row.off
+              (List._∷_ Row.off (List._∷_ Row.off List.[])))))))))))))));
         }
 
         abbrev G155 : Row.Cx
         G155 = record {
-          locals = List._++_ t4 (List._++_ t5 t104);
-          slots = List._∷_ (Row.lease (κs .0) (qs .0)) (List._∷_ (Row.lease (κs .1 .0) (qs .1
-              .0)) (List._∷_ (Row.lease (κs .1 .1 .0) (qs .1 .1 .0)) (List._∷_ Row.off (List._∷_ Row.off (List._∷_ Row.off (List._∷_ Row.off (List._∷_
+          locals = List._++_ t5 (List._++_ t6 (List._++_ t104 t3));
+          slots = List._∷_ (Row.lease (κs .0) (qs .0)) (List._∷_ (Row.lease
+              (κs .1 .0) (qs .1 .0)) (List._∷_ (Row.lease (κs .1 .1 .0) (qs .1 .1 .0)) (List._∷_ Row.off (List._∷_ Row.off (List._∷_ Row.off (List._∷_
               Row.off (List._∷_ Row.off (List._∷_ Row.off (List._∷_ Row.off (List._∷_ Row.off (List._∷_ Row.off (List._∷_ Row.off (List._∷_ Row.off
-              List.[]))))))))))))));
+              (List._∷_ Row.off (List._∷_ Row.off List.[])))))))))))))));
         }
 
         abbrev G156 : Row.Cx
         G156 = record {
-          locals = List._++_ t4 (List._++_ t5 t2);
-          slots = List._∷_ (Row.lease (κs .0) (qs .0)) (List._∷_ (Row.lease (κs .1 .0) (qs .1
-              .0)) (List._∷_ (Row.lease (κs .1 .1 .0) (qs .1 .1 .0)) (List._∷_ Row.off (List._∷_ Row.off (List._∷_ Row.off (List._∷_ Row.off (List._∷_
+          locals = List._++_ t5 (List._++_ t6 (List._++_ t2 t3));
+          slots = List._∷_ (Row.lease (κs .0) (qs .0)) (List._∷_ (Row.lease (κs
+              .1 .0) (qs .1 .0)) (List._∷_ (Row.lease (κs .1 .1 .0) (qs .1 .1 .0)) (List._∷_ Row.off (List._∷_ Row.off (List._∷_ Row.off (List._∷_
               Row.off (List._∷_ Row.off (List._∷_ Row.off (List._∷_ Row.off (List._∷_ Row.off (List._∷_ Row.off (List._∷_ Row.off (List._∷_ Row.off
-              List.[]))))))))))))));
+              (List._∷_ Row.off (List._∷_ Row.off List.[])))))))))))))));
         }
 
         abbrev G157 : Row.Cx
         G157 = record {
-          locals = List._++_ t3 (List._++_ t5 t2);
-          slots = List._∷_ (Row.lease (κs .0) (qs .0)) (List._∷_ (Row.lease (κs .1 .0) (qs .1
-              .0)) (List._∷_ (Row.lease (κs .1 .1 .0) (qs .1 .1 .0)) (List._∷_ Row.off (List._∷_ Row.off (List._∷_ Row.off (List._∷_ Row.off (List._∷_
+          locals = List._++_ t106 (List._++_ t1 (List._++_ t2 t3));
+          slots = List._∷_ (Row.lease (κs .0) (qs .0)) (List._∷_ (Row.lease
+              (κs .1 .0) (qs .1 .0)) (List._∷_ (Row.lease (κs .1 .1 .0) (qs .1 .1 .0)) (List._∷_ Row.off (List._∷_ Row.off (List._∷_ Row.off (List._∷_
               Row.off (List._∷_ Row.off (List._∷_ Row.off (List._∷_ Row.off (List._∷_ Row.off (List._∷_ Row.off (List._∷_ Row.off (List._∷_ Row.off
-              List.[]))))))))))))));
+              (List._∷_ Row.off (List._∷_ Row.off List.[])))))))))))))));
         }
 
         abbrev G158 : Row.Cx
         G158 = record {
-          locals = List._++_ t3 (List._++_ t1 t2);
-          slots = List._∷_ (Row.lease (κs .0) (qs .0)) (List._∷_ (Row.lease (κs .1 .0) (qs .1
-              .0)) (List._∷_ (Row.lease (κs .1 .1 .0) (qs .1 .1 .0)) (List._∷_ Row.off (List._∷_ Row.off (List._∷_ Row.off (List._∷_ Row.off (List._∷_
+          locals = List._++_ t106 (List._++_ t1 (List._++_ t2 t3));
+          slots = List._∷_ (Row.lease (κs .0) (qs .0)) (List._∷_ (Row.lease
+              (κs .1 .0) (qs .1 .0)) (List._∷_ (Row.lease (κs .1 .1 .0) (qs .1 .1 .0)) (List._∷_ Row.off (List._∷_ Row.off (List._∷_ Row.off (List._∷_
               Row.off (List._∷_ Row.off (List._∷_ Row.off (List._∷_ Row.off (List._∷_ Row.off (List._∷_ Row.off (List._∷_ Row.off (List._∷_ Row.off
-              List.[]))))))))))))));
+              (List._∷_ Row.off (List._∷_ Row.off List.[])))))))))))))));
+        }
+
+        abbrev G159 : Row.Cx
+        G159 = record {
+          locals = List._++_ t106 (List._++_ t107 (List._++_ t2 t3));
+          slots = List._∷_ (Row.lease (κs .0) (qs .0)) (List._∷_ (Row.lease
+              (κs .1 .0) (qs .1 .0)) (List._∷_ (Row.lease (κs .1 .1 .0) (qs .1 .1 .0)) (List._∷_ Row.off (List._∷_ Row.off (List._∷_ Row.off (List._∷_
+              Row.off (List._∷_ Row.off (List._∷_ Row.off (List._∷_ Row.off (List._∷_ Row.off (List._∷_ Row.off (List._∷_ Row.off (List._∷_ Row.off
+              (List._∷_ Row.off (List._∷_ Row.off List.[])))))))))))))));
+        }
+
+        abbrev G160 : Row.Cx
+        G160 = record {
+          locals = List._++_ t7 (List._++_ t107 (List._++_ t2 t3));
+          slots = List._∷_ (Row.lease (κs .0) (qs .0)) (List._∷_ (Row.lease
+              (κs .1 .0) (qs .1 .0)) (List._∷_ (Row.lease (κs .1 .1 .0) (qs .1 .1 .0)) (List._∷_ Row.off (List._∷_ Row.off (List._∷_ Row.off (List._∷_
+              Row.off (List._∷_ Row.off (List._∷_ Row.off (List._∷_ Row.off (List._∷_ Row.off (List._∷_ Row.off (List._∷_ Row.off (List._∷_ Row.off
+              (List._∷_ Row.off (List._∷_ Row.off List.[])))))))))))))));
+        }
+
+        abbrev G161 : Row.Cx
+        G161 = record {
+          locals = List._++_ t7 (List._++_ t107 (List._++_ t2 t3));
+          slots = List._∷_ (Row.lease (κs .0) (qs .0)) (List._∷_ (Row.lease
+              (κs .1 .0) (qs .1 .0)) (List._∷_ (Row.lease (κs .1 .1 .0) (qs .1 .1 .0)) (List._∷_ Row.off (List._∷_ Row.off (List._∷_ Row.off (List._∷_
+              Row.off (List._∷_ Row.off (List._∷_ Row.off (List._∷_ Row.off (List._∷_ Row.off (List._∷_ Row.off (List._∷_ Row.off (List._∷_ Row.off
+              (List._∷_ Row.off (List._∷_ Row.alive List.[])))))))))))))));
+        }
+
+        abbrev G162 : Row.Cx
+        G162 = record {
+          locals = List._++_ g108 (List._++_ t107 (List._++_ t2 t109));
+          slots = List._∷_ (Row.lease (κs .0) (qs .0)) (List._∷_
+              (Row.lease (κs .1 .0) (qs .1 .0)) (List._∷_ Row.off (List._∷_ Row.off (List._∷_ Row.off (List._∷_ Row.off (List._∷_ Row.off (List._∷_
+              Row.off (List._∷_ Row.off (List._∷_ Row.off (List._∷_ Row.off (List._∷_ Row.off (List._∷_ Row.off (List._∷_ Row.off (List._∷_ Row.off
+              (List._∷_ Row.alive List.[])))))))))))))));
+        }
+
+        abbrev G163 : Row.Cx
+        G163 = record {
+          locals = List._++_ g108 (List._++_ t107 (List._++_ t2 t110));
+          slots = List._∷_ (Row.lease (κs .0) (qs .0)) (List._∷_
+              (Row.lease (κs .1 .0) (qs .1 .0)) (List._∷_ Row.off (List._∷_ Row.off (List._∷_ Row.off (List._∷_ Row.off (List._∷_ Row.off (List._∷_
+              Row.off (List._∷_ Row.off (List._∷_ Row.off (List._∷_ Row.off (List._∷_ Row.off (List._∷_ Row.off (List._∷_ Row.off (List._∷_ Row.off
+              (List._∷_ Row.alive List.[])))))))))))))));
+        }
+
+        abbrev G164 : Row.Cx
+        G164 = record {
+          locals = List._++_ g108 (List._++_ t107 (List._++_ t2 t111));
+          slots = List._∷_ (Row.lease (κs .0) (qs .0)) (List._∷_
+              (Row.lease (κs .1 .0) (qs .1 .0)) (List._∷_ Row.off (List._∷_ Row.off (List._∷_ Row.off (List._∷_ Row.off (List._∷_ Row.off (List._∷_
+              Row.off (List._∷_ Row.off (List._∷_ Row.off (List._∷_ Row.off (List._∷_ Row.off (List._∷_ Row.off (List._∷_ Row.off (List._∷_ Row.off
+              (List._∷_ Row.alive List.[])))))))))))))));
+        }
+
+        abbrev G165 : Row.Cx
+        G165 = record {
+          locals = List._++_ g112 (List._++_ t107 (List._++_ t2 t111));
+          slots = List._∷_ (Row.lease (κs .0) (qs .0)) (List._∷_
+              (Row.lease (κs .1 .0) (qs .1 .0)) (List._∷_ Row.off (List._∷_ Row.off (List._∷_ Row.off (List._∷_ Row.off (List._∷_ Row.off (List._∷_
+              Row.off (List._∷_ Row.off (List._∷_ Row.off (List._∷_ Row.off (List._∷_ Row.off (List._∷_ Row.off (List._∷_ Row.off (List._∷_ Row.off
+              (List._∷_ Row.alive List.[])))))))))))))));
+        }
+
+        abbrev G166 : Row.Cx
+        G166 = record {
+          locals = List._++_ g112 (List._++_ t107 (List._++_ t2 t111));
+          slots = List._∷_ (Row.lease (κs .0) (qs .0)) (List._∷_
+              (Row.lease (κs .1 .0) (qs .1 .0)) (List._∷_ Row.off (List._∷_ Row.off (List._∷_ Row.off (List._∷_ Row.off (List._∷_ Row.off (List._∷_
+              Row.off (List._∷_ Row.off (List._∷_ Row.off (List._∷_ Row.off (List._∷_ Row.off (List._∷_ Row.off (List._∷_ Row.off (List._∷_ Row.off
+              (List._∷_ Row.dead List.[])))))))))))))));
+        }
+
+        abbrev G167 : Row.Cx
+        G167 = record {
+          locals = List._++_ t5 (List._++_ t107 (List._++_ t2 t113));
+          slots = List._∷_ (Row.lease (κs .0) (qs .0)) (List._∷_ (Row.lease
+              (κs .1 .0) (qs .1 .0)) (List._∷_ (Row.lease (κs .1 .1 .0) (qs .1 .1 .0)) (List._∷_ Row.off (List._∷_ Row.off (List._∷_ Row.off (List._∷_
+              Row.off (List._∷_ Row.off (List._∷_ Row.off (List._∷_ Row.off (List._∷_ Row.off (List._∷_ Row.off (List._∷_ Row.off (List._∷_ Row.off
+              (List._∷_ Row.off (List._∷_ Row.dead List.[])))))))))))))));
+        }
+
+        abbrev G168 : Row.Cx
+        G168 = record {
+          locals = List._++_ t5 (List._++_ t107 (List._++_ t2 t113));
+          slots = List._∷_ (Row.lease (κs .0) (qs .0)) (List._∷_ (Row.lease
+              (κs .1 .0) (qs .1 .0)) (List._∷_ (Row.lease (κs .1 .1 .0) (qs .1 .1 .0)) (List._∷_ Row.off (List._∷_ Row.off (List._∷_ Row.off (List._∷_
+              Row.off (List._∷_ Row.off (List._∷_ Row.off (List._∷_ Row.off (List._∷_ Row.off (List._∷_ Row.off (List._∷_ Row.off (List._∷_ Row.off
+              (List._∷_ Row.off (List._∷_ Row.off List.[])))))))))))))));
+        }
+
+        abbrev G169 : Row.Cx
+        G169 = record {
+          locals = List._++_ t5 (List._++_ t114 (List._++_ t2 t113));
+          slots = List._∷_ (Row.lease (κs .0) (qs .0)) (List._∷_ (Row.lease
+              (κs .1 .0) (qs .1 .0)) (List._∷_ (Row.lease (κs .1 .1 .0) (qs .1 .1 .0)) (List._∷_ Row.off (List._∷_ Row.off (List._∷_ Row.off (List._∷_
+              Row.off (List._∷_ Row.off (List._∷_ Row.off (List._∷_ Row.off (List._∷_ Row.off (List._∷_ Row.off (List._∷_ Row.off (List._∷_ Row.off
+              (List._∷_ Row.off (List._∷_ Row.off List.[])))))))))))))));
+        }
+
+        abbrev G170 : Row.Cx
+        G170 = record {
+          locals = List._++_ t5 (List._++_ t6 (List._++_ t2 t113));
+          slots = List._∷_ (Row.lease (κs .0) (qs .0)) (List._∷_ (Row.lease
+              (κs .1 .0) (qs .1 .0)) (List._∷_ (Row.lease (κs .1 .1 .0) (qs .1 .1 .0)) (List._∷_ Row.off (List._∷_ Row.off (List._∷_ Row.off (List._∷_
+              Row.off (List._∷_ Row.off (List._∷_ Row.off (List._∷_ Row.off (List._∷_ Row.off (List._∷_ Row.off (List._∷_ Row.off (List._∷_ Row.off
+              (List._∷_ Row.off (List._∷_ Row.off List.[])))))))))))))));
+        }
+
+        abbrev G171 : Row.Cx
+        G171 = record {
+          locals = List._++_ t5 (List._++_ t6 (List._++_ t2 t3));
+          slots = List._∷_ (Row.lease (κs .0) (qs .0)) (List._∷_ (Row.lease (κs
+              .1 .0) (qs .1 .0)) (List._∷_ (Row.lease (κs .1 .1 .0) (qs .1 .1 .0)) (List._∷_ Row.off (List._∷_ Row.off (List._∷_ Row.off (List._∷_
+              Row.off (List._∷_ Row.off (List._∷_ Row.off (List._∷_ Row.off (List._∷_ Row.off (List._∷_ Row.off (List._∷_ Row.off (List._∷_ Row.off
+              (List._∷_ Row.off (List._∷_ Row.off List.[])))))))))))))));
+        }
+
+        abbrev G172 : Row.Cx
+        G172 = record {
+          locals = List._++_ t4 (List._++_ t6 (List._++_ t2 t3));
+          slots = List._∷_ (Row.lease (κs .0) (qs .0)) (List._∷_ (Row.lease (κs
+              .1 .0) (qs .1 .0)) (List._∷_ (Row.lease (κs .1 .1 .0) (qs .1 .1 .0)) (List._∷_ Row.off (List._∷_ Row.off (List._∷_ Row.off (List._∷_
+              Row.off (List._∷_ Row.off (List._∷_ Row.off (List._∷_ Row.off (List._∷_ Row.off (List._∷_ Row.off (List._∷_ Row.off (List._∷_ Row.off
+              (List._∷_ Row.off (List._∷_ Row.off List.[])))))))))))))));
+        }
+
+        abbrev G173 : Row.Cx
+        G173 = record {
+          locals = List._++_ t4 (List._++_ t1 (List._++_ t2 t3));
+          slots = List._∷_ (Row.lease (κs .0) (qs .0)) (List._∷_ (Row.lease (κs
+              .1 .0) (qs .1 .0)) (List._∷_ (Row.lease (κs .1 .1 .0) (qs .1 .1 .0)) (List._∷_ Row.off (List._∷_ Row.off (List._∷_ Row.off (List._∷_
+              Row.off (List._∷_ Row.off (List._∷_ Row.off (List._∷_ Row.off (List._∷_ Row.off (List._∷_ Row.off (List._∷_ Row.off (List._∷_ Row.off
+              (List._∷_ Row.off (List._∷_ Row.off List.[])))))))))))))));
         }
 
         abbrev Δ0 : Typed.Outs
@@ -4869,7 +5355,7 @@ module _ (claims· : Claims) where
 
           d0 : Typed.Typed 𝓤 H A 𝓣 E G7 b0 Δ1 at0
           d0 = Typed.s-typed 𝓤 H A W 𝓣 E G7 b0 Δ1 (Typed.pass T7 T8 s5) tt (Make.t-enum-make-wt 𝓤 H A W E 𝓣 Given.the-type Laws'3.the-laws
-              Laws'3.the-plain tt G7 16 (List._∷_ (Scalar.oInt Syntax.w8 0) List.[]) (λ m. Given.enum .make (Logic.inl tt)) (Reads'.room-gone 𝓤 H A
+              Laws'3.the-plain tt G7 17 (List._∷_ (Scalar.oInt Syntax.w8 0) List.[]) (λ m. Given.enum .make (Logic.inl tt)) (Reads'.room-gone 𝓤 H A
               ty2·0) (tt, tt) Path'.refl (λ m wa. Make.made-val Given.the-type Laws'3.the-laws List.[] (Given.enum .make (Logic.inl tt)) tt (wa .1)) λ
               m wa. Make.made-is Given.the-type Laws'3.the-laws List.[] (Given.enum .make (Logic.inl tt)) tt (wa .1))
 
@@ -4888,7 +5374,7 @@ module _ (claims· : Claims) where
           d4 = Typed.s-typed 𝓤 H A W 𝓣 E G22 b6 Δ1 (λ Ψ. Typed.pass T21 T23 s20 (Typed.pass T23 T24 s21 (Typed.pass T24 T25 s22 Ψ))) tt (Typed.g-post
               𝓤 H A W 𝓣 E G22 G24 G25 b6 (λ Ψ. Typed.pass T21 T23 s20 (Typed.pass T23 T24 s21 Ψ)) (Typed.pass T24 T25 s22) (Typed.g-post 𝓤 H A W 𝓣 E
               G22 G23 G24 b6 (Typed.pass T21 T23 s20) (Typed.pass T23 T24 s21) (Make.t-enum-make-wt 𝓤 H A W E 𝓣 Given.the-type Laws'3.the-laws
-              Laws'3.the-plain tt G22 16 (List._∷_ (Scalar.oInt Syntax.w8 1) (List._∷_ (Scalar.oAt 6 ty0·8 (Laws'8.val Counts.the-type
+              Laws'3.the-plain tt G22 17 (List._∷_ (Scalar.oInt Syntax.w8 1) (List._∷_ (Scalar.oAt 6 ty0·8 (Laws'8.val Counts.the-type
               Laws'5.the-laws)) (List._∷_ (Scalar.oAt 7 (Syntax.tyInt Syntax.w64) (Row.valS (Row.sInt Syntax.w64))) List.[]))) (λ m. Given.enum .make
               (Logic.inr (Logic.inl (m .1 .1 .1 .1 .1 .1 .0, (m .1 .1 .1 .1 .1 .1 .1 .0, tt))))) (Reads'.room-gone 𝓤 H A ty2·0) (
                 tt,
@@ -4927,7 +5413,7 @@ module _ (claims· : Claims) where
           d5 = Typed.g-pre 𝓤 H A W 𝓣 E G21 G22 b6 Δ1 (λ Ψ. Ψ) at4 (Lifetime.g-forget 𝓤 H A W E G21 3 Row.dead Path'.refl) d4
 
           d6 : Typed.Typed 𝓤 H A 𝓣 E G20 b6 Δ1 at6
-          d6 = Typed.g-pre 𝓤 H A W 𝓣 E G20 G21 b6 Δ1 (Typed.both s18) at5 (Relend.g-back-sl 𝓤 H A W E (Record.the-row) G20 19 5 2 3 (Syntax.tyRef
+          d6 = Typed.g-pre 𝓤 H A W 𝓣 E G20 G21 b6 Δ1 (Typed.both s18) at5 (Relend.g-back-sl 𝓤 H A W E (Record.the-row) G20 20 5 2 3 (Syntax.tyRef
               (Syntax.named 2) Syntax.mut (Memory·.pointee (Record.the-row .written))) (Syntax.tyRef Syntax.erased Syntax.mut (Memory·.pointee
               (Record.the-row .written))) (Row.lease (κs .1 .1 .0) (qs .1 .1 .0)) (λ x. x) (λ x. x) (Reads'.as-is 𝓤 H A (Mut.msleft (Record.the-row)
               (Syntax.tyRef Syntax.erased Syntax.mut (Memory·.pointee (Record.the-row .written))))) (Reads'.as-is 𝓤 H A (Relend.mslice-owed
@@ -4938,20 +5424,20 @@ module _ (claims· : Claims) where
           d7 = Typed.g-pre 𝓤 H A W 𝓣 E G19 G20 b6 Δ1 (λ Ψ. Ψ) at6 (Lifetime.g-end 𝓤 H A W E G19 3 Path'.refl) d6
 
           d8 : Typed.Typed 𝓤 H A 𝓣 E G18 b6 Δ1 at8
-          d8 = Typed.g-pre 𝓤 H A W 𝓣 E G18 G19 b6 Δ1 (Typed.pass T18 T19 s16) at7 (Scalar.g-room 𝓤 H A W E G18 17 Syntax.tyUnit (Scalar.room-sc 𝓤 H A
+          d8 = Typed.g-pre 𝓤 H A W 𝓣 E G18 G19 b6 Δ1 (Typed.pass T18 T19 s16) at7 (Scalar.g-room 𝓤 H A W E G18 18 Syntax.tyUnit (Scalar.room-sc 𝓤 H A
               W Row.sUnit)) d7
 
           d9 : Typed.Typed 𝓤 H A 𝓣 E G17 b7 Δ1 at9
           d9 = Typed.s-seq 𝓤 H A W 𝓣 E G17 G18 b5 b6 Δ1 (Typed.both s15) at8 (Plain.t-call-plain 𝓤 H A W 𝓣 1 ps·0 r·0 (claims· .0) (claims· .1)
               "probe::calls::clear" (known .0) E (λ pos β. β) G17 (
                 record {
-                  pos = 19;
+                  pos = 20;
                   ty = Syntax.tyRef Syntax.erased Syntax.mut (Memory·.pointee
                       (Record.the-row .written));
                   ref = λ x. x;
                 },
                 tt,
-              ) 17 (List._∷_ 3 List.[]) (Call'.sub-id 𝓤 H A W (G17 .slots)) (
+              ) 18 (List._∷_ 3 List.[]) (Call'.sub-id 𝓤 H A W (G17 .slots)) (
                 Reads'.as-is 𝓤 H A
                     (Mut.mslice (Record.the-row) (Syntax.tyRef Syntax.erased Syntax.mut (Memory·.pointee (Record.the-row .written))) 3),
                 Mut.reads-mslice 𝓤
@@ -4963,7 +5449,7 @@ module _ (claims· : Claims) where
 
           d10 : Typed.Typed 𝓤 H A 𝓣 E G16 b8 Δ1 at10
           d10 = Typed.s-seq 𝓤 H A W 𝓣 E G16 G17 b4 b7 Δ1 (Typed.ask s14) at9 (Relend.t-sl-aggregate 𝓤 H A W E (Record.the-row) 𝓣 (Relend.asMut
-              (Record.the-row)) G16 18 19 3 (Syntax.tyRef Syntax.erased Syntax.mut (Memory·.pointee (Record.the-row .written))) (Syntax.tyRef
+              (Record.the-row)) G16 19 20 3 (Syntax.tyRef Syntax.erased Syntax.mut (Memory·.pointee (Record.the-row .written))) (Syntax.tyRef
               Syntax.erased Syntax.mut (Memory·.pointee (Record.the-row .written))) (λ x. x) (Scalar.oFld 5 (List._∷_ (Syntax.field 1) List.[])
               (Syntax.tyInt Syntax.w64) 8 λ v. Shared.lenV (v .0)) (Reads'.as-is 𝓤 H A (Relend.msptr (Record.the-row) (Syntax.tyRef Syntax.erased
               Syntax.mut (Memory·.pointee (Record.the-row .written))) 3)) (Reads'.room-gone 𝓤 H A ty0·13) (
@@ -4974,7 +5460,7 @@ module _ (claims· : Claims) where
               ) Path'.refl Path'.refl λ b o k. tt) d9
 
           d11 : Typed.Typed 𝓤 H A 𝓣 E G15 b9 Δ1 at11
-          d11 = Typed.s-seq 𝓤 H A W 𝓣 E G15 G16 b3 b8 Δ1 (Typed.give s13) at10 (Relend.t-sl-relend 𝓤 H A W E (Record.the-row) 𝓣 G15 5 18 2 3
+          d11 = Typed.s-seq 𝓤 H A W 𝓣 E G15 G16 b3 b8 Δ1 (Typed.give s13) at10 (Relend.t-sl-relend 𝓤 H A W E (Record.the-row) 𝓣 G15 5 19 2 3
               (Syntax.tyRef (Syntax.named 2) Syntax.mut (Memory·.pointee (Record.the-row .written))) (Syntax.tyRef Syntax.erased Syntax.mut
               (Memory·.pointee (Record.the-row .written))) (Row.lease (κs .1 .1 .0) (qs .1 .1 .0)) 0 (λ x. x) (Reads'.as-is 𝓤 H A (Mut.mslice
               (Record.the-row) (Syntax.tyRef (Syntax.named 2) Syntax.mut (Memory·.pointee (Record.the-row .written))) 2)) (Reads'.room-gone 𝓤 H A
@@ -5060,7 +5546,43 @@ module _ (claims· : Claims) where
                                                                                       tt,
                                                                                       (
                                                                                         tt,
-                                                                                        (tt, (tt, (tt, (tt, (tt, (tt, (tt, (tt, (tt, tt))))))))),
+                                                                                        (
+                                                                                          tt,
+                                                                                          (
+                                                                                            tt,
+                                                                                            (
+                                                                                              tt,
+                                                                                              (
+                                                                                                tt,
+                                                                                                (
+                                                                                                  tt,
+                                                                                                  (
+                                                                                                    tt,
+                                                                                                    (
+                                                                                                      tt,
+                                                                                                      (
+                                                                                                        tt,
+                                                                                                        (
+                                                                                                          tt,
+                                                                                                          (
+                                                                                                            tt,
+                                                                                                            (
+                                                                                                              tt,
+                                                                                                              (
+                                                                                                                tt,
+                                                                                                                (tt, tt),
+                                                                                                              ),
+                                                                                                            ),
+                                                                                                          ),
+                                                                                                        ),
+                                                                                                      ),
+                                                                                                    ),
+                                                                                                  ),
+                                                                                                ),
+                                                                                              ),
+                                                                                            ),
+                                                                                          ),
+                                                                                        ),
                                                                                       ),
                                                                                     ),
                                                                                   ),
@@ -5146,7 +5668,7 @@ module _ (claims· : Claims) where
           d19 : Typed.Typed 𝓤 H A 𝓣 E G40 b17 Δ1 at19
           d19 = Typed.s-typed 𝓤 H A W 𝓣 E G40 b17 Δ1 (λ Ψ. Typed.pass T39 T41 s38 (Typed.pass T41 T42 s39 Ψ)) tt (Typed.g-post 𝓤 H A W 𝓣 E G40 G41 G42
               b17 (Typed.pass T39 T41 s38) (Typed.pass T41 T42 s39) (Make.t-enum-make-wt 𝓤 H A W E 𝓣 Given.the-type Laws'3.the-laws Laws'3.the-plain
-              tt G40 16 (List._∷_ (Scalar.oInt Syntax.w8 0) List.[]) (λ m. Given.enum .make (Logic.inl tt)) (Reads'.room-gone 𝓤 H A ty2·0) (tt, tt)
+              tt G40 17 (List._∷_ (Scalar.oInt Syntax.w8 0) List.[]) (λ m. Given.enum .make (Logic.inl tt)) (Reads'.room-gone 𝓤 H A ty2·0) (tt, tt)
               Path'.refl (λ m wa. Make.made-val Given.the-type Laws'3.the-laws List.[] (Given.enum .make (Logic.inl tt)) tt (wa .1)) λ m wa.
               Make.made-is Given.the-type Laws'3.the-laws List.[] (Given.enum .make (Logic.inl tt)) tt (wa .1)) (Scalar.g-room 𝓤 H A W E G41 8
               (Syntax.tyInt Syntax.w64) (Scalar.room-sc 𝓤 H A W (Row.sInt Syntax.w64))))
@@ -5155,7 +5677,7 @@ module _ (claims· : Claims) where
           d20 = Typed.g-pre 𝓤 H A W 𝓣 E G39 G40 b17 Δ1 (λ Ψ. Ψ) at19 (Lifetime.g-forget 𝓤 H A W E G39 4 Row.dead Path'.refl) d19
 
           d21 : Typed.Typed 𝓤 H A 𝓣 E G38 b17 Δ1 at21
-          d21 = Typed.g-pre 𝓤 H A W 𝓣 E G38 G39 b17 Δ1 (Typed.both s36) at20 (Relend.g-back-sl 𝓤 H A W E (Record.the-row) G38 22 5 2 4 (Syntax.tyRef
+          d21 = Typed.g-pre 𝓤 H A W 𝓣 E G38 G39 b17 Δ1 (Typed.both s36) at20 (Relend.g-back-sl 𝓤 H A W E (Record.the-row) G38 23 5 2 4 (Syntax.tyRef
               (Syntax.named 2) Syntax.mut (Memory·.pointee (Record.the-row .written))) (Syntax.tyRef Syntax.erased Syntax.mut (Memory·.pointee
               (Record.the-row .written))) (Row.lease (κs .1 .1 .0) (qs .1 .1 .0)) (λ x. x) (λ x. x) (Reads'.as-is 𝓤 H A (Mut.msleft (Record.the-row)
               (Syntax.tyRef Syntax.erased Syntax.mut (Memory·.pointee (Record.the-row .written))))) (Reads'.as-is 𝓤 H A (Relend.mslice-owed
@@ -5166,7 +5688,7 @@ module _ (claims· : Claims) where
           d22 = Typed.g-pre 𝓤 H A W 𝓣 E G37 G38 b17 Δ1 (λ Ψ. Ψ) at21 (Lifetime.g-end 𝓤 H A W E G37 4 Path'.refl) d21
 
           d23 : Typed.Typed 𝓤 H A 𝓣 E G36 b17 Δ1 at23
-          d23 = Typed.g-pre 𝓤 H A W 𝓣 E G36 G37 b17 Δ1 (Typed.pass T36 T37 s34) at22 (Scalar.g-room 𝓤 H A W E G36 20 Syntax.tyUnit (Scalar.room-sc 𝓤 H
+          d23 = Typed.g-pre 𝓤 H A W 𝓣 E G36 G37 b17 Δ1 (Typed.pass T36 T37 s34) at22 (Scalar.g-room 𝓤 H A W E G36 21 Syntax.tyUnit (Scalar.room-sc 𝓤 H
               A W Row.sUnit)) d22
 
           d24 : Typed.Typed 𝓤 H A 𝓣 E G35 b17 Δ1 at24
@@ -5177,13 +5699,13 @@ module _ (claims· : Claims) where
           d25 = Typed.s-seq 𝓤 H A W 𝓣 E G34 G35 b16 b17 Δ1 (Typed.both s32) at24 (Plain.t-call-plain 𝓤 H A W 𝓣 1 ps·1 r·1 (claims· .2) (claims· .3)
               "records::put" (known .1) E (λ pos β. β) G34 (
                 record {
-                  pos = 22;
+                  pos = 23;
                   ty = Syntax.tyRef Syntax.erased Syntax.mut (Memory·.pointee
                       (Record.the-row .written));
                   ref = λ x. x;
                 },
                 (Num.vAt 8 λ x. x, (record { pos = 9; st = List.[]; d = 0; at = λ x. x }, tt)),
-              ) 20
+              ) 21
               (List._∷_ 4 List.[]) (Call'.sub-id 𝓤 H A W (G34 .slots)) (
                 Reads'.as-is 𝓤 H A (Mut.mslice (Record.the-row) (Syntax.tyRef Syntax.erased
                     Syntax.mut (Memory·.pointee (Record.the-row .written))) 4),
@@ -5207,7 +5729,7 @@ module _ (claims· : Claims) where
 
           d26 : Typed.Typed 𝓤 H A 𝓣 E G33 b19 Δ1 at26
           d26 = Typed.s-seq 𝓤 H A W 𝓣 E G33 G34 b15 b18 Δ1 (Typed.ask s31) at25 (Relend.t-sl-aggregate 𝓤 H A W E (Record.the-row) 𝓣 (Relend.asMut
-              (Record.the-row)) G33 21 22 4 (Syntax.tyRef Syntax.erased Syntax.mut (Memory·.pointee (Record.the-row .written))) (Syntax.tyRef
+              (Record.the-row)) G33 22 23 4 (Syntax.tyRef Syntax.erased Syntax.mut (Memory·.pointee (Record.the-row .written))) (Syntax.tyRef
               Syntax.erased Syntax.mut (Memory·.pointee (Record.the-row .written))) (λ x. x) (Scalar.oFld 5 (List._∷_ (Syntax.field 1) List.[])
               (Syntax.tyInt Syntax.w64) 8 λ v. Shared.lenV (v .0)) (Reads'.as-is 𝓤 H A (Relend.msptr (Record.the-row) (Syntax.tyRef Syntax.erased
               Syntax.mut (Memory·.pointee (Record.the-row .written))) 4)) (Reads'.room-gone 𝓤 H A ty0·13) (
@@ -5218,7 +5740,7 @@ module _ (claims· : Claims) where
               ) Path'.refl Path'.refl λ b o k. tt) d25
 
           d27 : Typed.Typed 𝓤 H A 𝓣 E G32 b20 Δ1 at27
-          d27 = Typed.s-seq 𝓤 H A W 𝓣 E G32 G33 b14 b19 Δ1 (Typed.give s30) at26 (Relend.t-sl-relend 𝓤 H A W E (Record.the-row) 𝓣 G32 5 21 2 4
+          d27 = Typed.s-seq 𝓤 H A W 𝓣 E G32 G33 b14 b19 Δ1 (Typed.give s30) at26 (Relend.t-sl-relend 𝓤 H A W E (Record.the-row) 𝓣 G32 5 22 2 4
               (Syntax.tyRef (Syntax.named 2) Syntax.mut (Memory·.pointee (Record.the-row .written))) (Syntax.tyRef Syntax.erased Syntax.mut
               (Memory·.pointee (Record.the-row .written))) (Row.lease (κs .1 .1 .0) (qs .1 .1 .0)) 0 (λ x. x) (Reads'.as-is 𝓤 H A (Mut.mslice
               (Record.the-row) (Syntax.tyRef (Syntax.named 2) Syntax.mut (Memory·.pointee (Record.the-row .written))) 2)) (Reads'.room-gone 𝓤 H A
@@ -5304,7 +5826,43 @@ module _ (claims· : Claims) where
                                                                                       tt,
                                                                                       (
                                                                                         tt,
-                                                                                        (tt, (tt, (tt, (tt, (tt, (tt, (tt, (tt, (tt, tt))))))))),
+                                                                                        (
+                                                                                          tt,
+                                                                                          (
+                                                                                            tt,
+                                                                                            (
+                                                                                              tt,
+                                                                                              (
+                                                                                                tt,
+                                                                                                (
+                                                                                                  tt,
+                                                                                                  (
+                                                                                                    tt,
+                                                                                                    (
+                                                                                                      tt,
+                                                                                                      (
+                                                                                                        tt,
+                                                                                                        (
+                                                                                                          tt,
+                                                                                                          (
+                                                                                                            tt,
+                                                                                                            (
+                                                                                                              tt,
+                                                                                                              (
+                                                                                                                tt,
+                                                                                                                (tt, tt),
+                                                                                                              ),
+                                                                                                            ),
+                                                                                                          ),
+                                                                                                        ),
+                                                                                                      ),
+                                                                                                    ),
+                                                                                                  ),
+                                                                                                ),
+                                                                                              ),
+                                                                                            ),
+                                                                                          ),
+                                                                                        ),
                                                                                       ),
                                                                                     ),
                                                                                   ),
@@ -5389,36 +5947,36 @@ module _ (claims· : Claims) where
           d35 : Typed.Typed 𝓤 H A 𝓣 E G60 b28 Δ1 at35
           d35 = Typed.s-typed 𝓤 H A W 𝓣 E G60 b28 Δ1 (λ Ψ. Typed.pass T59 T61 s58 (Typed.pass T61 T62 s59 Ψ)) tt (Typed.g-post 𝓤 H A W 𝓣 E G60 G61 G62
               b28 (Typed.pass T59 T61 s58) (Typed.pass T61 T62 s59) (Make.t-enum-make-wt 𝓤 H A W E 𝓣 Given.the-type Laws'3.the-laws Laws'3.the-plain
-              tt G60 16 (List._∷_ (Scalar.oInt Syntax.w8 3) (List._∷_ (Scalar.oAt 23 ty0·10 (Laws'8.val Written.the-type Laws'6.the-laws)) List.[]))
+              tt G60 17 (List._∷_ (Scalar.oInt Syntax.w8 3) (List._∷_ (Scalar.oAt 24 ty0·10 (Laws'8.val Written.the-type Laws'6.the-laws)) List.[]))
               (λ m. Given.enum .make (Logic.inr (Logic.inr (Logic.inr (Logic.inl (
                 m .1 .1 .1 .1 .1 .1 .1 .1 .1 .1 .1 .1 .1 .1 .1 .1 .1 .1 .1 .1 .1 .1
-                    .1 .0,
+                    .1 .1 .0,
                 tt,
               )))))) (Reads'.room-gone 𝓤 H A ty2·0) (
                 tt,
-                ((Reads.reads-struct 𝓤 H A W Written.the-type Laws'6.the-laws, Path'.refl), tt),
-              ) Path'.refl (λ m wa. Make.made-val Given.the-type Laws'3.the-laws (List._∷_ (Laws'8.val Written.the-type Laws'6.the-laws (m .1 .1 .1 .1
-              .1 .1 .1 .1 .1 .1 .1 .1 .1 .1 .1 .1 .1 .1 .1 .1 .1 .1 .1 .0)) List.[]) (Given.enum .make (Logic.inr (Logic.inr (Logic.inr (Logic.inl (
-                m
-                    .1 .1 .1 .1 .1 .1 .1 .1 .1 .1 .1 .1 .1 .1 .1 .1 .1 .1 .1 .1 .1 .1 .1 .0,
-                tt,
-              )))))) (
+                (
+                  (Reads.reads-struct 𝓤 H A W Written.the-type Laws'6.the-laws, Path'.refl),
+                  tt,
+                ),
+              ) Path'.refl (λ m wa. Make.made-val Given.the-type Laws'3.the-laws (List._∷_ (Laws'8.val Written.the-type Laws'6.the-laws (m .1 .1
+              .1 .1 .1 .1 .1 .1 .1 .1 .1 .1 .1 .1 .1 .1 .1 .1 .1 .1 .1 .1 .1 .1 .0)) List.[]) (Given.enum .make (Logic.inr (Logic.inr (Logic.inr
+              (Logic.inl (m .1 .1 .1 .1 .1 .1 .1 .1 .1 .1 .1 .1 .1 .1 .1 .1 .1 .1 .1 .1 .1 .1 .1 .1 .0, tt)))))) (
                 Signed.made-wt Written.the-field
-                    Laws'6.the-field-laws (Make'.struct-wt Written.the-type Laws'6.the-laws (Make'.u8-wt, (Make'.u64-wt, tt))) (Written.the-type .to (m
+                    Laws'6.the-field-laws (Make'.struct-wt Written.the-type Laws'6.the-laws (Make'.u8-wt, (Make'.u64-wt, tt))) (Written.the-type .to (m .1
                     .1 .1 .1 .1 .1 .1 .1 .1 .1 .1 .1 .1 .1 .1 .1 .1 .1 .1 .1 .1 .1 .1 .1 .0)),
                 tt,
               ) (wa .1)) λ m wa. Make.made-is Given.the-type
               Laws'3.the-laws (List._∷_ (Laws'8.val Written.the-type Laws'6.the-laws (m .1 .1 .1 .1 .1 .1 .1 .1 .1 .1 .1 .1 .1 .1 .1 .1 .1 .1 .1 .1 .1
-              .1 .1 .0)) List.[]) (Given.enum .make (Logic.inr (Logic.inr (Logic.inr (Logic.inl (
-                m .1 .1 .1 .1 .1 .1 .1 .1 .1 .1 .1 .1 .1 .1 .1 .1 .1
-                    .1 .1 .1 .1 .1 .1 .0,
+              .1 .1 .1 .0)) List.[]) (Given.enum .make (Logic.inr (Logic.inr (Logic.inr (Logic.inl (
+                m .1 .1 .1 .1 .1 .1 .1 .1 .1 .1 .1 .1 .1 .1 .1 .1
+                    .1 .1 .1 .1 .1 .1 .1 .1 .0,
                 tt,
               )))))) (
                 Signed.made-wt Written.the-field Laws'6.the-field-laws (Make'.struct-wt Written.the-type
-                    Laws'6.the-laws (Make'.u8-wt, (Make'.u64-wt, tt))) (Written.the-type .to (m .1 .1 .1 .1 .1 .1 .1 .1 .1 .1 .1 .1 .1 .1 .1 .1 .1 .1 .1
+                    Laws'6.the-laws (Make'.u8-wt, (Make'.u64-wt, tt))) (Written.the-type .to (m .1 .1 .1 .1 .1 .1 .1 .1 .1 .1 .1 .1 .1 .1 .1 .1 .1 .1 .1 .1
                     .1 .1 .1 .1 .0)),
                 tt,
-              ) (wa .1)) (Scalar.g-room 𝓤 H A W E G61 23 ty0·10 (Local.room-whole 𝓤 H A W (Declared'.row Written.the-type)
+              ) (wa .1)) (Scalar.g-room 𝓤 H A W E G61 24 ty0·10 (Local.room-whole 𝓤 H A W (Declared'.row Written.the-type)
               ty0·10 Path'.refl)))
 
           d36 : Typed.Typed 𝓤 H A 𝓣 E G59 b28 Δ1 at36
@@ -5434,7 +5992,7 @@ module _ (claims· : Claims) where
 
           d38 : Typed.Typed 𝓤 H A 𝓣 E G57 b28 Δ1 at38
           d38 = Typed.g-pre 𝓤 H A W 𝓣 E G57 G58 b28 Δ1 (Typed.both s55) at37 (Relend.g-back-sl 𝓤 H A W E (Referent.rtF (Referent.fInt Syntax.w8)) G57
-              27 4 1 6 (Syntax.tyRef (Syntax.named 1) Syntax.mut (Syntax.tyInt Syntax.w8)) (Syntax.tyRef Syntax.erased Syntax.mut (Syntax.tyInt
+              28 4 1 6 (Syntax.tyRef (Syntax.named 1) Syntax.mut (Syntax.tyInt Syntax.w8)) (Syntax.tyRef Syntax.erased Syntax.mut (Syntax.tyInt
               Syntax.w8)) (Row.lease (κs .1 .0) (qs .1 .0)) (λ x. x) (λ x. x) (Reads'.as-is 𝓤 H A (Mut.msleft (Referent.rtF (Referent.fInt Syntax.w8))
               (Syntax.tyRef Syntax.erased Syntax.mut (Syntax.tyInt Syntax.w8)))) (Reads'.as-is 𝓤 H A (Relend.mslice-owed (Referent.rtF (Referent.fInt
               Syntax.w8)) (Syntax.tyRef (Syntax.named 1) Syntax.mut (Syntax.tyInt Syntax.w8)) 1 6 (Row.lease (κs .1 .0) (qs .1 .0)))) Path'.refl
@@ -5456,27 +6014,27 @@ module _ (claims· : Claims) where
           d42 = Typed.g-pre 𝓤 H A W 𝓣 E G53 G54 b28 Δ1 (λ Ψ. Ψ) at41 (Lifetime.g-end 𝓤 H A W E G53 5 Path'.refl) d41
 
           d43 : Typed.Typed 𝓤 H A 𝓣 E G52 b28 Δ1 at43
-          d43 = Typed.g-pre 𝓤 H A W 𝓣 E G52 G53 b28 Δ1 (Typed.pass T52 T53 s50) at42 (Scalar.g-room 𝓤 H A W E G52 25 ty0·11 (Shared.room-sslice 𝓤 H A
+          d43 = Typed.g-pre 𝓤 H A W 𝓣 E G52 G53 b28 Δ1 (Typed.pass T52 T53 s50) at42 (Scalar.g-room 𝓤 H A W E G52 26 ty0·11 (Shared.room-sslice 𝓤 H A
               W (Record.the-row) (Syntax.tyRef Syntax.erased Syntax.imm (Memory·.pointee (Record.the-row .written))) 5)) d42
 
           d44 : Typed.Typed 𝓤 H A 𝓣 E G51 b29 Δ1 at44
           d44 = Typed.s-seq 𝓤 H A W 𝓣 E G51 G52 b27 b28 Δ1 (Typed.both s49) at43 (Plain.t-call-plain 𝓤 H A W 𝓣 2 ps·2 r·2 (claims· .4) (claims· .5)
               "probe::calls::show" (known .2) E (λ pos β. β) G51 (
                 record {
-                  pos = 25;
+                  pos = 26;
                   ty = Syntax.tyRef Syntax.erased Syntax.imm (Memory·.pointee
                       (Record.the-row .written));
                   ref = λ x. x;
                 },
                 (
                   record {
-                    pos = 27;
+                    pos = 28;
                     ty = Syntax.tyRef Syntax.erased Syntax.mut (Syntax.tyInt Syntax.w8);
                     ref = λ x. x;
                   },
                   tt,
                 ),
-              ) 23 (List._∷_ 5 (List._∷_ 6 List.[])) (Call'.sub-id 𝓤 H A W (G51 .slots)) (
+              ) 24 (List._∷_ 5 (List._∷_ 6 List.[])) (Call'.sub-id 𝓤 H A W (G51 .slots)) (
                 ShrSlice.spares-sslice 𝓤 H A W
                     (Record.the-row) (Syntax.tyRef Syntax.erased Syntax.imm (Memory·.pointee (Record.the-row .written))) 5,
                 Shared.reads-sslice 𝓤 H A W
@@ -5493,7 +6051,7 @@ module _ (claims· : Claims) where
 
           d45 : Typed.Typed 𝓤 H A 𝓣 E G50 b30 Δ1 at45
           d45 = Typed.s-seq 𝓤 H A W 𝓣 E G50 G51 b26 b29 Δ1 (Typed.ask s48) at44 (Relend.t-sl-aggregate 𝓤 H A W E (Referent.rtF (Referent.fInt
-              Syntax.w8)) 𝓣 (Relend.asMut (Referent.rtF (Referent.fInt Syntax.w8))) G50 26 27 6 (Syntax.tyRef Syntax.erased Syntax.mut (Syntax.tyInt
+              Syntax.w8)) 𝓣 (Relend.asMut (Referent.rtF (Referent.fInt Syntax.w8))) G50 27 28 6 (Syntax.tyRef Syntax.erased Syntax.mut (Syntax.tyInt
               Syntax.w8)) (Syntax.tyRef Syntax.erased Syntax.mut (Syntax.tyInt Syntax.w8)) (λ x. x) (Scalar.oFld 4 (List._∷_ (Syntax.field 1) List.[])
               (Syntax.tyInt Syntax.w64) 8 λ v. Shared.lenV (v .0)) (Reads'.as-is 𝓤 H A (Relend.msptr (Referent.rtF (Referent.fInt Syntax.w8))
               (Syntax.tyRef Syntax.erased Syntax.mut (Syntax.tyInt Syntax.w8)) 6)) (Reads'.room-gone 𝓤 H A ty0·14) (
@@ -5505,7 +6063,7 @@ module _ (claims· : Claims) where
 
           d46 : Typed.Typed 𝓤 H A 𝓣 E G49 b31 Δ1 at46
           d46 = Typed.s-seq 𝓤 H A W 𝓣 E G49 G50 b25 b30 Δ1 (Typed.give s47) at45 (Relend.t-sl-relend 𝓤 H A W E (Referent.rtF (Referent.fInt
-              Syntax.w8)) 𝓣 G49 4 26 1 6 (Syntax.tyRef (Syntax.named 1) Syntax.mut (Syntax.tyInt Syntax.w8)) (Syntax.tyRef Syntax.erased Syntax.mut
+              Syntax.w8)) 𝓣 G49 4 27 1 6 (Syntax.tyRef (Syntax.named 1) Syntax.mut (Syntax.tyInt Syntax.w8)) (Syntax.tyRef Syntax.erased Syntax.mut
               (Syntax.tyInt Syntax.w8)) (Row.lease (κs .1 .0) (qs .1 .0)) 0 (λ x. x) (Reads'.as-is 𝓤 H A (Mut.mslice (Referent.rtF (Referent.fInt
               Syntax.w8)) (Syntax.tyRef (Syntax.named 1) Syntax.mut (Syntax.tyInt Syntax.w8)) 1)) (Reads'.room-gone 𝓤 H A (Syntax.tyRef Syntax.erased
               Syntax.mut (Syntax.tyInt Syntax.w8))) Path'.refl tt Path'.refl Path'.refl Path'.refl λ b o. tt) d45
@@ -5593,7 +6151,40 @@ module _ (claims· : Claims) where
                                                                                           tt,
                                                                                           (
                                                                                             tt,
-                                                                                            (tt, (tt, (tt, (tt, (tt, (tt, (tt, tt))))))),
+                                                                                            (
+                                                                                              tt,
+                                                                                              (
+                                                                                                tt,
+                                                                                                (
+                                                                                                  tt,
+                                                                                                  (
+                                                                                                    tt,
+                                                                                                    (
+                                                                                                      tt,
+                                                                                                      (
+                                                                                                        tt,
+                                                                                                        (
+                                                                                                          tt,
+                                                                                                          (
+                                                                                                            tt,
+                                                                                                            (
+                                                                                                              tt,
+                                                                                                              (
+                                                                                                                tt,
+                                                                                                                (
+                                                                                                                  tt,
+                                                                                                                  tt,
+                                                                                                                ),
+                                                                                                              ),
+                                                                                                            ),
+                                                                                                          ),
+                                                                                                        ),
+                                                                                                      ),
+                                                                                                    ),
+                                                                                                  ),
+                                                                                                ),
+                                                                                              ),
+                                                                                            ),
                                                                                           ),
                                                                                         ),
                                                                                       ),
@@ -5638,7 +6229,7 @@ module _ (claims· : Claims) where
 
           d48 : Typed.Typed 𝓤 H A 𝓣 E G47 b32 Δ1 at48
           d48 = Typed.s-seq 𝓤 H A W 𝓣 E G47 G48 b24 b31 Δ1 (Typed.ask s45) at47 (Relend.t-sl-aggregate 𝓤 H A W E (Record.the-row) 𝓣 (Relend.asShr
-              (Record.the-row)) G47 24 25 5 (Syntax.tyRef Syntax.erased Syntax.imm (Memory·.pointee (Record.the-row .written))) (Syntax.tyRef
+              (Record.the-row)) G47 25 26 5 (Syntax.tyRef Syntax.erased Syntax.imm (Memory·.pointee (Record.the-row .written))) (Syntax.tyRef
               Syntax.erased Syntax.imm (Memory·.pointee (Record.the-row .written))) (λ x. x) (Scalar.oFld 5 (List._∷_ (Syntax.field 1) List.[])
               (Syntax.tyInt Syntax.w64) 8 λ v. Shared.lenV (v .0)) (Reads'.as-is 𝓤 H A (Relend.ssptr (Record.the-row) (Syntax.tyRef Syntax.erased
               Syntax.imm (Memory·.pointee (Record.the-row .written))) 5)) (Reads'.room-gone 𝓤 H A ty0·11) (
@@ -5649,7 +6240,7 @@ module _ (claims· : Claims) where
               ) Path'.refl Path'.refl λ b o k. tt) d47
 
           d49 : Typed.Typed 𝓤 H A 𝓣 E G46 b33 Δ1 at49
-          d49 = Typed.s-seq 𝓤 H A W 𝓣 E G46 G47 b23 b32 Δ1 (Typed.give s44) at48 (Reshare.t-sl-reshare 𝓤 H A W E (Record.the-row) 𝓣 G46 5 24 2 5
+          d49 = Typed.s-seq 𝓤 H A W 𝓣 E G46 G47 b23 b32 Δ1 (Typed.give s44) at48 (Reshare.t-sl-reshare 𝓤 H A W E (Record.the-row) 𝓣 G46 5 25 2 5
               (Syntax.tyRef (Syntax.named 2) Syntax.mut (Memory·.pointee (Record.the-row .written))) (Syntax.tyRef Syntax.erased Syntax.imm
               (Memory·.pointee (Record.the-row .written))) (Row.lease (κs .1 .1 .0) (qs .1 .1 .0)) 0 (λ x. x) (Reads'.as-is 𝓤 H A (Mut.mslice
               (Record.the-row) (Syntax.tyRef (Syntax.named 2) Syntax.mut (Memory·.pointee (Record.the-row .written))) 2)) (Reads'.room-gone 𝓤 H A
@@ -5735,7 +6326,43 @@ module _ (claims· : Claims) where
                                                                                       tt,
                                                                                       (
                                                                                         tt,
-                                                                                        (tt, (tt, (tt, (tt, (tt, (tt, (tt, (tt, (tt, tt))))))))),
+                                                                                        (
+                                                                                          tt,
+                                                                                          (
+                                                                                            tt,
+                                                                                            (
+                                                                                              tt,
+                                                                                              (
+                                                                                                tt,
+                                                                                                (
+                                                                                                  tt,
+                                                                                                  (
+                                                                                                    tt,
+                                                                                                    (
+                                                                                                      tt,
+                                                                                                      (
+                                                                                                        tt,
+                                                                                                        (
+                                                                                                          tt,
+                                                                                                          (
+                                                                                                            tt,
+                                                                                                            (
+                                                                                                              tt,
+                                                                                                              (
+                                                                                                                tt,
+                                                                                                                (tt, tt),
+                                                                                                              ),
+                                                                                                            ),
+                                                                                                          ),
+                                                                                                        ),
+                                                                                                      ),
+                                                                                                    ),
+                                                                                                  ),
+                                                                                                ),
+                                                                                              ),
+                                                                                            ),
+                                                                                          ),
+                                                                                        ),
                                                                                       ),
                                                                                     ),
                                                                                   ),
@@ -5791,10 +6418,10 @@ module _ (claims· : Claims) where
           d54 = Typed.s-typed 𝓤 H A W 𝓣 E G83 b41 Δ1 (λ Ψ. Typed.pass T82 T84 s81 (Typed.pass T84 T85 s82 (Typed.pass T85 T86 s83 Ψ))) tt
               (Typed.g-post 𝓤 H A W 𝓣 E G83 G85 G86 b41 (λ Ψ. Typed.pass T82 T84 s81 (Typed.pass T84 T85 s82 Ψ)) (Typed.pass T85 T86 s83)
               (Typed.g-post 𝓤 H A W 𝓣 E G83 G84 G85 b41 (Typed.pass T82 T84 s81) (Typed.pass T84 T85 s82) (Make.t-enum-make-wt 𝓤 H A W E 𝓣
-              Given.the-type Laws'3.the-laws Laws'3.the-plain tt G83 16 (List._∷_ (Scalar.oInt Syntax.w8 2) (List._∷_ (Scalar.oAt 28 ty1·2 (Laws'8.val
+              Given.the-type Laws'3.the-laws Laws'3.the-plain tt G83 17 (List._∷_ (Scalar.oInt Syntax.w8 2) (List._∷_ (Scalar.oAt 29 ty1·2 (Laws'8.val
               Edited.the-type Laws'.the-laws)) List.[])) (λ m. Given.enum .make (Logic.inr (Logic.inr (Logic.inl (
                 m .1 .1 .1 .1 .1 .1 .1 .1 .1 .1 .1
-                    .1 .1 .1 .1 .1 .1 .1 .1 .1 .1 .1 .1 .1 .1 .1 .1 .1 .0,
+                    .1 .1 .1 .1 .1 .1 .1 .1 .1 .1 .1 .1 .1 .1 .1 .1 .1 .1 .0,
                 tt,
               ))))) (Reads'.room-gone 𝓤 H A ty2·0) (
                 tt,
@@ -5807,46 +6434,48 @@ module _ (claims· : Claims) where
                   tt,
                 ),
               ) Path'.refl (λ m wa. Make.made-val Given.the-type Laws'3.the-laws (List._∷_
-              (Laws'8.val Edited.the-type Laws'.the-laws (m .1 .1 .1 .1 .1 .1 .1 .1 .1 .1 .1 .1 .1 .1 .1 .1 .1 .1 .1 .1 .1 .1 .1 .1 .1 .1 .1 .1 .0))
-              List.[]) (Given.enum .make (Logic.inr (Logic.inr (Logic.inl (
-                m .1 .1 .1 .1 .1 .1 .1 .1 .1 .1 .1 .1 .1 .1 .1 .1 .1 .1 .1 .1 .1 .1 .1 .1
-                    .1 .1 .1 .1 .0,
+              (Laws'8.val Edited.the-type Laws'.the-laws (m .1 .1 .1 .1 .1 .1 .1 .1 .1 .1 .1 .1 .1 .1 .1 .1 .1 .1 .1 .1 .1 .1 .1 .1 .1 .1 .1 .1 .1
+              .0)) List.[]) (Given.enum .make (Logic.inr (Logic.inr (Logic.inl (
+                m .1 .1 .1 .1 .1 .1 .1 .1 .1 .1 .1 .1 .1 .1 .1 .1 .1 .1 .1 .1 .1 .1
+                    .1 .1 .1 .1 .1 .1 .1 .0,
                 tt,
               ))))) (
-                Signed.made-wt Edited.the-field Laws'.the-field-laws (Make'.struct-wt Edited.the-type Laws'.the-laws (
-                  Make'.u8-wt,
-                  (Make'.struct-wt Counts.the-type Laws'5.the-laws (Make'.u64-wt, (Make'.u64-wt, (Make'.u64-wt, tt))), tt),
-                ))
-                    (Edited.the-type .to (m .1 .1 .1 .1 .1 .1 .1 .1 .1 .1 .1 .1 .1 .1 .1 .1 .1 .1 .1 .1 .1 .1 .1 .1 .1 .1 .1 .1 .0)),
-                tt,
-              ) (wa .1)) λ m wa.
-              Make.made-is Given.the-type Laws'3.the-laws (List._∷_ (Laws'8.val Edited.the-type Laws'.the-laws (m .1 .1 .1 .1 .1 .1 .1 .1 .1 .1 .1 .1
-              .1 .1 .1 .1 .1 .1 .1 .1 .1 .1 .1 .1 .1 .1 .1 .1 .0)) List.[]) (Given.enum .make (Logic.inr (Logic.inr (Logic.inl (
-                m .1 .1 .1 .1 .1 .1
-                    .1 .1 .1 .1 .1 .1 .1 .1 .1 .1 .1 .1 .1 .1 .1 .1 .1 .1 .1 .1 .1 .1 .0,
-                tt,
-              ))))) (
-                Signed.made-wt Edited.the-field Laws'.the-field-laws
-                    (Make'.struct-wt Edited.the-type Laws'.the-laws (
+                Signed.made-wt Edited.the-field Laws'.the-field-laws (Make'.struct-wt Edited.the-type
+                    Laws'.the-laws (
                       Make'.u8-wt,
                       (
-                        Make'.struct-wt Counts.the-type Laws'5.the-laws (
-                          Make'.u64-wt,
-                          (Make'.u64-wt, (Make'.u64-wt, tt)),
-                        ),
+                        Make'.struct-wt Counts.the-type Laws'5.the-laws (Make'.u64-wt, (Make'.u64-wt, (Make'.u64-wt, tt))),
                         tt,
                       ),
-                    )) (Edited.the-type .to (m .1 .1 .1 .1 .1 .1 .1 .1 .1 .1 .1 .1 .1 .1 .1 .1 .1 .1 .1 .1 .1 .1
-                    .1 .1 .1 .1 .1 .1 .0)),
+                    )) (Edited.the-type .to (m .1 .1 .1 .1 .1 .1 .1 .1 .1 .1 .1 .1 .1 .1 .1 .1 .1 .1 .1 .1 .1 .1 .1 .1 .1 .1 .1 .1 .1 .0)),
                 tt,
-              ) (wa .1)) (Scalar.g-room 𝓤 H A W E G84 10 (Syntax.tyInt Syntax.w64) (Scalar.room-sc 𝓤 H A W (Row.sInt
-              Syntax.w64)))) (Scalar.g-room 𝓤 H A W E G85 28 ty1·2 (Local.room-whole 𝓤 H A W (Declared'.row Edited.the-type) ty1·2 Path'.refl)))
+              ) (wa
+              .1)) λ m wa. Make.made-is Given.the-type Laws'3.the-laws (List._∷_ (Laws'8.val Edited.the-type Laws'.the-laws (m .1 .1 .1 .1 .1 .1 .1 .1
+              .1 .1 .1 .1 .1 .1 .1 .1 .1 .1 .1 .1 .1 .1 .1 .1 .1 .1 .1 .1 .1 .0)) List.[]) (Given.enum .make (Logic.inr (Logic.inr (Logic.inl (
+                m .1
+                    .1 .1 .1 .1 .1 .1 .1 .1 .1 .1 .1 .1 .1 .1 .1 .1 .1 .1 .1 .1 .1 .1 .1 .1 .1 .1 .1 .1 .0,
+                tt,
+              ))))) (
+                Signed.made-wt Edited.the-field
+                    Laws'.the-field-laws (Make'.struct-wt Edited.the-type Laws'.the-laws (
+                      Make'.u8-wt,
+                      (
+                        Make'.struct-wt Counts.the-type Laws'5.the-laws
+                            (Make'.u64-wt, (Make'.u64-wt, (Make'.u64-wt, tt))),
+                        tt,
+                      ),
+                    )) (Edited.the-type .to (m .1 .1 .1 .1 .1 .1 .1 .1 .1 .1 .1 .1 .1 .1 .1 .1 .1
+                    .1 .1 .1 .1 .1 .1 .1 .1 .1 .1 .1 .1 .0)),
+                tt,
+              ) (wa .1)) (Scalar.g-room 𝓤 H A W E G84 10 (Syntax.tyInt Syntax.w64) (Scalar.room-sc 𝓤 H A
+              W (Row.sInt Syntax.w64)))) (Scalar.g-room 𝓤 H A W E G85 29 ty1·2 (Local.room-whole 𝓤 H A W (Declared'.row Edited.the-type) ty1·2
+              Path'.refl)))
 
           d55 : Typed.Typed 𝓤 H A 𝓣 E G82 b41 Δ1 at55
           d55 = Typed.g-pre 𝓤 H A W 𝓣 E G82 G83 b41 Δ1 (λ Ψ. Ψ) at54 (Lifetime.g-forget 𝓤 H A W E G82 8 Row.dead Path'.refl) d54
 
           d56 : Typed.Typed 𝓤 H A 𝓣 E G81 b41 Δ1 at56
-          d56 = Typed.g-pre 𝓤 H A W 𝓣 E G81 G82 b41 Δ1 (Typed.both s79) at55 (Relend.g-back-sl 𝓤 H A W E (Record.the-row) G81 32 5 2 8 (Syntax.tyRef
+          d56 = Typed.g-pre 𝓤 H A W 𝓣 E G81 G82 b41 Δ1 (Typed.both s79) at55 (Relend.g-back-sl 𝓤 H A W E (Record.the-row) G81 33 5 2 8 (Syntax.tyRef
               (Syntax.named 2) Syntax.mut (Memory·.pointee (Record.the-row .written))) (Syntax.tyRef Syntax.erased Syntax.mut (Memory·.pointee
               (Record.the-row .written))) (Row.lease (κs .1 .1 .0) (qs .1 .1 .0)) (λ x. x) (λ x. x) (Reads'.as-is 𝓤 H A (Mut.msleft (Record.the-row)
               (Syntax.tyRef Syntax.erased Syntax.mut (Memory·.pointee (Record.the-row .written))))) (Reads'.as-is 𝓤 H A (Relend.mslice-owed
@@ -5868,7 +6497,7 @@ module _ (claims· : Claims) where
 
           d60 : Typed.Typed 𝓤 H A 𝓣 E G77 b41 Δ1 at60
           d60 = Typed.g-pre 𝓤 H A W 𝓣 E G77 G78 b41 Δ1 (Typed.both s75) at59 (Relend.g-back-sl 𝓤 H A W E (Referent.rtF (Referent.fInt Syntax.w8)) G77
-              30 3 0 7 (Syntax.tyRef (Syntax.named 0) Syntax.mut (Syntax.tyInt Syntax.w8)) (Syntax.tyRef Syntax.erased Syntax.mut (Syntax.tyInt
+              31 3 0 7 (Syntax.tyRef (Syntax.named 0) Syntax.mut (Syntax.tyInt Syntax.w8)) (Syntax.tyRef Syntax.erased Syntax.mut (Syntax.tyInt
               Syntax.w8)) (Row.lease (κs .0) (qs .0)) (λ x. x) (λ x. x) (Reads'.as-is 𝓤 H A (Mut.msleft (Referent.rtF (Referent.fInt Syntax.w8))
               (Syntax.tyRef Syntax.erased Syntax.mut (Syntax.tyInt Syntax.w8)))) (Reads'.as-is 𝓤 H A (Relend.mslice-owed (Referent.rtF (Referent.fInt
               Syntax.w8)) (Syntax.tyRef (Syntax.named 0) Syntax.mut (Syntax.tyInt Syntax.w8)) 0 7 (Row.lease (κs .0) (qs .0)))) Path'.refl Path'.refl)
@@ -5889,7 +6518,7 @@ module _ (claims· : Claims) where
           d64 = Typed.s-seq 𝓤 H A W 𝓣 E G73 G74 b40 b41 Δ1 (Typed.both s71) at63 (Plain.t-call-plain 𝓤 H A W 𝓣 2 ps·3 r·3 (claims· .6) (claims· .7)
               "journal::perform" (known .3) E (λ pos β. β) G73 (
                 record {
-                  pos = 30;
+                  pos = 31;
                   ty = Syntax.tyRef Syntax.erased Syntax.mut (Syntax.tyInt
                       Syntax.w8);
                   ref = λ x. x;
@@ -5898,7 +6527,7 @@ module _ (claims· : Claims) where
                   record { pos = 2; st = List.[]; d = 0; at = λ x. x },
                   (
                     record {
-                      pos = 32;
+                      pos = 33;
                       ty = Syntax.tyRef
                           Syntax.erased Syntax.mut (Memory·.pointee (Record.the-row .written));
                       ref = λ x. x;
@@ -5918,7 +6547,7 @@ module _ (claims· : Claims) where
                     ),
                   ),
                 ),
-              ) 28 (List._∷_ 7 (List._∷_ 8 List.[])) (Call'.sub-id 𝓤 H A W (G73 .slots)) (
+              ) 29 (List._∷_ 7 (List._∷_ 8 List.[])) (Call'.sub-id 𝓤 H A W (G73 .slots)) (
                 Reads'.as-is 𝓤
                     H A (Mut.mslice (Referent.rtF (Referent.fInt Syntax.w8)) (Syntax.tyRef Syntax.erased Syntax.mut (Syntax.tyInt Syntax.w8)) 7),
                 Mut.reads-mslice 𝓤 H A W (Referent.rtF (Referent.fInt Syntax.w8)) (Syntax.tyRef Syntax.erased Syntax.mut (Syntax.tyInt Syntax.w8)) 7,
@@ -5953,7 +6582,7 @@ module _ (claims· : Claims) where
 
           d65 : Typed.Typed 𝓤 H A 𝓣 E G72 b43 Δ1 at65
           d65 = Typed.s-seq 𝓤 H A W 𝓣 E G72 G73 b39 b42 Δ1 (Typed.ask s70) at64 (Relend.t-sl-aggregate 𝓤 H A W E (Record.the-row) 𝓣 (Relend.asMut
-              (Record.the-row)) G72 31 32 8 (Syntax.tyRef Syntax.erased Syntax.mut (Memory·.pointee (Record.the-row .written))) (Syntax.tyRef
+              (Record.the-row)) G72 32 33 8 (Syntax.tyRef Syntax.erased Syntax.mut (Memory·.pointee (Record.the-row .written))) (Syntax.tyRef
               Syntax.erased Syntax.mut (Memory·.pointee (Record.the-row .written))) (λ x. x) (Scalar.oFld 5 (List._∷_ (Syntax.field 1) List.[])
               (Syntax.tyInt Syntax.w64) 8 λ v. Shared.lenV (v .0)) (Reads'.as-is 𝓤 H A (Relend.msptr (Record.the-row) (Syntax.tyRef Syntax.erased
               Syntax.mut (Memory·.pointee (Record.the-row .written))) 8)) (Reads'.room-gone 𝓤 H A ty0·13) (
@@ -5964,7 +6593,7 @@ module _ (claims· : Claims) where
               ) Path'.refl Path'.refl λ b o k. tt) d64
 
           d66 : Typed.Typed 𝓤 H A 𝓣 E G71 b44 Δ1 at66
-          d66 = Typed.s-seq 𝓤 H A W 𝓣 E G71 G72 b38 b43 Δ1 (Typed.give s69) at65 (Relend.t-sl-relend 𝓤 H A W E (Record.the-row) 𝓣 G71 5 31 2 8
+          d66 = Typed.s-seq 𝓤 H A W 𝓣 E G71 G72 b38 b43 Δ1 (Typed.give s69) at65 (Relend.t-sl-relend 𝓤 H A W E (Record.the-row) 𝓣 G71 5 32 2 8
               (Syntax.tyRef (Syntax.named 2) Syntax.mut (Memory·.pointee (Record.the-row .written))) (Syntax.tyRef Syntax.erased Syntax.mut
               (Memory·.pointee (Record.the-row .written))) (Row.lease (κs .1 .1 .0) (qs .1 .1 .0)) 0 (λ x. x) (Reads'.as-is 𝓤 H A (Mut.mslice
               (Record.the-row) (Syntax.tyRef (Syntax.named 2) Syntax.mut (Memory·.pointee (Record.the-row .written))) 2)) (Reads'.room-gone 𝓤 H A
@@ -6054,7 +6683,40 @@ module _ (claims· : Claims) where
                                                                                           tt,
                                                                                           (
                                                                                             tt,
-                                                                                            (tt, (tt, (tt, (tt, (tt, (tt, (tt, tt))))))),
+                                                                                            (
+                                                                                              tt,
+                                                                                              (
+                                                                                                tt,
+                                                                                                (
+                                                                                                  tt,
+                                                                                                  (
+                                                                                                    tt,
+                                                                                                    (
+                                                                                                      tt,
+                                                                                                      (
+                                                                                                        tt,
+                                                                                                        (
+                                                                                                          tt,
+                                                                                                          (
+                                                                                                            tt,
+                                                                                                            (
+                                                                                                              tt,
+                                                                                                              (
+                                                                                                                tt,
+                                                                                                                (
+                                                                                                                  tt,
+                                                                                                                  tt,
+                                                                                                                ),
+                                                                                                              ),
+                                                                                                            ),
+                                                                                                          ),
+                                                                                                        ),
+                                                                                                      ),
+                                                                                                    ),
+                                                                                                  ),
+                                                                                                ),
+                                                                                              ),
+                                                                                            ),
                                                                                           ),
                                                                                         ),
                                                                                       ),
@@ -6099,7 +6761,7 @@ module _ (claims· : Claims) where
 
           d68 : Typed.Typed 𝓤 H A 𝓣 E G69 b45 Δ1 at68
           d68 = Typed.s-seq 𝓤 H A W 𝓣 E G69 G70 b37 b44 Δ1 (Typed.ask s67) at67 (Relend.t-sl-aggregate 𝓤 H A W E (Referent.rtF (Referent.fInt
-              Syntax.w8)) 𝓣 (Relend.asMut (Referent.rtF (Referent.fInt Syntax.w8))) G69 29 30 7 (Syntax.tyRef Syntax.erased Syntax.mut (Syntax.tyInt
+              Syntax.w8)) 𝓣 (Relend.asMut (Referent.rtF (Referent.fInt Syntax.w8))) G69 30 31 7 (Syntax.tyRef Syntax.erased Syntax.mut (Syntax.tyInt
               Syntax.w8)) (Syntax.tyRef Syntax.erased Syntax.mut (Syntax.tyInt Syntax.w8)) (λ x. x) (Scalar.oFld 3 (List._∷_ (Syntax.field 1) List.[])
               (Syntax.tyInt Syntax.w64) 8 λ v. Shared.lenV (v .0)) (Reads'.as-is 𝓤 H A (Relend.msptr (Referent.rtF (Referent.fInt Syntax.w8))
               (Syntax.tyRef Syntax.erased Syntax.mut (Syntax.tyInt Syntax.w8)) 7)) (Reads'.room-gone 𝓤 H A ty0·14) (
@@ -6111,7 +6773,7 @@ module _ (claims· : Claims) where
 
           d69 : Typed.Typed 𝓤 H A 𝓣 E G68 b46 Δ1 at69
           d69 = Typed.s-seq 𝓤 H A W 𝓣 E G68 G69 b36 b45 Δ1 (Typed.give s66) at68 (Relend.t-sl-relend 𝓤 H A W E (Referent.rtF (Referent.fInt
-              Syntax.w8)) 𝓣 G68 3 29 0 7 (Syntax.tyRef (Syntax.named 0) Syntax.mut (Syntax.tyInt Syntax.w8)) (Syntax.tyRef Syntax.erased Syntax.mut
+              Syntax.w8)) 𝓣 G68 3 30 0 7 (Syntax.tyRef (Syntax.named 0) Syntax.mut (Syntax.tyInt Syntax.w8)) (Syntax.tyRef Syntax.erased Syntax.mut
               (Syntax.tyInt Syntax.w8)) (Row.lease (κs .0) (qs .0)) 0 (λ x. x) (Reads'.as-is 𝓤 H A (Mut.mslice (Referent.rtF (Referent.fInt
               Syntax.w8)) (Syntax.tyRef (Syntax.named 0) Syntax.mut (Syntax.tyInt Syntax.w8)) 0)) (Reads'.room-gone 𝓤 H A (Syntax.tyRef Syntax.erased
               Syntax.mut (Syntax.tyInt Syntax.w8))) Path'.refl tt Path'.refl Path'.refl Path'.refl λ b o. tt) d68
@@ -6195,7 +6857,43 @@ module _ (claims· : Claims) where
                                                                                       tt,
                                                                                       (
                                                                                         tt,
-                                                                                        (tt, (tt, (tt, (tt, (tt, (tt, (tt, (tt, (tt, tt))))))))),
+                                                                                        (
+                                                                                          tt,
+                                                                                          (
+                                                                                            tt,
+                                                                                            (
+                                                                                              tt,
+                                                                                              (
+                                                                                                tt,
+                                                                                                (
+                                                                                                  tt,
+                                                                                                  (
+                                                                                                    tt,
+                                                                                                    (
+                                                                                                      tt,
+                                                                                                      (
+                                                                                                        tt,
+                                                                                                        (
+                                                                                                          tt,
+                                                                                                          (
+                                                                                                            tt,
+                                                                                                            (
+                                                                                                              tt,
+                                                                                                              (
+                                                                                                                tt,
+                                                                                                                (tt, tt),
+                                                                                                              ),
+                                                                                                            ),
+                                                                                                          ),
+                                                                                                        ),
+                                                                                                      ),
+                                                                                                    ),
+                                                                                                  ),
+                                                                                                ),
+                                                                                              ),
+                                                                                            ),
+                                                                                          ),
+                                                                                        ),
                                                                                       ),
                                                                                     ),
                                                                                   ),
@@ -6276,38 +6974,37 @@ module _ (claims· : Claims) where
           d76 = Typed.s-typed 𝓤 H A W 𝓣 E G106 b55 Δ1 (λ Ψ. Typed.pass T105 T107 s104 (Typed.pass T107 T108 s105 (Typed.pass T108 T109 s106 Ψ))) tt
               (Typed.g-post 𝓤 H A W 𝓣 E G106 G108 G109 b55 (λ Ψ. Typed.pass T105 T107 s104 (Typed.pass T107 T108 s105 Ψ)) (Typed.pass T108 T109 s106)
               (Typed.g-post 𝓤 H A W 𝓣 E G106 G107 G108 b55 (Typed.pass T105 T107 s104) (Typed.pass T107 T108 s105) (Make.t-enum-make-wt 𝓤 H A W E 𝓣
-              Given.the-type Laws'3.the-laws Laws'3.the-plain tt G106 16 (List._∷_ (Scalar.oInt Syntax.w8 3) (List._∷_ (Scalar.oAt 33 ty0·10
+              Given.the-type Laws'3.the-laws Laws'3.the-plain tt G106 17 (List._∷_ (Scalar.oInt Syntax.w8 3) (List._∷_ (Scalar.oAt 34 ty0·10
               (Laws'8.val Written.the-type Laws'6.the-laws)) List.[])) (λ m. Given.enum .make (Logic.inr (Logic.inr (Logic.inr (Logic.inl (
                 m .1 .1 .1
-                    .1 .1 .1 .1 .1 .1 .1 .1 .1 .1 .1 .1 .1 .1 .1 .1 .1 .1 .1 .1 .1 .1 .1 .1 .1 .1 .1 .1 .1 .1 .0,
-                tt,
-              )))))) (Reads'.room-gone 𝓤 H A ty2·0)
-              (tt, ((Reads.reads-struct 𝓤 H A W Written.the-type Laws'6.the-laws, Path'.refl), tt)) Path'.refl (λ m wa. Make.made-val
-              Given.the-type Laws'3.the-laws (List._∷_ (Laws'8.val Written.the-type Laws'6.the-laws (m .1 .1 .1 .1 .1 .1 .1 .1 .1 .1 .1 .1 .1 .1 .1 .1
-              .1 .1 .1 .1 .1 .1 .1 .1 .1 .1 .1 .1 .1 .1 .1 .1 .1 .0)) List.[]) (Given.enum .make (Logic.inr (Logic.inr (Logic.inr (Logic.inl (
-                m .1 .1
                     .1 .1 .1 .1 .1 .1 .1 .1 .1 .1 .1 .1 .1 .1 .1 .1 .1 .1 .1 .1 .1 .1 .1 .1 .1 .1 .1 .1 .1 .1 .1 .0,
+                tt,
+              )))))) (Reads'.room-gone 𝓤 H A
+              ty2·0) (tt, ((Reads.reads-struct 𝓤 H A W Written.the-type Laws'6.the-laws, Path'.refl), tt)) Path'.refl (λ m wa. Make.made-val
+              Given.the-type Laws'3.the-laws (List._∷_ (Laws'8.val Written.the-type Laws'6.the-laws (m .1 .1 .1 .1 .1 .1 .1 .1 .1 .1 .1 .1 .1 .1 .1 .1
+              .1 .1 .1 .1 .1 .1 .1 .1 .1 .1 .1 .1 .1 .1 .1 .1 .1 .1 .0)) List.[]) (Given.enum .make (Logic.inr (Logic.inr (Logic.inr (Logic.inl (
+                m .1
+                    .1 .1 .1 .1 .1 .1 .1 .1 .1 .1 .1 .1 .1 .1 .1 .1 .1 .1 .1 .1 .1 .1 .1 .1 .1 .1 .1 .1 .1 .1 .1 .1 .1 .0,
                 tt,
               )))))) (
                 Signed.made-wt
                     Written.the-field Laws'6.the-field-laws (Make'.struct-wt Written.the-type Laws'6.the-laws (Make'.u8-wt, (Make'.u64-wt, tt)))
-                    (Written.the-type .to (m .1 .1 .1 .1 .1 .1 .1 .1 .1 .1 .1 .1 .1 .1 .1 .1 .1 .1 .1 .1 .1 .1 .1 .1 .1 .1 .1 .1 .1 .1 .1 .1 .1 .0)),
+                    (Written.the-type .to (m .1 .1 .1 .1 .1 .1 .1 .1 .1 .1 .1 .1 .1 .1 .1 .1 .1 .1 .1 .1 .1 .1 .1 .1 .1 .1 .1 .1 .1 .1 .1 .1 .1 .1 .0)),
                 tt,
-              )
-              (wa .1)) λ m wa. Make.made-is Given.the-type Laws'3.the-laws (List._∷_ (Laws'8.val Written.the-type Laws'6.the-laws (m .1 .1 .1 .1 .1 .1
-              .1 .1 .1 .1 .1 .1 .1 .1 .1 .1 .1 .1 .1 .1 .1 .1 .1 .1 .1 .1 .1 .1 .1 .1 .1 .1 .1 .0)) List.[]) (Given.enum .make (Logic.inr (Logic.inr
-              (Logic.inr (Logic.inl (
-                m .1 .1 .1 .1 .1 .1 .1 .1 .1 .1 .1 .1 .1 .1 .1 .1 .1 .1 .1 .1 .1 .1 .1 .1 .1 .1 .1 .1 .1 .1 .1 .1 .1 .0,
+              ) (wa .1)) λ m wa. Make.made-is Given.the-type Laws'3.the-laws (List._∷_ (Laws'8.val Written.the-type Laws'6.the-laws (m .1 .1 .1 .1 .1
+              .1 .1 .1 .1 .1 .1 .1 .1 .1 .1 .1 .1 .1 .1 .1 .1 .1 .1 .1 .1 .1 .1 .1 .1 .1 .1 .1 .1 .1 .0)) List.[]) (Given.enum .make (Logic.inr
+              (Logic.inr (Logic.inr (Logic.inl (
+                m .1 .1 .1 .1 .1 .1 .1 .1 .1 .1 .1 .1 .1 .1 .1 .1 .1 .1 .1 .1 .1 .1 .1 .1 .1 .1 .1 .1 .1 .1 .1 .1 .1
+                    .1 .0,
                 tt,
               )))))) (
-                Signed.made-wt Written.the-field Laws'6.the-field-laws (Make'.struct-wt Written.the-type Laws'6.the-laws (
-                  Make'.u8-wt,
-                  (Make'.u64-wt, tt),
-                )) (Written.the-type .to (m .1 .1 .1 .1 .1 .1 .1 .1 .1 .1 .1 .1 .1 .1 .1 .1 .1 .1 .1 .1 .1 .1 .1 .1 .1 .1 .1 .1 .1 .1
-                    .1 .1 .1 .0)),
+                Signed.made-wt Written.the-field Laws'6.the-field-laws (Make'.struct-wt Written.the-type Laws'6.the-laws
+                    (Make'.u8-wt, (Make'.u64-wt, tt))) (Written.the-type .to (m .1 .1 .1 .1 .1 .1 .1 .1 .1 .1 .1 .1 .1 .1 .1 .1 .1 .1 .1 .1 .1 .1 .1 .1 .1
+                    .1 .1 .1 .1 .1 .1 .1 .1 .1 .0)),
                 tt,
-              ) (wa .1)) (Scalar.g-room 𝓤 H A W E G107 12 (Syntax.tyInt Syntax.w64) (Scalar.room-sc 𝓤 H A W (Row.sInt
-              Syntax.w64)))) (Scalar.g-room 𝓤 H A W E G108 33 ty0·10 (Local.room-whole 𝓤 H A W (Declared'.row Written.the-type) ty0·10 Path'.refl)))
+              ) (wa .1)) (Scalar.g-room 𝓤 H A W E G107 12 (Syntax.tyInt Syntax.w64) (Scalar.room-sc 𝓤 H A W
+              (Row.sInt Syntax.w64)))) (Scalar.g-room 𝓤 H A W E G108 34 ty0·10 (Local.room-whole 𝓤 H A W (Declared'.row Written.the-type) ty0·10
+              Path'.refl)))
 
           d77 : Typed.Typed 𝓤 H A 𝓣 E G105 b55 Δ1 at77
           d77 = Typed.g-pre 𝓤 H A W 𝓣 E G105 G106 b55 Δ1 (λ Ψ. Ψ) at76 (Lifetime.g-forget 𝓤 H A W E G105 10 Row.dead Path'.refl) d76
@@ -6322,7 +7019,7 @@ module _ (claims· : Claims) where
 
           d79 : Typed.Typed 𝓤 H A 𝓣 E G103 b55 Δ1 at79
           d79 = Typed.g-pre 𝓤 H A W 𝓣 E G103 G104 b55 Δ1 (Typed.both s101) at78 (Relend.g-back-sl 𝓤 H A W E (Referent.rtF (Referent.fInt Syntax.w8))
-              G103 37 4 1 10 (Syntax.tyRef (Syntax.named 1) Syntax.mut (Syntax.tyInt Syntax.w8)) (Syntax.tyRef Syntax.erased Syntax.mut (Syntax.tyInt
+              G103 38 4 1 10 (Syntax.tyRef (Syntax.named 1) Syntax.mut (Syntax.tyInt Syntax.w8)) (Syntax.tyRef Syntax.erased Syntax.mut (Syntax.tyInt
               Syntax.w8)) (Row.lease (κs .1 .0) (qs .1 .0)) (λ x. x) (λ x. x) (Reads'.as-is 𝓤 H A (Mut.msleft (Referent.rtF (Referent.fInt Syntax.w8))
               (Syntax.tyRef Syntax.erased Syntax.mut (Syntax.tyInt Syntax.w8)))) (Reads'.as-is 𝓤 H A (Relend.mslice-owed (Referent.rtF (Referent.fInt
               Syntax.w8)) (Syntax.tyRef (Syntax.named 1) Syntax.mut (Syntax.tyInt Syntax.w8)) 1 10 (Row.lease (κs .1 .0) (qs .1 .0)))) Path'.refl
@@ -6348,7 +7045,7 @@ module _ (claims· : Claims) where
               (Declared'.row Counts.the-type) ty0·8 Path'.refl)) d83
 
           d85 : Typed.Typed 𝓤 H A 𝓣 E G97 b55 Δ1 at85
-          d85 = Typed.g-pre 𝓤 H A W 𝓣 E G97 G98 b55 Δ1 (Typed.pass T97 T98 s95) at84 (Scalar.g-room 𝓤 H A W E G97 35 ty0·11 (Shared.room-sslice 𝓤 H A
+          d85 = Typed.g-pre 𝓤 H A W 𝓣 E G97 G98 b55 Δ1 (Typed.pass T97 T98 s95) at84 (Scalar.g-room 𝓤 H A W E G97 36 ty0·11 (Shared.room-sslice 𝓤 H A
               W (Record.the-row) (Syntax.tyRef Syntax.erased Syntax.imm (Memory·.pointee (Record.the-row .written))) 9)) d84
 
           d86 : Typed.Typed 𝓤 H A 𝓣 E G96 b56 Δ1 at86
@@ -6357,7 +7054,7 @@ module _ (claims· : Claims) where
                 record { pos = 2; st = List.[]; d = 0; at = λ x. x },
                 (
                   record {
-                    pos = 35;
+                    pos = 36;
                     ty =
                         Syntax.tyRef Syntax.erased Syntax.imm (Memory·.pointee (Record.the-row .written));
                     ref = λ x. x;
@@ -6367,7 +7064,7 @@ module _ (claims· : Claims) where
                     (
                       record {
                         pos
-                            = 37;
+                            = 38;
                         ty = Syntax.tyRef Syntax.erased Syntax.mut (Syntax.tyInt Syntax.w8);
                         ref = λ x. x;
                       },
@@ -6375,7 +7072,7 @@ module _ (claims· : Claims) where
                     ),
                   ),
                 ),
-              ) 33 (List._∷_ 9 (List._∷_ 10
+              ) 34 (List._∷_ 9 (List._∷_ 10
               List.[])) (Call'.sub-id 𝓤 H A W (G96 .slots)) (
                 (
                   Yields.yields-copy 𝓤 H A W (λ ρ. Unit) (Declared'.row Counts.the-type) Path'.refl
@@ -6406,7 +7103,7 @@ module _ (claims· : Claims) where
 
           d87 : Typed.Typed 𝓤 H A 𝓣 E G95 b57 Δ1 at87
           d87 = Typed.s-seq 𝓤 H A W 𝓣 E G95 G96 b53 b56 Δ1 (Typed.ask s93) at86 (Relend.t-sl-aggregate 𝓤 H A W E (Referent.rtF (Referent.fInt
-              Syntax.w8)) 𝓣 (Relend.asMut (Referent.rtF (Referent.fInt Syntax.w8))) G95 36 37 10 (Syntax.tyRef Syntax.erased Syntax.mut (Syntax.tyInt
+              Syntax.w8)) 𝓣 (Relend.asMut (Referent.rtF (Referent.fInt Syntax.w8))) G95 37 38 10 (Syntax.tyRef Syntax.erased Syntax.mut (Syntax.tyInt
               Syntax.w8)) (Syntax.tyRef Syntax.erased Syntax.mut (Syntax.tyInt Syntax.w8)) (λ x. x) (Scalar.oFld 4 (List._∷_ (Syntax.field 1) List.[])
               (Syntax.tyInt Syntax.w64) 8 λ v. Shared.lenV (v .0)) (Reads'.as-is 𝓤 H A (Relend.msptr (Referent.rtF (Referent.fInt Syntax.w8))
               (Syntax.tyRef Syntax.erased Syntax.mut (Syntax.tyInt Syntax.w8)) 10)) (Reads'.room-gone 𝓤 H A ty0·14) (
@@ -6418,7 +7115,7 @@ module _ (claims· : Claims) where
 
           d88 : Typed.Typed 𝓤 H A 𝓣 E G94 b58 Δ1 at88
           d88 = Typed.s-seq 𝓤 H A W 𝓣 E G94 G95 b52 b57 Δ1 (Typed.give s92) at87 (Relend.t-sl-relend 𝓤 H A W E (Referent.rtF (Referent.fInt
-              Syntax.w8)) 𝓣 G94 4 36 1 10 (Syntax.tyRef (Syntax.named 1) Syntax.mut (Syntax.tyInt Syntax.w8)) (Syntax.tyRef Syntax.erased Syntax.mut
+              Syntax.w8)) 𝓣 G94 4 37 1 10 (Syntax.tyRef (Syntax.named 1) Syntax.mut (Syntax.tyInt Syntax.w8)) (Syntax.tyRef Syntax.erased Syntax.mut
               (Syntax.tyInt Syntax.w8)) (Row.lease (κs .1 .0) (qs .1 .0)) 0 (λ x. x) (Reads'.as-is 𝓤 H A (Mut.mslice (Referent.rtF (Referent.fInt
               Syntax.w8)) (Syntax.tyRef (Syntax.named 1) Syntax.mut (Syntax.tyInt Syntax.w8)) 1)) (Reads'.room-gone 𝓤 H A (Syntax.tyRef Syntax.erased
               Syntax.mut (Syntax.tyInt Syntax.w8))) Path'.refl tt Path'.refl Path'.refl Path'.refl λ b o. tt) d87
@@ -6508,7 +7205,37 @@ module _ (claims· : Claims) where
                                                                                             tt,
                                                                                             (
                                                                                               tt,
-                                                                                              (tt, (tt, (tt, (tt, (tt, (tt, tt)))))),
+                                                                                              (
+                                                                                                tt,
+                                                                                                (
+                                                                                                  tt,
+                                                                                                  (
+                                                                                                    tt,
+                                                                                                    (
+                                                                                                      tt,
+                                                                                                      (
+                                                                                                        tt,
+                                                                                                        (
+                                                                                                          tt,
+                                                                                                          (
+                                                                                                            tt,
+                                                                                                            (
+                                                                                                              tt,
+                                                                                                              (
+                                                                                                                tt,
+                                                                                                                (
+                                                                                                                  tt,
+                                                                                                                  tt,
+                                                                                                                ),
+                                                                                                              ),
+                                                                                                            ),
+                                                                                                          ),
+                                                                                                        ),
+                                                                                                      ),
+                                                                                                    ),
+                                                                                                  ),
+                                                                                                ),
+                                                                                              ),
                                                                                             ),
                                                                                           ),
                                                                                         ),
@@ -6554,7 +7281,7 @@ module _ (claims· : Claims) where
 
           d90 : Typed.Typed 𝓤 H A 𝓣 E G92 b59 Δ1 at90
           d90 = Typed.s-seq 𝓤 H A W 𝓣 E G92 G93 b51 b58 Δ1 (Typed.ask s90) at89 (Relend.t-sl-aggregate 𝓤 H A W E (Record.the-row) 𝓣 (Relend.asShr
-              (Record.the-row)) G92 34 35 9 (Syntax.tyRef Syntax.erased Syntax.imm (Memory·.pointee (Record.the-row .written))) (Syntax.tyRef
+              (Record.the-row)) G92 35 36 9 (Syntax.tyRef Syntax.erased Syntax.imm (Memory·.pointee (Record.the-row .written))) (Syntax.tyRef
               Syntax.erased Syntax.imm (Memory·.pointee (Record.the-row .written))) (λ x. x) (Scalar.oFld 5 (List._∷_ (Syntax.field 1) List.[])
               (Syntax.tyInt Syntax.w64) 8 λ v. Shared.lenV (v .0)) (Reads'.as-is 𝓤 H A (Relend.ssptr (Record.the-row) (Syntax.tyRef Syntax.erased
               Syntax.imm (Memory·.pointee (Record.the-row .written))) 9)) (Reads'.room-gone 𝓤 H A ty0·11) (
@@ -6565,7 +7292,7 @@ module _ (claims· : Claims) where
               ) Path'.refl Path'.refl λ b o k. tt) d89
 
           d91 : Typed.Typed 𝓤 H A 𝓣 E G91 b60 Δ1 at91
-          d91 = Typed.s-seq 𝓤 H A W 𝓣 E G91 G92 b50 b59 Δ1 (Typed.give s89) at90 (Reshare.t-sl-reshare 𝓤 H A W E (Record.the-row) 𝓣 G91 5 34 2 9
+          d91 = Typed.s-seq 𝓤 H A W 𝓣 E G91 G92 b50 b59 Δ1 (Typed.give s89) at90 (Reshare.t-sl-reshare 𝓤 H A W E (Record.the-row) 𝓣 G91 5 35 2 9
               (Syntax.tyRef (Syntax.named 2) Syntax.mut (Memory·.pointee (Record.the-row .written))) (Syntax.tyRef Syntax.erased Syntax.imm
               (Memory·.pointee (Record.the-row .written))) (Row.lease (κs .1 .1 .0) (qs .1 .1 .0)) 0 (λ x. x) (Reads'.as-is 𝓤 H A (Mut.mslice
               (Record.the-row) (Syntax.tyRef (Syntax.named 2) Syntax.mut (Memory·.pointee (Record.the-row .written))) 2)) (Reads'.room-gone 𝓤 H A
@@ -6651,7 +7378,43 @@ module _ (claims· : Claims) where
                                                                                       tt,
                                                                                       (
                                                                                         tt,
-                                                                                        (tt, (tt, (tt, (tt, (tt, (tt, (tt, (tt, (tt, tt))))))))),
+                                                                                        (
+                                                                                          tt,
+                                                                                          (
+                                                                                            tt,
+                                                                                            (
+                                                                                              tt,
+                                                                                              (
+                                                                                                tt,
+                                                                                                (
+                                                                                                  tt,
+                                                                                                  (
+                                                                                                    tt,
+                                                                                                    (
+                                                                                                      tt,
+                                                                                                      (
+                                                                                                        tt,
+                                                                                                        (
+                                                                                                          tt,
+                                                                                                          (
+                                                                                                            tt,
+                                                                                                            (
+                                                                                                              tt,
+                                                                                                              (
+                                                                                                                tt,
+                                                                                                                (tt, tt),
+                                                                                                              ),
+                                                                                                            ),
+                                                                                                          ),
+                                                                                                        ),
+                                                                                                      ),
+                                                                                                    ),
+                                                                                                  ),
+                                                                                                ),
+                                                                                              ),
+                                                                                            ),
+                                                                                          ),
+                                                                                        ),
                                                                                       ),
                                                                                     ),
                                                                                   ),
@@ -6719,11 +7482,11 @@ module _ (claims· : Claims) where
               (Typed.pass T133 T134 s131 Ψ)))) tt (Typed.g-post 𝓤 H A W 𝓣 E G130 G133 G134 b69 (λ Ψ. Typed.pass T129 T131 s128 (Typed.pass T131 T132
               s129 (Typed.pass T132 T133 s130 Ψ))) (Typed.pass T133 T134 s131) (Typed.g-post 𝓤 H A W 𝓣 E G130 G132 G133 b69 (λ Ψ. Typed.pass T129 T131
               s128 (Typed.pass T131 T132 s129 Ψ)) (Typed.pass T132 T133 s130) (Typed.g-post 𝓤 H A W 𝓣 E G130 G131 G132 b69 (Typed.pass T129 T131 s128)
-              (Typed.pass T131 T132 s129) (Make.t-enum-make-wt 𝓤 H A W E 𝓣 Given.the-type Laws'3.the-laws Laws'3.the-plain tt G130 16 (List._∷_
-              (Scalar.oInt Syntax.w8 3) (List._∷_ (Scalar.oAt 38 ty0·10 (Laws'8.val Written.the-type Laws'6.the-laws)) List.[])) (λ m. Given.enum
+              (Typed.pass T131 T132 s129) (Make.t-enum-make-wt 𝓤 H A W E 𝓣 Given.the-type Laws'3.the-laws Laws'3.the-plain tt G130 17 (List._∷_
+              (Scalar.oInt Syntax.w8 3) (List._∷_ (Scalar.oAt 39 ty0·10 (Laws'8.val Written.the-type Laws'6.the-laws)) List.[])) (λ m. Given.enum
               .make (Logic.inr (Logic.inr (Logic.inr (Logic.inl (
                 m .1 .1 .1 .1 .1 .1 .1 .1 .1 .1 .1 .1 .1 .1 .1 .1 .1 .1 .1 .1 .1 .1 .1 .1 .1 .1 .1
-                    .1 .1 .1 .1 .1 .1 .1 .1 .1 .1 .1 .0,
+                    .1 .1 .1 .1 .1 .1 .1 .1 .1 .1 .1 .1 .0,
                 tt,
               )))))) (Reads'.room-gone 𝓤 H A ty2·0) (
                 tt,
@@ -6737,30 +7500,31 @@ module _ (claims· : Claims) where
                 ),
               ) Path'.refl (λ m wa. Make.made-val Given.the-type Laws'3.the-laws (List._∷_ (Laws'8.val
               Written.the-type Laws'6.the-laws (m .1 .1 .1 .1 .1 .1 .1 .1 .1 .1 .1 .1 .1 .1 .1 .1 .1 .1 .1 .1 .1 .1 .1 .1 .1 .1 .1 .1 .1 .1 .1 .1 .1
-              .1 .1 .1 .1 .1 .0)) List.[]) (Given.enum .make (Logic.inr (Logic.inr (Logic.inr (Logic.inl (
-                m .1 .1 .1 .1 .1 .1 .1 .1 .1 .1 .1 .1 .1 .1
-                    .1 .1 .1 .1 .1 .1 .1 .1 .1 .1 .1 .1 .1 .1 .1 .1 .1 .1 .1 .1 .1 .1 .1 .1 .0,
+              .1 .1 .1 .1 .1 .1 .0)) List.[]) (Given.enum .make (Logic.inr (Logic.inr (Logic.inr (Logic.inl (
+                m .1 .1 .1 .1 .1 .1 .1 .1 .1 .1 .1 .1 .1
+                    .1 .1 .1 .1 .1 .1 .1 .1 .1 .1 .1 .1 .1 .1 .1 .1 .1 .1 .1 .1 .1 .1 .1 .1 .1 .1 .0,
                 tt,
               )))))) (
                 Signed.made-wt Written.the-field
                     Laws'6.the-field-laws (Make'.struct-wt Written.the-type Laws'6.the-laws (Make'.u8-wt, (Make'.u64-wt, tt))) (Written.the-type .to (m .1
-                    .1 .1 .1 .1 .1 .1 .1 .1 .1 .1 .1 .1 .1 .1 .1 .1 .1 .1 .1 .1 .1 .1 .1 .1 .1 .1 .1 .1 .1 .1 .1 .1 .1 .1 .1 .1 .1 .0)),
+                    .1 .1 .1 .1 .1 .1 .1 .1 .1 .1 .1 .1 .1 .1 .1 .1 .1 .1 .1 .1 .1 .1 .1 .1 .1 .1 .1 .1 .1 .1 .1 .1 .1 .1 .1 .1 .1 .1 .0)),
                 tt,
-              ) (wa .1)) λ m
-              wa. Make.made-is Given.the-type Laws'3.the-laws (List._∷_ (Laws'8.val Written.the-type Laws'6.the-laws (m .1 .1 .1 .1 .1 .1 .1 .1 .1 .1
-              .1 .1 .1 .1 .1 .1 .1 .1 .1 .1 .1 .1 .1 .1 .1 .1 .1 .1 .1 .1 .1 .1 .1 .1 .1 .1 .1 .1 .0)) List.[]) (Given.enum .make (Logic.inr
+              ) (wa .1)) λ
+              m wa. Make.made-is Given.the-type Laws'3.the-laws (List._∷_ (Laws'8.val Written.the-type Laws'6.the-laws (m .1 .1 .1 .1 .1 .1 .1 .1 .1
+              .1 .1 .1 .1 .1 .1 .1 .1 .1 .1 .1 .1 .1 .1 .1 .1 .1 .1 .1 .1 .1 .1 .1 .1 .1 .1 .1 .1 .1 .1 .0)) List.[]) (Given.enum .make (Logic.inr
               (Logic.inr (Logic.inr (Logic.inl (
                 m .1 .1 .1 .1 .1 .1 .1 .1 .1 .1 .1 .1 .1 .1 .1 .1 .1 .1 .1 .1 .1 .1 .1 .1 .1 .1 .1 .1 .1 .1 .1 .1 .1
-                    .1 .1 .1 .1 .1 .0,
+                    .1 .1 .1 .1 .1 .1 .0,
                 tt,
               )))))) (
-                Signed.made-wt Written.the-field Laws'6.the-field-laws (Make'.struct-wt Written.the-type Laws'6.the-laws
-                    (Make'.u8-wt, (Make'.u64-wt, tt))) (Written.the-type .to (m .1 .1 .1 .1 .1 .1 .1 .1 .1 .1 .1 .1 .1 .1 .1 .1 .1 .1 .1 .1 .1 .1 .1 .1 .1
-                    .1 .1 .1 .1 .1 .1 .1 .1 .1 .1 .1 .1 .1 .0)),
+                Signed.made-wt Written.the-field Laws'6.the-field-laws (Make'.struct-wt Written.the-type
+                    Laws'6.the-laws (Make'.u8-wt, (Make'.u64-wt, tt))) (Written.the-type .to (m .1 .1 .1 .1 .1 .1 .1 .1 .1 .1 .1 .1 .1 .1 .1 .1 .1 .1 .1 .1
+                    .1 .1 .1 .1 .1 .1 .1 .1 .1 .1 .1 .1 .1 .1 .1 .1 .1 .1 .1 .0)),
                 tt,
-              ) (wa .1)) (Scalar.g-room 𝓤 H A W E G131 13 (Syntax.tyInt Syntax.w64) (Scalar.room-sc 𝓤
-              H A W (Row.sInt Syntax.w64)))) (Scalar.g-room 𝓤 H A W E G132 14 (Syntax.tyInt Syntax.w64) (Scalar.room-sc 𝓤 H A W (Row.sInt
-              Syntax.w64)))) (Scalar.g-room 𝓤 H A W E G133 38 ty0·10 (Local.room-whole 𝓤 H A W (Declared'.row Written.the-type) ty0·10 Path'.refl)))
+              ) (wa .1)) (Scalar.g-room 𝓤 H A W E G131 13 (Syntax.tyInt Syntax.w64)
+              (Scalar.room-sc 𝓤 H A W (Row.sInt Syntax.w64)))) (Scalar.g-room 𝓤 H A W E G132 14 (Syntax.tyInt Syntax.w64) (Scalar.room-sc 𝓤 H A W
+              (Row.sInt Syntax.w64)))) (Scalar.g-room 𝓤 H A W E G133 39 ty0·10 (Local.room-whole 𝓤 H A W (Declared'.row Written.the-type) ty0·10
+              Path'.refl)))
 
           d98 : Typed.Typed 𝓤 H A 𝓣 E G129 b69 Δ1 at98
           d98 = Typed.g-pre 𝓤 H A W 𝓣 E G129 G130 b69 Δ1 (λ Ψ. Ψ) at97 (Lifetime.g-forget 𝓤 H A W E G129 12 Row.dead Path'.refl) d97
@@ -6775,7 +7539,7 @@ module _ (claims· : Claims) where
 
           d100 : Typed.Typed 𝓤 H A 𝓣 E G127 b69 Δ1 at100
           d100 = Typed.g-pre 𝓤 H A W 𝓣 E G127 G128 b69 Δ1 (Typed.both s125) at99 (Relend.g-back-sl 𝓤 H A W E (Referent.rtF (Referent.fInt Syntax.w8))
-              G127 42 4 1 12 (Syntax.tyRef (Syntax.named 1) Syntax.mut (Syntax.tyInt Syntax.w8)) (Syntax.tyRef Syntax.erased Syntax.mut (Syntax.tyInt
+              G127 43 4 1 12 (Syntax.tyRef (Syntax.named 1) Syntax.mut (Syntax.tyInt Syntax.w8)) (Syntax.tyRef Syntax.erased Syntax.mut (Syntax.tyInt
               Syntax.w8)) (Row.lease (κs .1 .0) (qs .1 .0)) (λ x. x) (λ x. x) (Reads'.as-is 𝓤 H A (Mut.msleft (Referent.rtF (Referent.fInt Syntax.w8))
               (Syntax.tyRef Syntax.erased Syntax.mut (Syntax.tyInt Syntax.w8)))) (Reads'.as-is 𝓤 H A (Relend.mslice-owed (Referent.rtF (Referent.fInt
               Syntax.w8)) (Syntax.tyRef (Syntax.named 1) Syntax.mut (Syntax.tyInt Syntax.w8)) 1 12 (Row.lease (κs .1 .0) (qs .1 .0)))) Path'.refl
@@ -6801,7 +7565,7 @@ module _ (claims· : Claims) where
               H A W (Declared'.row Counts.the-type) ty0·8 Path'.refl)) d104
 
           d106 : Typed.Typed 𝓤 H A 𝓣 E G121 b69 Δ1 at106
-          d106 = Typed.g-pre 𝓤 H A W 𝓣 E G121 G122 b69 Δ1 (Typed.pass T121 T122 s119) at105 (Scalar.g-room 𝓤 H A W E G121 40 ty0·11
+          d106 = Typed.g-pre 𝓤 H A W 𝓣 E G121 G122 b69 Δ1 (Typed.pass T121 T122 s119) at105 (Scalar.g-room 𝓤 H A W E G121 41 ty0·11
               (Shared.room-sslice 𝓤 H A W (Record.the-row) (Syntax.tyRef Syntax.erased Syntax.imm (Memory·.pointee (Record.the-row .written))) 11))
               d105
 
@@ -6812,15 +7576,15 @@ module _ (claims· : Claims) where
                 (
                   record { pos = 2; st = List.[]; d = 0; at = λ x. x },
                   (
-                    record { pos = 40; ty = Syntax.tyRef Syntax.erased Syntax.imm (Memory·.pointee (Record.the-row .written)); ref = λ x. x },
+                    record { pos = 41; ty = Syntax.tyRef Syntax.erased Syntax.imm (Memory·.pointee (Record.the-row .written)); ref = λ x. x },
                     (
                       Num.vAt 13
                           λ x. x,
-                      (record { pos = 42; ty = Syntax.tyRef Syntax.erased Syntax.mut (Syntax.tyInt Syntax.w8); ref = λ x. x }, tt),
+                      (record { pos = 43; ty = Syntax.tyRef Syntax.erased Syntax.mut (Syntax.tyInt Syntax.w8); ref = λ x. x }, tt),
                     ),
                   ),
                 ),
-              ) 38
+              ) 39
               (List._∷_ 11 (List._∷_ 12 List.[])) (Call'.sub-id 𝓤 H A W (G120 .slots)) (
                 (Scalar.reads-sc 𝓤 H A W (Row.sInt Syntax.w64), Path'.refl),
                 (
@@ -6852,7 +7616,7 @@ module _ (claims· : Claims) where
 
           d108 : Typed.Typed 𝓤 H A 𝓣 E G119 b71 Δ1 at108
           d108 = Typed.s-seq 𝓤 H A W 𝓣 E G119 G120 b67 b70 Δ1 (Typed.ask s117) at107 (Relend.t-sl-aggregate 𝓤 H A W E (Referent.rtF (Referent.fInt
-              Syntax.w8)) 𝓣 (Relend.asMut (Referent.rtF (Referent.fInt Syntax.w8))) G119 41 42 12 (Syntax.tyRef Syntax.erased Syntax.mut (Syntax.tyInt
+              Syntax.w8)) 𝓣 (Relend.asMut (Referent.rtF (Referent.fInt Syntax.w8))) G119 42 43 12 (Syntax.tyRef Syntax.erased Syntax.mut (Syntax.tyInt
               Syntax.w8)) (Syntax.tyRef Syntax.erased Syntax.mut (Syntax.tyInt Syntax.w8)) (λ x. x) (Scalar.oFld 4 (List._∷_ (Syntax.field 1) List.[])
               (Syntax.tyInt Syntax.w64) 8 λ v. Shared.lenV (v .0)) (Reads'.as-is 𝓤 H A (Relend.msptr (Referent.rtF (Referent.fInt Syntax.w8))
               (Syntax.tyRef Syntax.erased Syntax.mut (Syntax.tyInt Syntax.w8)) 12)) (Reads'.room-gone 𝓤 H A ty0·14) (
@@ -6864,7 +7628,7 @@ module _ (claims· : Claims) where
 
           d109 : Typed.Typed 𝓤 H A 𝓣 E G118 b72 Δ1 at109
           d109 = Typed.s-seq 𝓤 H A W 𝓣 E G118 G119 b66 b71 Δ1 (Typed.give s116) at108 (Relend.t-sl-relend 𝓤 H A W E (Referent.rtF (Referent.fInt
-              Syntax.w8)) 𝓣 G118 4 41 1 12 (Syntax.tyRef (Syntax.named 1) Syntax.mut (Syntax.tyInt Syntax.w8)) (Syntax.tyRef Syntax.erased Syntax.mut
+              Syntax.w8)) 𝓣 G118 4 42 1 12 (Syntax.tyRef (Syntax.named 1) Syntax.mut (Syntax.tyInt Syntax.w8)) (Syntax.tyRef Syntax.erased Syntax.mut
               (Syntax.tyInt Syntax.w8)) (Row.lease (κs .1 .0) (qs .1 .0)) 0 (λ x. x) (Reads'.as-is 𝓤 H A (Mut.mslice (Referent.rtF (Referent.fInt
               Syntax.w8)) (Syntax.tyRef (Syntax.named 1) Syntax.mut (Syntax.tyInt Syntax.w8)) 1)) (Reads'.room-gone 𝓤 H A (Syntax.tyRef Syntax.erased
               Syntax.mut (Syntax.tyInt Syntax.w8))) Path'.refl tt Path'.refl Path'.refl Path'.refl λ b o. tt) d108
@@ -6956,7 +7720,31 @@ module _ (claims· : Claims) where
                                                                                               tt,
                                                                                               (
                                                                                                 tt,
-                                                                                                (tt, (tt, (tt, (tt, (tt, tt))))),
+                                                                                                (
+                                                                                                  tt,
+                                                                                                  (
+                                                                                                    tt,
+                                                                                                    (
+                                                                                                      tt,
+                                                                                                      (
+                                                                                                        tt,
+                                                                                                        (
+                                                                                                          tt,
+                                                                                                          (
+                                                                                                            tt,
+                                                                                                            (
+                                                                                                              tt,
+                                                                                                              (
+                                                                                                                tt,
+                                                                                                                (tt, tt),
+                                                                                                              ),
+                                                                                                            ),
+                                                                                                          ),
+                                                                                                        ),
+                                                                                                      ),
+                                                                                                    ),
+                                                                                                  ),
+                                                                                                ),
                                                                                               ),
                                                                                             ),
                                                                                           ),
@@ -7003,7 +7791,7 @@ module _ (claims· : Claims) where
 
           d111 : Typed.Typed 𝓤 H A 𝓣 E G116 b73 Δ1 at111
           d111 = Typed.s-seq 𝓤 H A W 𝓣 E G116 G117 b65 b72 Δ1 (Typed.ask s114) at110 (Relend.t-sl-aggregate 𝓤 H A W E (Record.the-row) 𝓣 (Relend.asShr
-              (Record.the-row)) G116 39 40 11 (Syntax.tyRef Syntax.erased Syntax.imm (Memory·.pointee (Record.the-row .written))) (Syntax.tyRef
+              (Record.the-row)) G116 40 41 11 (Syntax.tyRef Syntax.erased Syntax.imm (Memory·.pointee (Record.the-row .written))) (Syntax.tyRef
               Syntax.erased Syntax.imm (Memory·.pointee (Record.the-row .written))) (λ x. x) (Scalar.oFld 5 (List._∷_ (Syntax.field 1) List.[])
               (Syntax.tyInt Syntax.w64) 8 λ v. Shared.lenV (v .0)) (Reads'.as-is 𝓤 H A (Relend.ssptr (Record.the-row) (Syntax.tyRef Syntax.erased
               Syntax.imm (Memory·.pointee (Record.the-row .written))) 11)) (Reads'.room-gone 𝓤 H A ty0·11) (
@@ -7014,7 +7802,7 @@ module _ (claims· : Claims) where
               ) Path'.refl Path'.refl λ b o k. tt) d110
 
           d112 : Typed.Typed 𝓤 H A 𝓣 E G115 b74 Δ1 at112
-          d112 = Typed.s-seq 𝓤 H A W 𝓣 E G115 G116 b64 b73 Δ1 (Typed.give s113) at111 (Reshare.t-sl-reshare 𝓤 H A W E (Record.the-row) 𝓣 G115 5 39 2
+          d112 = Typed.s-seq 𝓤 H A W 𝓣 E G115 G116 b64 b73 Δ1 (Typed.give s113) at111 (Reshare.t-sl-reshare 𝓤 H A W E (Record.the-row) 𝓣 G115 5 40 2
               11 (Syntax.tyRef (Syntax.named 2) Syntax.mut (Memory·.pointee (Record.the-row .written))) (Syntax.tyRef Syntax.erased Syntax.imm
               (Memory·.pointee (Record.the-row .written))) (Row.lease (κs .1 .1 .0) (qs .1 .1 .0)) 0 (λ x. x) (Reads'.as-is 𝓤 H A (Mut.mslice
               (Record.the-row) (Syntax.tyRef (Syntax.named 2) Syntax.mut (Memory·.pointee (Record.the-row .written))) 2)) (Reads'.room-gone 𝓤 H A
@@ -7104,7 +7892,40 @@ module _ (claims· : Claims) where
                                                                                           tt,
                                                                                           (
                                                                                             tt,
-                                                                                            (tt, (tt, (tt, (tt, (tt, (tt, (tt, tt))))))),
+                                                                                            (
+                                                                                              tt,
+                                                                                              (
+                                                                                                tt,
+                                                                                                (
+                                                                                                  tt,
+                                                                                                  (
+                                                                                                    tt,
+                                                                                                    (
+                                                                                                      tt,
+                                                                                                      (
+                                                                                                        tt,
+                                                                                                        (
+                                                                                                          tt,
+                                                                                                          (
+                                                                                                            tt,
+                                                                                                            (
+                                                                                                              tt,
+                                                                                                              (
+                                                                                                                tt,
+                                                                                                                (
+                                                                                                                  tt,
+                                                                                                                  tt,
+                                                                                                                ),
+                                                                                                              ),
+                                                                                                            ),
+                                                                                                          ),
+                                                                                                        ),
+                                                                                                      ),
+                                                                                                    ),
+                                                                                                  ),
+                                                                                                ),
+                                                                                              ),
+                                                                                            ),
                                                                                           ),
                                                                                         ),
                                                                                       ),
@@ -7187,18 +8008,18 @@ module _ (claims· : Claims) where
           d119 = Typed.s-typed 𝓤 H A W 𝓣 E G153 b83 Δ1 (λ Ψ. Typed.pass T152 T154 s151 (Typed.pass T154 T155 s152 (Typed.pass T155 T156 s153 Ψ))) tt
               (Typed.g-post 𝓤 H A W 𝓣 E G153 G155 G156 b83 (λ Ψ. Typed.pass T152 T154 s151 (Typed.pass T154 T155 s152 Ψ)) (Typed.pass T155 T156 s153)
               (Typed.g-post 𝓤 H A W 𝓣 E G153 G154 G155 b83 (Typed.pass T152 T154 s151) (Typed.pass T154 T155 s152) (Make.t-enum-make-wt 𝓤 H A W E 𝓣
-              Given.the-type Laws'3.the-laws Laws'3.the-plain tt G153 16 (List._∷_ (Scalar.oInt Syntax.w8 2) (List._∷_ (Scalar.oAt 43 ty1·2
+              Given.the-type Laws'3.the-laws Laws'3.the-plain tt G153 17 (List._∷_ (Scalar.oInt Syntax.w8 2) (List._∷_ (Scalar.oAt 44 ty1·2
               (Laws'8.val Edited.the-type Laws'.the-laws)) List.[])) (λ m. Given.enum .make (Logic.inr (Logic.inr (Logic.inl (
                 m .1 .1 .1 .1 .1 .1 .1
-                    .1 .1 .1 .1 .1 .1 .1 .1 .1 .1 .1 .1 .1 .1 .1 .1 .1 .1 .1 .1 .1 .1 .1 .1 .1 .1 .1 .1 .1 .1 .1 .1 .1 .1 .1 .1 .0,
+                    .1 .1 .1 .1 .1 .1 .1 .1 .1 .1 .1 .1 .1 .1 .1 .1 .1 .1 .1 .1 .1 .1 .1 .1 .1 .1 .1 .1 .1 .1 .1 .1 .1 .1 .1 .1 .1 .0,
                 tt,
               )))))
               (Reads'.room-gone 𝓤 H A ty2·0) (tt, ((Reads.reads-struct 𝓤 H A W Edited.the-type Laws'.the-laws, Path'.refl), tt)) Path'.refl (λ m
               wa. Make.made-val Given.the-type Laws'3.the-laws (List._∷_ (Laws'8.val Edited.the-type Laws'.the-laws (m .1 .1 .1 .1 .1 .1 .1 .1 .1 .1
-              .1 .1 .1 .1 .1 .1 .1 .1 .1 .1 .1 .1 .1 .1 .1 .1 .1 .1 .1 .1 .1 .1 .1 .1 .1 .1 .1 .1 .1 .1 .1 .1 .1 .0)) List.[]) (Given.enum .make
+              .1 .1 .1 .1 .1 .1 .1 .1 .1 .1 .1 .1 .1 .1 .1 .1 .1 .1 .1 .1 .1 .1 .1 .1 .1 .1 .1 .1 .1 .1 .1 .1 .1 .1 .0)) List.[]) (Given.enum .make
               (Logic.inr (Logic.inr (Logic.inl (
                 m .1 .1 .1 .1 .1 .1 .1 .1 .1 .1 .1 .1 .1 .1 .1 .1 .1 .1 .1 .1 .1 .1 .1 .1 .1 .1 .1 .1 .1 .1 .1 .1 .1
-                    .1 .1 .1 .1 .1 .1 .1 .1 .1 .1 .0,
+                    .1 .1 .1 .1 .1 .1 .1 .1 .1 .1 .1 .0,
                 tt,
               ))))) (
                 Signed.made-wt Edited.the-field Laws'.the-field-laws (Make'.struct-wt Edited.the-type
@@ -7209,29 +8030,29 @@ module _ (claims· : Claims) where
                         tt,
                       ),
                     )) (Edited.the-type .to (m .1 .1 .1 .1 .1 .1 .1 .1 .1 .1 .1 .1 .1 .1 .1 .1 .1 .1 .1 .1 .1 .1 .1 .1 .1 .1 .1 .1 .1 .1 .1 .1 .1 .1 .1
-                    .1 .1 .1 .1 .1 .1 .1 .1 .0)),
+                    .1 .1 .1 .1 .1 .1 .1 .1 .1 .0)),
                 tt,
-              ) (wa .1)) λ m wa. Make.made-is Given.the-type Laws'3.the-laws (List._∷_ (Laws'8.val Edited.the-type
-              Laws'.the-laws (m .1 .1 .1 .1 .1 .1 .1 .1 .1 .1 .1 .1 .1 .1 .1 .1 .1 .1 .1 .1 .1 .1 .1 .1 .1 .1 .1 .1 .1 .1 .1 .1 .1 .1 .1 .1 .1 .1 .1
-              .1 .1 .1 .1 .0)) List.[]) (Given.enum .make (Logic.inr (Logic.inr (Logic.inl (
-                m .1 .1 .1 .1 .1 .1 .1 .1 .1 .1 .1 .1 .1 .1 .1 .1 .1 .1
-                    .1 .1 .1 .1 .1 .1 .1 .1 .1 .1 .1 .1 .1 .1 .1 .1 .1 .1 .1 .1 .1 .1 .1 .1 .1 .0,
+              ) (wa .1)) λ m wa. Make.made-is Given.the-type Laws'3.the-laws (List._∷_ (Laws'8.val
+              Edited.the-type Laws'.the-laws (m .1 .1 .1 .1 .1 .1 .1 .1 .1 .1 .1 .1 .1 .1 .1 .1 .1 .1 .1 .1 .1 .1 .1 .1 .1 .1 .1 .1 .1 .1 .1 .1 .1 .1
+              .1 .1 .1 .1 .1 .1 .1 .1 .1 .1 .0)) List.[]) (Given.enum .make (Logic.inr (Logic.inr (Logic.inl (
+                m .1 .1 .1 .1 .1 .1 .1 .1 .1 .1 .1 .1
+                    .1 .1 .1 .1 .1 .1 .1 .1 .1 .1 .1 .1 .1 .1 .1 .1 .1 .1 .1 .1 .1 .1 .1 .1 .1 .1 .1 .1 .1 .1 .1 .1 .0,
                 tt,
               ))))) (
-                Signed.made-wt Edited.the-field
-                    Laws'.the-field-laws (Make'.struct-wt Edited.the-type Laws'.the-laws (
+                Signed.made-wt
+                    Edited.the-field Laws'.the-field-laws (Make'.struct-wt Edited.the-type Laws'.the-laws (
                       Make'.u8-wt,
                       (
-                        Make'.struct-wt Counts.the-type Laws'5.the-laws
-                            (Make'.u64-wt, (Make'.u64-wt, (Make'.u64-wt, tt))),
+                        Make'.struct-wt Counts.the-type
+                            Laws'5.the-laws (Make'.u64-wt, (Make'.u64-wt, (Make'.u64-wt, tt))),
                         tt,
                       ),
-                    )) (Edited.the-type .to (m .1 .1 .1 .1 .1 .1 .1 .1 .1 .1 .1 .1 .1 .1 .1 .1 .1
-                    .1 .1 .1 .1 .1 .1 .1 .1 .1 .1 .1 .1 .1 .1 .1 .1 .1 .1 .1 .1 .1 .1 .1 .1 .1 .1 .0)),
+                    )) (Edited.the-type .to (m .1 .1 .1 .1 .1 .1 .1 .1 .1 .1 .1
+                    .1 .1 .1 .1 .1 .1 .1 .1 .1 .1 .1 .1 .1 .1 .1 .1 .1 .1 .1 .1 .1 .1 .1 .1 .1 .1 .1 .1 .1 .1 .1 .1 .1 .0)),
                 tt,
-              ) (wa .1)) (Scalar.g-room 𝓤 H A W E G154 15
-              (Syntax.tyInt Syntax.w64) (Scalar.room-sc 𝓤 H A W (Row.sInt Syntax.w64)))) (Scalar.g-room 𝓤 H A W E G155 43 ty1·2 (Local.room-whole 𝓤 H
-              A W (Declared'.row Edited.the-type) ty1·2 Path'.refl)))
+              ) (wa .1)) (Scalar.g-room 𝓤
+              H A W E G154 15 (Syntax.tyInt Syntax.w64) (Scalar.room-sc 𝓤 H A W (Row.sInt Syntax.w64)))) (Scalar.g-room 𝓤 H A W E G155 44 ty1·2
+              (Local.room-whole 𝓤 H A W (Declared'.row Edited.the-type) ty1·2 Path'.refl)))
 
           d120 : Typed.Typed 𝓤 H A 𝓣 E G152 b83 Δ1 at120
           d120 = Typed.g-pre 𝓤 H A W 𝓣 E G152 G153 b83 Δ1 (λ Ψ. Ψ) at119 (Lifetime.g-forget 𝓤 H A W E G152 14 Row.dead Path'.refl) d119
@@ -7249,7 +8070,7 @@ module _ (claims· : Claims) where
           d123 = Typed.g-pre 𝓤 H A W 𝓣 E G149 G150 b83 Δ1 (λ Ψ. Ψ) at122 (Lifetime.g-forget 𝓤 H A W E G149 13 Row.dead Path'.refl) d122
 
           d124 : Typed.Typed 𝓤 H A 𝓣 E G148 b83 Δ1 at124
-          d124 = Typed.g-pre 𝓤 H A W 𝓣 E G148 G149 b83 Δ1 (Typed.both s146) at123 (Relend.g-back-sl 𝓤 H A W E (Record.the-row) G148 45 5 2 13
+          d124 = Typed.g-pre 𝓤 H A W 𝓣 E G148 G149 b83 Δ1 (Typed.both s146) at123 (Relend.g-back-sl 𝓤 H A W E (Record.the-row) G148 46 5 2 13
               (Syntax.tyRef (Syntax.named 2) Syntax.mut (Memory·.pointee (Record.the-row .written))) (Syntax.tyRef Syntax.erased Syntax.mut
               (Memory·.pointee (Record.the-row .written))) (Row.lease (κs .1 .1 .0) (qs .1 .1 .0)) (λ x. x) (λ x. x) (Reads'.as-is 𝓤 H A (Mut.msleft
               (Record.the-row) (Syntax.tyRef Syntax.erased Syntax.mut (Memory·.pointee (Record.the-row .written))))) (Reads'.as-is 𝓤 H A
@@ -7264,7 +8085,7 @@ module _ (claims· : Claims) where
               H A W (Declared'.row Counts.the-type) ty0·8 Path'.refl)) d125
 
           d127 : Typed.Typed 𝓤 H A 𝓣 E G145 b83 Δ1 at127
-          d127 = Typed.g-pre 𝓤 H A W 𝓣 E G145 G146 b83 Δ1 (Typed.pass T145 T146 s143) at126 (Scalar.g-room 𝓤 H A W E G145 47 ty0·12
+          d127 = Typed.g-pre 𝓤 H A W 𝓣 E G145 G146 b83 Δ1 (Typed.pass T145 T146 s143) at126 (Scalar.g-room 𝓤 H A W E G145 48 ty0·12
               (Shared.room-sslice 𝓤 H A W (Referent.rtF (Referent.fInt Syntax.w8)) (Syntax.tyRef Syntax.erased Syntax.imm (Syntax.tyInt Syntax.w8))
               14)) d126
 
@@ -7274,7 +8095,7 @@ module _ (claims· : Claims) where
                 record { pos = 2; st = List.[]; d = 0; at = λ x. x },
                 (
                   record {
-                    pos = 45;
+                    pos = 46;
                     ty =
                         Syntax.tyRef Syntax.erased Syntax.mut (Memory·.pointee (Record.the-row .written));
                     ref = λ x. x;
@@ -7284,7 +8105,7 @@ module _ (claims· : Claims) where
                     (
                       record {
                         pos
-                            = 47;
+                            = 48;
                         ty = Syntax.tyRef Syntax.erased Syntax.imm (Syntax.tyInt Syntax.w8);
                         ref = λ x. x;
                       },
@@ -7292,7 +8113,7 @@ module _ (claims· : Claims) where
                     ),
                   ),
                 ),
-              ) 43 (List._∷_ 13 (List._∷_ 14
+              ) 44 (List._∷_ 13 (List._∷_ 14
               List.[])) (Call'.sub-id 𝓤 H A W (G144 .slots)) (
                 (
                   Yields.yields-copy 𝓤 H A W (λ ρ. Unit) (Declared'.row Counts.the-type) Path'.refl
@@ -7323,7 +8144,7 @@ module _ (claims· : Claims) where
 
           d129 : Typed.Typed 𝓤 H A 𝓣 E G143 b85 Δ1 at129
           d129 = Typed.s-seq 𝓤 H A W 𝓣 E G143 G144 b81 b84 Δ1 (Typed.ask s141) at128 (Relend.t-sl-aggregate 𝓤 H A W E (Referent.rtF (Referent.fInt
-              Syntax.w8)) 𝓣 (Relend.asShr (Referent.rtF (Referent.fInt Syntax.w8))) G143 46 47 14 (Syntax.tyRef Syntax.erased Syntax.imm (Syntax.tyInt
+              Syntax.w8)) 𝓣 (Relend.asShr (Referent.rtF (Referent.fInt Syntax.w8))) G143 47 48 14 (Syntax.tyRef Syntax.erased Syntax.imm (Syntax.tyInt
               Syntax.w8)) (Syntax.tyRef Syntax.erased Syntax.imm (Syntax.tyInt Syntax.w8)) (λ x. x) (Scalar.oFld 4 (List._∷_ (Syntax.field 1) List.[])
               (Syntax.tyInt Syntax.w64) 8 λ v. Shared.lenV (v .0)) (Reads'.as-is 𝓤 H A (Relend.ssptr (Referent.rtF (Referent.fInt Syntax.w8))
               (Syntax.tyRef Syntax.erased Syntax.imm (Syntax.tyInt Syntax.w8)) 14)) (Reads'.room-gone 𝓤 H A ty0·12) (
@@ -7335,7 +8156,7 @@ module _ (claims· : Claims) where
 
           d130 : Typed.Typed 𝓤 H A 𝓣 E G142 b86 Δ1 at130
           d130 = Typed.s-seq 𝓤 H A W 𝓣 E G142 G143 b80 b85 Δ1 (Typed.give s140) at129 (Reshare.t-sl-reshare 𝓤 H A W E (Referent.rtF (Referent.fInt
-              Syntax.w8)) 𝓣 G142 4 46 1 14 (Syntax.tyRef (Syntax.named 1) Syntax.mut (Syntax.tyInt Syntax.w8)) (Syntax.tyRef Syntax.erased Syntax.imm
+              Syntax.w8)) 𝓣 G142 4 47 1 14 (Syntax.tyRef (Syntax.named 1) Syntax.mut (Syntax.tyInt Syntax.w8)) (Syntax.tyRef Syntax.erased Syntax.imm
               (Syntax.tyInt Syntax.w8)) (Row.lease (κs .1 .0) (qs .1 .0)) 0 (λ x. x) (Reads'.as-is 𝓤 H A (Mut.mslice (Referent.rtF (Referent.fInt
               Syntax.w8)) (Syntax.tyRef (Syntax.named 1) Syntax.mut (Syntax.tyInt Syntax.w8)) 1)) (Reads'.room-gone 𝓤 H A (Syntax.tyRef Syntax.erased
               Syntax.imm (Syntax.tyInt Syntax.w8))) Path'.refl tt Path'.refl Path'.refl Path'.refl λ b o. tt) d129
@@ -7427,7 +8248,31 @@ module _ (claims· : Claims) where
                                                                                               tt,
                                                                                               (
                                                                                                 tt,
-                                                                                                (tt, (tt, (tt, (tt, (tt, tt))))),
+                                                                                                (
+                                                                                                  tt,
+                                                                                                  (
+                                                                                                    tt,
+                                                                                                    (
+                                                                                                      tt,
+                                                                                                      (
+                                                                                                        tt,
+                                                                                                        (
+                                                                                                          tt,
+                                                                                                          (
+                                                                                                            tt,
+                                                                                                            (
+                                                                                                              tt,
+                                                                                                              (
+                                                                                                                tt,
+                                                                                                                (tt, tt),
+                                                                                                              ),
+                                                                                                            ),
+                                                                                                          ),
+                                                                                                        ),
+                                                                                                      ),
+                                                                                                    ),
+                                                                                                  ),
+                                                                                                ),
                                                                                               ),
                                                                                             ),
                                                                                           ),
@@ -7474,7 +8319,7 @@ module _ (claims· : Claims) where
 
           d132 : Typed.Typed 𝓤 H A 𝓣 E G140 b87 Δ1 at132
           d132 = Typed.s-seq 𝓤 H A W 𝓣 E G140 G141 b79 b86 Δ1 (Typed.ask s138) at131 (Relend.t-sl-aggregate 𝓤 H A W E (Record.the-row) 𝓣 (Relend.asMut
-              (Record.the-row)) G140 44 45 13 (Syntax.tyRef Syntax.erased Syntax.mut (Memory·.pointee (Record.the-row .written))) (Syntax.tyRef
+              (Record.the-row)) G140 45 46 13 (Syntax.tyRef Syntax.erased Syntax.mut (Memory·.pointee (Record.the-row .written))) (Syntax.tyRef
               Syntax.erased Syntax.mut (Memory·.pointee (Record.the-row .written))) (λ x. x) (Scalar.oFld 5 (List._∷_ (Syntax.field 1) List.[])
               (Syntax.tyInt Syntax.w64) 8 λ v. Shared.lenV (v .0)) (Reads'.as-is 𝓤 H A (Relend.msptr (Record.the-row) (Syntax.tyRef Syntax.erased
               Syntax.mut (Memory·.pointee (Record.the-row .written))) 13)) (Reads'.room-gone 𝓤 H A ty0·13) (
@@ -7485,7 +8330,7 @@ module _ (claims· : Claims) where
               ) Path'.refl Path'.refl λ b o k. tt) d131
 
           d133 : Typed.Typed 𝓤 H A 𝓣 E G139 b88 Δ1 at133
-          d133 = Typed.s-seq 𝓤 H A W 𝓣 E G139 G140 b78 b87 Δ1 (Typed.give s137) at132 (Relend.t-sl-relend 𝓤 H A W E (Record.the-row) 𝓣 G139 5 44 2 13
+          d133 = Typed.s-seq 𝓤 H A W 𝓣 E G139 G140 b78 b87 Δ1 (Typed.give s137) at132 (Relend.t-sl-relend 𝓤 H A W E (Record.the-row) 𝓣 G139 5 45 2 13
               (Syntax.tyRef (Syntax.named 2) Syntax.mut (Memory·.pointee (Record.the-row .written))) (Syntax.tyRef Syntax.erased Syntax.mut
               (Memory·.pointee (Record.the-row .written))) (Row.lease (κs .1 .1 .0) (qs .1 .1 .0)) 0 (λ x. x) (Reads'.as-is 𝓤 H A (Mut.mslice
               (Record.the-row) (Syntax.tyRef (Syntax.named 2) Syntax.mut (Memory·.pointee (Record.the-row .written))) 2)) (Reads'.room-gone 𝓤 H A
@@ -7575,7 +8420,40 @@ module _ (claims· : Claims) where
                                                                                           tt,
                                                                                           (
                                                                                             tt,
-                                                                                            (tt, (tt, (tt, (tt, (tt, (tt, (tt, tt))))))),
+                                                                                            (
+                                                                                              tt,
+                                                                                              (
+                                                                                                tt,
+                                                                                                (
+                                                                                                  tt,
+                                                                                                  (
+                                                                                                    tt,
+                                                                                                    (
+                                                                                                      tt,
+                                                                                                      (
+                                                                                                        tt,
+                                                                                                        (
+                                                                                                          tt,
+                                                                                                          (
+                                                                                                            tt,
+                                                                                                            (
+                                                                                                              tt,
+                                                                                                              (
+                                                                                                                tt,
+                                                                                                                (
+                                                                                                                  tt,
+                                                                                                                  tt,
+                                                                                                                ),
+                                                                                                              ),
+                                                                                                            ),
+                                                                                                          ),
+                                                                                                        ),
+                                                                                                      ),
+                                                                                                    ),
+                                                                                                  ),
+                                                                                                ),
+                                                                                              ),
+                                                                                            ),
                                                                                           ),
                                                                                         ),
                                                                                       ),
@@ -7641,51 +8519,399 @@ module _ (claims· : Claims) where
           d138 = Typed.g-pre 𝓤 H A W 𝓣 E G4 G135 b89 Δ1 (Typed.both s132) at137 (Known.g-enum-known 𝓤 H A W E Call.enum 7 G4 1 (λ x. x) (Reads'.as-is
               𝓤 H A (Rows.whole (Declared.row Call.the-type)))) d137
 
-          d139 : Typed.Typed 𝓤 H A 𝓣 E G4 b90 Δ1 at139
-          d139 = Switch.t-switch-on 𝓤 H A W E 𝓣 G4 (Scalar.oFld 1 (List._∷_ (Syntax.variant 0) (List._∷_ (Syntax.field 0) List.[])) (Syntax.tyInt
+          d139 : Typed.Typed 𝓤 H A 𝓣 E G168 b94 Δ1 at139
+          d139 = Typed.s-typed 𝓤 H A W 𝓣 E G168 b94 Δ1 (λ Ψ. Typed.pass T167 T169 s166 (Typed.pass T169 T170 s167 (Typed.pass T170 T171 s168 Ψ))) tt
+              (Typed.g-post 𝓤 H A W 𝓣 E G168 G170 G171 b94 (λ Ψ. Typed.pass T167 T169 s166 (Typed.pass T169 T170 s167 Ψ)) (Typed.pass T170 T171 s168)
+              (Typed.g-post 𝓤 H A W 𝓣 E G168 G169 G170 b94 (Typed.pass T167 T169 s166) (Typed.pass T169 T170 s167) (Make.t-enum-make-wt 𝓤 H A W E 𝓣
+              Given.the-type Laws'3.the-laws Laws'3.the-plain tt G168 17 (List._∷_ (Scalar.oInt Syntax.w8 2) (List._∷_ (Scalar.oAt 49 ty1·2
+              (Laws'8.val Edited.the-type Laws'.the-laws)) List.[])) (λ m. Given.enum .make (Logic.inr (Logic.inr (Logic.inl (
+                m .1 .1 .1 .1 .1 .1 .1
+                    .1 .1 .1 .1 .1 .1 .1 .1 .1 .1 .1 .1 .1 .1 .1 .1 .1 .1 .1 .1 .1 .1 .1 .1 .1 .1 .1 .1 .1 .1 .1 .1 .1 .1 .1 .1 .1 .1 .1 .1 .1 .1 .0,
+                tt,
+              ))))) (Reads'.room-gone 𝓤 H A ty2·0) (tt, ((Reads.reads-struct 𝓤 H A W Edited.the-type Laws'.the-laws, Path'.refl), tt)) Path'.refl
+              (λ m wa. Make.made-val Given.the-type Laws'3.the-laws (List._∷_ (Laws'8.val Edited.the-type Laws'.the-laws (m .1 .1 .1 .1 .1 .1 .1 .1 .1
+              .1 .1 .1 .1 .1 .1 .1 .1 .1 .1 .1 .1 .1 .1 .1 .1 .1 .1 .1 .1 .1 .1 .1 .1 .1 .1 .1 .1 .1 .1 .1 .1 .1 .1 .1 .1 .1 .1 .1 .1 .0)) List.[])
+              (Given.enum .make (Logic.inr (Logic.inr (Logic.inl (
+                m .1 .1 .1 .1 .1 .1 .1 .1 .1 .1 .1 .1 .1 .1 .1 .1 .1 .1 .1 .1 .1 .1 .1 .1 .1 .1 .1
+                    .1 .1 .1 .1 .1 .1 .1 .1 .1 .1 .1 .1 .1 .1 .1 .1 .1 .1 .1 .1 .1 .1 .0,
+                tt,
+              ))))) (
+                Signed.made-wt Edited.the-field Laws'.the-field-laws
+                    (Make'.struct-wt Edited.the-type Laws'.the-laws (
+                      Make'.u8-wt,
+                      (
+                        Make'.struct-wt Counts.the-type Laws'5.the-laws (
+                          Make'.u64-wt,
+                          (Make'.u64-wt, (Make'.u64-wt, tt)),
+                        ),
+                        tt,
+                      ),
+                    )) (Edited.the-type .to (m .1 .1 .1 .1 .1 .1 .1 .1 .1 .1 .1 .1 .1 .1 .1 .1 .1 .1 .1 .1 .1 .1
+                    .1 .1 .1 .1 .1 .1 .1 .1 .1 .1 .1 .1 .1 .1 .1 .1 .1 .1 .1 .1 .1 .1 .1 .1 .1 .1 .1 .0)),
+                tt,
+              ) (wa .1)) λ m wa. Make.made-is
+              Given.the-type Laws'3.the-laws (List._∷_ (Laws'8.val Edited.the-type Laws'.the-laws (m .1 .1 .1 .1 .1 .1 .1 .1 .1 .1 .1 .1 .1 .1 .1 .1
+              .1 .1 .1 .1 .1 .1 .1 .1 .1 .1 .1 .1 .1 .1 .1 .1 .1 .1 .1 .1 .1 .1 .1 .1 .1 .1 .1 .1 .1 .1 .1 .1 .1 .0)) List.[]) (Given.enum .make
+              (Logic.inr (Logic.inr (Logic.inl (
+                m .1 .1 .1 .1 .1 .1 .1 .1 .1 .1 .1 .1 .1 .1 .1 .1 .1 .1 .1 .1 .1 .1 .1 .1 .1 .1 .1 .1 .1 .1 .1 .1 .1
+                    .1 .1 .1 .1 .1 .1 .1 .1 .1 .1 .1 .1 .1 .1 .1 .1 .0,
+                tt,
+              ))))) (
+                Signed.made-wt Edited.the-field Laws'.the-field-laws (Make'.struct-wt
+                    Edited.the-type Laws'.the-laws (
+                      Make'.u8-wt,
+                      (
+                        Make'.struct-wt Counts.the-type Laws'5.the-laws (
+                          Make'.u64-wt,
+                          (
+                            Make'.u64-wt,
+                            (Make'.u64-wt, tt),
+                          ),
+                        ),
+                        tt,
+                      ),
+                    )) (Edited.the-type .to (m .1 .1 .1 .1 .1 .1 .1 .1 .1 .1 .1 .1 .1 .1 .1 .1 .1 .1 .1 .1 .1 .1 .1 .1 .1 .1 .1
+                    .1 .1 .1 .1 .1 .1 .1 .1 .1 .1 .1 .1 .1 .1 .1 .1 .1 .1 .1 .1 .1 .1 .0)),
+                tt,
+              ) (wa .1)) (Scalar.g-room 𝓤 H A W E G169 16 (Syntax.tyInt
+              Syntax.w64) (Scalar.room-sc 𝓤 H A W (Row.sInt Syntax.w64)))) (Scalar.g-room 𝓤 H A W E G170 49 ty1·2 (Local.room-whole 𝓤 H A W
+              (Declared'.row Edited.the-type) ty1·2 Path'.refl)))
+
+          d140 : Typed.Typed 𝓤 H A 𝓣 E G167 b94 Δ1 at140
+          d140 = Typed.g-pre 𝓤 H A W 𝓣 E G167 G168 b94 Δ1 (λ Ψ. Ψ) at139 (Lifetime.g-forget 𝓤 H A W E G167 15 Row.dead Path'.refl) d139
+
+          d141 : Typed.Typed 𝓤 H A 𝓣 E G166 b94 Δ1 at141
+          d141 = Typed.g-pre 𝓤 H A W 𝓣 E G166 G167 b94 Δ1 (Typed.both s164) at140 (Relend.g-back-sl 𝓤 H A W E (Record.the-row) G166 51 5 2 15
+              (Syntax.tyRef (Syntax.named 2) Syntax.mut (Memory·.pointee (Record.the-row .written))) (Syntax.tyRef Syntax.erased Syntax.mut
+              (Memory·.pointee (Record.the-row .written))) (Row.lease (κs .1 .1 .0) (qs .1 .1 .0)) (λ x. x) (λ x. x) (Reads'.as-is 𝓤 H A (Mut.msleft
+              (Record.the-row) (Syntax.tyRef Syntax.erased Syntax.mut (Memory·.pointee (Record.the-row .written))))) (Reads'.as-is 𝓤 H A
+              (Relend.mslice-owed (Record.the-row) (Syntax.tyRef (Syntax.named 2) Syntax.mut (Memory·.pointee (Record.the-row .written))) 2 15
+              (Row.lease (κs .1 .1 .0) (qs .1 .1 .0)))) Path'.refl Path'.refl) d140
+
+          d142 : Typed.Typed 𝓤 H A 𝓣 E G165 b94 Δ1 at142
+          d142 = Typed.g-pre 𝓤 H A W 𝓣 E G165 G166 b94 Δ1 (λ Ψ. Ψ) at141 (Lifetime.g-end 𝓤 H A W E G165 15 Path'.refl) d141
+
+          d143 : Typed.Typed 𝓤 H A 𝓣 E G164 b94 Δ1 at143
+          d143 = Typed.g-pre 𝓤 H A W 𝓣 E G164 G165 b94 Δ1 (Typed.pass T164 T165 s162) at142 (Scalar.g-room 𝓤 H A W E G164 2 ty0·8 (Local.room-whole 𝓤
+              H A W (Declared'.row Counts.the-type) ty0·8 Path'.refl)) d142
+
+          d144 : Typed.Typed 𝓤 H A 𝓣 E G163 b95 Δ1 at144
+          d144 = Typed.s-seq 𝓤 H A W 𝓣 E G163 G164 b93 b94 Δ1 (Typed.both s161) at143 (Plain.t-call-plain 𝓤 H A W 𝓣 1 ps·7 r·7 (claims· .14) (claims·
+              .15) "fold::fold" (known .7) E (λ pos β. β) G163 (
+                record { pos = 2; st = List.[]; d = 0; at = λ x. x },
+                (
+                  record {
+                    pos = 51;
+                    ty =
+                        Syntax.tyRef Syntax.erased Syntax.mut (Memory·.pointee (Record.the-row .written));
+                    ref = λ x. x;
+                  },
+                  (Num.vAt 16 λ x. x, tt),
+                ),
+              ) 49
+              (List._∷_ 15 List.[]) (Call'.sub-id 𝓤 H A W (G163 .slots)) (
+                (
+                  Yields.yields-copy 𝓤 H A W (λ ρ. Unit) (Declared'.row Counts.the-type)
+                      Path'.refl (Copies.cStruct Counts.the-type Laws'5.the-laws Laws'5.the-copy .copy 𝓤 H A W) (Rows.whole (Declared'.row Counts.the-type))
+                      (λ x. x) (λ x. x) (λ ρ told. Local.mem-whole 𝓤 H A W (Declared'.row Counts.the-type) ρ) λ ρ told. Local.whole-mem 𝓤 H A W (Declared'.row
+                      Counts.the-type) ρ,
+                  Path'.refl,
+                ),
+                (
+                  Reads'.as-is 𝓤 H A (Mut.mslice (Record.the-row) (Syntax.tyRef Syntax.erased Syntax.mut
+                      (Memory·.pointee (Record.the-row .written))) 15),
+                  Mut.reads-mslice 𝓤 H A W (Record.the-row) (Syntax.tyRef Syntax.erased Syntax.mut
+                      (Memory·.pointee (Record.the-row .written))) 15,
+                  Path'.refl,
+                  ((Scalar.reads-sc 𝓤 H A W (Row.sInt Syntax.w64), Path'.refl), tt),
+                ),
+              )
+              (Reads'.room-gone 𝓤 H A ty1·2) (tt, tt) Path'.refl) d143
+
+          d145 : Typed.Typed 𝓤 H A 𝓣 E G162 b96 Δ1 at145
+          d145 = Typed.s-seq 𝓤 H A W 𝓣 E G162 G163 b92 b95 Δ1 (Typed.ask s160) at144 (Relend.t-sl-aggregate 𝓤 H A W E (Record.the-row) 𝓣 (Relend.asMut
+              (Record.the-row)) G162 50 51 15 (Syntax.tyRef Syntax.erased Syntax.mut (Memory·.pointee (Record.the-row .written))) (Syntax.tyRef
+              Syntax.erased Syntax.mut (Memory·.pointee (Record.the-row .written))) (λ x. x) (Scalar.oFld 5 (List._∷_ (Syntax.field 1) List.[])
+              (Syntax.tyInt Syntax.w64) 8 λ v. Shared.lenV (v .0)) (Reads'.as-is 𝓤 H A (Relend.msptr (Record.the-row) (Syntax.tyRef Syntax.erased
+              Syntax.mut (Memory·.pointee (Record.the-row .written))) 15)) (Reads'.room-gone 𝓤 H A ty0·13) (
+                Relend.reads-owed-len 𝓤 H A W
+                    (Record.the-row) (Syntax.tyRef (Syntax.named 2) Syntax.mut (Memory·.pointee (Record.the-row .written))) 2 15 (Row.lease (κs .1 .1 .0)
+                    (qs .1 .1 .0)) 8 Path'.refl,
+                Path'.refl,
+              ) Path'.refl Path'.refl λ b o k. tt) d144
+
+          d146 : Typed.Typed 𝓤 H A 𝓣 E G161 b97 Δ1 at146
+          d146 = Typed.s-seq 𝓤 H A W 𝓣 E G161 G162 b91 b96 Δ1 (Typed.give s159) at145 (Relend.t-sl-relend 𝓤 H A W E (Record.the-row) 𝓣 G161 5 50 2 15
+              (Syntax.tyRef (Syntax.named 2) Syntax.mut (Memory·.pointee (Record.the-row .written))) (Syntax.tyRef Syntax.erased Syntax.mut
+              (Memory·.pointee (Record.the-row .written))) (Row.lease (κs .1 .1 .0) (qs .1 .1 .0)) 0 (λ x. x) (Reads'.as-is 𝓤 H A (Mut.mslice
+              (Record.the-row) (Syntax.tyRef (Syntax.named 2) Syntax.mut (Memory·.pointee (Record.the-row .written))) 2)) (Reads'.room-gone 𝓤 H A
+              (Syntax.tyRef Syntax.erased Syntax.mut (Memory·.pointee (Record.the-row .written)))) Path'.refl tt Path'.refl Path'.refl Path'.refl λ b
+              o. tt) d145
+
+          d147 : Typed.Typed 𝓤 H A 𝓣 E G160 b97 Δ1 at147
+          d147 = Typed.g-pre 𝓤 H A W 𝓣 E G160 G161 b97 Δ1 (λ Ψ. Ψ) at146 (Lifetime.g-begin 𝓤 H A W E G160 15 (
+            tt,
+            (
+              tt,
+              (
+                tt,
+                (
+                  tt,
+                  (
+                    tt,
+                    (
+                      tt,
+                      (
+                        tt,
+                        (
+                          tt,
+                          (
+                            tt,
+                            (
+                              tt,
+                              (
+                                tt,
+                                (
+                                  tt,
+                                  (
+                                    tt,
+                                    (
+                                      tt,
+                                      (
+                                        tt,
+                                        (
+                                          tt,
+                                          (
+                                            tt,
+                                            (
+                                              tt,
+                                              (
+                                                tt,
+                                                (
+                                                  tt,
+                                                  (
+                                                    tt,
+                                                    (
+                                                      tt,
+                                                      (
+                                                        tt,
+                                                        (
+                                                          tt,
+                                                          (
+                                                            tt,
+                                                            (
+                                                              tt,
+                                                              (
+                                                                tt,
+                                                                (
+                                                                  tt,
+                                                                  (
+                                                                    tt,
+                                                                    (
+                                                                      tt,
+                                                                      (
+                                                                        tt,
+                                                                        (
+                                                                          tt,
+                                                                          (
+                                                                            tt,
+                                                                            (
+                                                                              tt,
+                                                                              (
+                                                                                tt,
+                                                                                (
+                                                                                  tt,
+                                                                                  (
+                                                                                    tt,
+                                                                                    (
+                                                                                      tt,
+                                                                                      (
+                                                                                        tt,
+                                                                                        (
+                                                                                          tt,
+                                                                                          (
+                                                                                            tt,
+                                                                                            (
+                                                                                              tt,
+                                                                                              (
+                                                                                                tt,
+                                                                                                (
+                                                                                                  tt,
+                                                                                                  (
+                                                                                                    tt,
+                                                                                                    (
+                                                                                                      tt,
+                                                                                                      (
+                                                                                                        tt,
+                                                                                                        (
+                                                                                                          tt,
+                                                                                                          (
+                                                                                                            tt,
+                                                                                                            (
+                                                                                                              tt,
+                                                                                                              (
+                                                                                                                tt,
+                                                                                                                (
+                                                                                                                  tt,
+                                                                                                                  tt,
+                                                                                                                ),
+                                                                                                              ),
+                                                                                                            ),
+                                                                                                          ),
+                                                                                                        ),
+                                                                                                      ),
+                                                                                                    ),
+                                                                                                  ),
+                                                                                                ),
+                                                                                              ),
+                                                                                            ),
+                                                                                          ),
+                                                                                        ),
+                                                                                      ),
+                                                                                    ),
+                                                                                  ),
+                                                                                ),
+                                                                              ),
+                                                                            ),
+                                                                          ),
+                                                                        ),
+                                                                      ),
+                                                                    ),
+                                                                  ),
+                                                                ),
+                                                              ),
+                                                            ),
+                                                          ),
+                                                        ),
+                                                      ),
+                                                    ),
+                                                  ),
+                                                ),
+                                              ),
+                                            ),
+                                          ),
+                                        ),
+                                      ),
+                                    ),
+                                  ),
+                                ),
+                              ),
+                            ),
+                          ),
+                        ),
+                      ),
+                    ),
+                  ),
+                ),
+              ),
+            ),
+          )) d146
+
+          d148 : Typed.Typed 𝓤 H A 𝓣 E G159 b97 Δ1 at148
+          d148 = Typed.g-pre 𝓤 H A W 𝓣 E G159 G160 b97 Δ1 (Typed.pass T159 T160 s157) at147 (Scalar.g-room 𝓤 H A W E G159 1 ty4·0 (Local.room-whole 𝓤
+              H A W (Known.Known Call.enum 8) ty4·0 Path'.refl)) d147
+
+          d149 : Typed.Typed 𝓤 H A 𝓣 E G158 b98 Δ1 at149
+          d149 = Typed.s-seq 𝓤 H A W 𝓣 E G158 G159 b90 b97 Δ1 (Typed.pass T158 T159 s156) at148 (Scalar.t-use 𝓤 H A W E 𝓣 G158 (Scalar.oFld 1
+              (List._∷_ (Syntax.variant 8) (List._∷_ (Syntax.field 1) List.[])) (Syntax.tyInt Syntax.w64) 8 λ v. Laws''.the-laws .1 .1 .1 .1 .1 .1 .1
+              .1 .0 .0 .val (v .0)) 16 (Rows.sc-here (Row.sInt Syntax.w64)) (Syntax.tyInt Syntax.w64) (Row.valS (Row.sInt Syntax.w64)) (Row.sInt
+              Syntax.w64 .of) (
+                Match.reads-payload 𝓤 H A W Call.enum Laws''.the-laws 8 Path'.refl Path'.refl (λ v. Val.vcons (Laws''.the-laws .1 .1
+                    .1 .1 .1 .1 .1 .1 .0 .0 .val (v .0)) Val.vnil) (λ v. Path'.refl) 0 (Syntax.tyInt Syntax.w64) 8 Path'.refl,
+                Path'.refl,
+              )
+              (Reads'.room-gone 𝓤 H A (Syntax.tyInt Syntax.w64)) (Scalar.holds-sc 𝓤 H A W (Row.sInt Syntax.w64)) Path'.refl (λ u. Path'.refl) λ u. tt)
+              d148
+
+          d150 : Typed.Typed 𝓤 H A 𝓣 E G157 b98 Δ1 at150
+          d150 = Typed.g-pre 𝓤 H A W 𝓣 E G157 G158 b98 Δ1 (Typed.give s155) at149 (Known.g-known-told 𝓤 H A W E Call.enum 8 G157 1 Laws''.the-laws (λ
+              x. x) (Reads'.as-is 𝓤 H A (Rows.whole (Known.Known Call.enum 8)))) d149
+
+          d151 : Typed.Typed 𝓤 H A 𝓣 E G4 b98 Δ1 at151
+          d151 = Typed.g-pre 𝓤 H A W 𝓣 E G4 G157 b98 Δ1 (Typed.both s154) at150 (Known.g-enum-known 𝓤 H A W E Call.enum 8 G4 1 (λ x. x) (Reads'.as-is
+              𝓤 H A (Rows.whole (Declared.row Call.the-type)))) d150
+
+          d152 : Typed.Typed 𝓤 H A 𝓣 E G4 b99 Δ1 at152
+          d152 = Switch.t-switch-on 𝓤 H A W E 𝓣 G4 (Scalar.oFld 1 (List._∷_ (Syntax.variant 0) (List._∷_ (Syntax.field 0) List.[])) (Syntax.tyInt
               Syntax.w8) 0 λ x. Val.vint Syntax.w8 (Declared.tagOf Call.the-type x)) Syntax.w8 (λ u. Declared.tagOf Call.the-type (u .1 .0))
               (Syntax.arm (List._∷_ 0 List.[]) b0 (Syntax.arm (List._∷_ 1 List.[]) b11 (Syntax.arm (List._∷_ 2 List.[]) b22 (Syntax.arm (List._∷_ 3
               List.[]) b33 (Syntax.arm (List._∷_ 4 List.[]) b48 (Syntax.arm (List._∷_ 5 List.[]) b61 (Syntax.arm (List._∷_ 6 List.[]) b76 (Syntax.arm
-              (List._∷_ 7 List.[]) b89 Syntax.noDefault)))))))) Δ1 (at3, (at18, (at34, (at53, (at75, (at96, (at118, (at138, tt)))))))) (
-                Match.reads-tag 𝓤 H A W Call.the-type Laws''.the-laws (Rows.whole (Declared.row Call.the-type)) 0 (λ x. x) (Whole.reads-enum 𝓤 H A W
-                    Call.the-type Laws''.the-laws),
+              (List._∷_ 7 List.[]) b89 (Syntax.arm (List._∷_ 8 List.[]) b98 Syntax.noDefault))))))))) Δ1 (
+                at3,
+                (
+                  at18,
+                  (
+                    at34,
+                    (
+                      at53,
+                      (
+                        at75,
+                        (
+                          at96,
+                          (at118, (at138, (at151, tt))),
+                        ),
+                      ),
+                    ),
+                  ),
+                ),
+              ) (
+                Match.reads-tag 𝓤 H A W Call.the-type Laws''.the-laws (Rows.whole (Declared.row Call.the-type)) 0
+                    (λ x. x) (Whole.reads-enum 𝓤 H A W Call.the-type Laws''.the-laws),
                 Path'.refl,
-              ) (λ u. Path'.refl) (d3, (d18, (d34, (d53, (d75, (d96, (d118, (d138, tt))))))))
+              ) (λ u. Path'.refl) (
+                d3,
+                (
+                  d18,
+                  (
+                    d34,
+                    (
+                      d53,
+                      (
+                        d75,
+                        (
+                          d96,
+                          (d118, (d138, (d151, tt))),
+                        ),
+                      ),
+                    ),
+                  ),
+                ),
+              )
 
-          d140 : Typed.Typed 𝓤 H A 𝓣 E G3 b90 Δ1 at140
-          d140 = Typed.g-pre 𝓤 H A W 𝓣 E G3 G4 b90 Δ1 (Typed.give s1) at139 (Know.g-sl-known 𝓤 H A W (Referent.fInt Syntax.w8) E G3 4 1 (Syntax.tyRef
+          d153 : Typed.Typed 𝓤 H A 𝓣 E G3 b99 Δ1 at153
+          d153 = Typed.g-pre 𝓤 H A W 𝓣 E G3 G4 b99 Δ1 (Typed.give s1) at152 (Know.g-sl-known 𝓤 H A W (Referent.fInt Syntax.w8) E G3 4 1 (Syntax.tyRef
               (Syntax.named 1) Syntax.mut (Syntax.tyInt Syntax.w8)) (Row.lease (κs .1 .0) (qs .1 .0)) 0 (λ x. x) record { fits = Dec'.lit< tt }
               (Reads'.as-is 𝓤 H A (Mut.mslice (Referent.rtF (Referent.fInt Syntax.w8)) (Syntax.tyRef (Syntax.named 1) Syntax.mut (Syntax.tyInt
-              Syntax.w8)) 1)) Path'.refl tt) d139
+              Syntax.w8)) 1)) Path'.refl tt) d152
 
-          d141 : Typed.Typed 𝓤 H A 𝓣 E G0 b90 Δ1 at141
-          d141 = Typed.g-pre 𝓤 H A W 𝓣 E G0 G3 b90 Δ1 (Typed.give s0) at140 (Know.g-sl-known 𝓤 H A W (Referent.fInt Syntax.w8) E G0 3 0 (Syntax.tyRef
+          d154 : Typed.Typed 𝓤 H A 𝓣 E G0 b99 Δ1 at154
+          d154 = Typed.g-pre 𝓤 H A W 𝓣 E G0 G3 b99 Δ1 (Typed.give s0) at153 (Know.g-sl-known 𝓤 H A W (Referent.fInt Syntax.w8) E G0 3 0 (Syntax.tyRef
               (Syntax.named 0) Syntax.mut (Syntax.tyInt Syntax.w8)) (Row.lease (κs .0) (qs .0)) 0 (λ x. x) record { fits = Dec'.lit< tt }
               (Reads'.as-is 𝓤 H A (Mut.mslice (Referent.rtF (Referent.fInt Syntax.w8)) (Syntax.tyRef (Syntax.named 0) Syntax.mut (Syntax.tyInt
-              Syntax.w8)) 0)) Path'.refl tt) d140
+              Syntax.w8)) 0)) Path'.refl tt) d153
 
-          d142 : Typed.Typed 𝓤 H A 𝓣 E G158 b92 Δ0 at142
-          d142 = Typed.t-return 𝓤 H A W 𝓣 E Δ0 tt
+          d155 : Typed.Typed 𝓤 H A 𝓣 E G173 b101 Δ0 at155
+          d155 = Typed.t-return 𝓤 H A W 𝓣 E Δ0 tt
 
-          d143 : Typed.Typed 𝓤 H A 𝓣 E G157 b92 Δ0 at143
-          d143 = Typed.g-pre 𝓤 H A W 𝓣 E G157 G158 b92 Δ0 (Typed.pass T157 T158 s155) at142 (Scalar.g-room 𝓤 H A W E G157 16 ty2·0 (Local.room-whole 𝓤
-              H A W (Declared.row Given.the-type) ty2·0 Path'.refl)) d142
+          d156 : Typed.Typed 𝓤 H A 𝓣 E G172 b101 Δ0 at156
+          d156 = Typed.g-pre 𝓤 H A W 𝓣 E G172 G173 b101 Δ0 (Typed.pass T172 T173 s170) at155 (Scalar.g-room 𝓤 H A W E G172 17 ty2·0 (Local.room-whole
+              𝓤 H A W (Declared.row Given.the-type) ty2·0 Path'.refl)) d155
 
-          d144 : Typed.Typed 𝓤 H A 𝓣 E G2 b93 Δ0 at144
-          d144 = Typed.s-seq 𝓤 H A W 𝓣 E G2 G157 b91 b92 Δ0 (Typed.pass T2 T157 s154) at143 (LocalCopy.t-val-copy 𝓤 H A W E 𝓣 (λ ρ. Unit) G2 16 0
+          d157 : Typed.Typed 𝓤 H A 𝓣 E G2 b102 Δ0 at157
+          d157 = Typed.s-seq 𝓤 H A W 𝓣 E G2 G172 b100 b101 Δ0 (Typed.pass T2 T172 s169) at156 (LocalCopy.t-val-copy 𝓤 H A W E 𝓣 (λ ρ. Unit) G2 17 0
               (Declared.row Given.the-type) ty2·0 ty2·0 (Rows.whole (Declared.row Given.the-type)) (Rows.whole (Declared.row Given.the-type)) (λ x. x)
               (λ x. x) (λ x. x) Path'.refl (Own.told-none 𝓤 H A (G2 .slots)) (Yields.yields-copy 𝓤 H A W (λ ρ. Unit) (Declared.row Given.the-type)
               Path'.refl (Copies.cEnum Given.the-type Laws'3.the-laws Laws'3.the-copy .copy 𝓤 H A W) (Rows.whole (Declared.row Given.the-type)) (λ x.
               x) (λ x. x) (λ ρ told. Local.mem-whole 𝓤 H A W (Declared.row Given.the-type) ρ) λ ρ told. Local.whole-mem 𝓤 H A W (Declared.row
               Given.the-type) ρ) (Reads'.room-gone 𝓤 H A ty2·0) (Yields.makes-mem 𝓤 H A W (λ ρ. Unit) (Declared.row Given.the-type) Path'.refl
               (Rows.whole (Declared.row Given.the-type)) (λ x. x) λ ρ told. Local.whole-mem 𝓤 H A W (Declared.row Given.the-type) ρ) Path'.refl
-              Path'.refl) d143
+              Path'.refl) d156
 
-          d145 : Typed.Typed 𝓤 H A 𝓣 E G0 b94 Δ0 at145
-          d145 = Typed.t-seq 𝓤 H A W 𝓣 E G0 G2 b90 b93 Δ0 at141 at144 d141 d144
+          d158 : Typed.Typed 𝓤 H A 𝓣 E G0 b103 Δ0 at158
+          d158 = Typed.t-seq 𝓤 H A W 𝓣 E G0 G2 b99 b102 Δ0 at154 at157 d154 d157
 
-          pub typed : Typed.Typed 𝓤 H A 𝓣 E (Function.Γin 3 ps r xs m κs qs) b94 (Function.Δret 3 ps r xs m κs qs) Φ
-          typed = d145
+          pub typed : Typed.Typed 𝓤 H A 𝓣 E (Function.Γin 3 ps r xs m κs qs) b103 (Function.Δret 3 ps r xs m κs qs) Φ
+          typed = d158
 
       module _ (κs : Lifetimes.Lfts 3) where
         pub record Args : Type 0 where
@@ -7756,7 +8982,7 @@ module _ (claims· : Claims) where
         pub pre : Pre· κs (dens κs args)
 
       abbrev W1 : (κs : Lifetimes.Lfts 3) → (args : Args κs) → Typed.Want O1
-      W1 = λ κs args. Typed.wantNext T2 O0 (at144 (W0 κs args)) (W0 κs args)
+      W1 = λ κs args. Typed.wantNext T2 O0 (at157 (W0 κs args)) (W0 κs args)
 
       abbrev pub m1 : (before : Start) → (given : s0 .gives (m0 (before .κs) (before .args))) → Typed.Mo T3
       m1 = λ before given. s0 .next (m0 (before .κs) (before .args)) given
@@ -7887,7 +9113,7 @@ module _ (claims· : Claims) where
         abbrev pub After-clear·own : Type 0
         After-clear·own = Called.Called ps·0 r·0 (claims· .1) T17 (
           record {
-            pos = 19;
+            pos = 20;
             ty = Syntax.tyRef Syntax.erased Syntax.mut (Memory·.pointee
                 (Record.the-row .written));
             ref = λ x. x;
@@ -7902,7 +9128,7 @@ module _ (claims· : Claims) where
       abbrev pub After-clear·gave : (c : After-clear) → s15 .gives (m14 (c .before .before) (c .before .clear-arg .given))
       After-clear·gave = λ c. Called.given ps·0 r·0 (claims· .1) T17 (
         record {
-          pos = 19;
+          pos = 20;
           ty = Syntax.tyRef Syntax.erased Syntax.mut (Memory·.pointee
               (Record.the-row .written));
           ref = λ x. x;
@@ -8004,7 +9230,7 @@ module _ (claims· : Claims) where
         abbrev pub After-put·own : Type 0
         After-put·own = Called.Called ps·1 r·1 (claims· .3) T34 (
           record {
-            pos = 22;
+            pos = 23;
             ty = Syntax.tyRef Syntax.erased Syntax.mut (Memory·.pointee
                 (Record.the-row .written));
             ref = λ x. x;
@@ -8020,7 +9246,7 @@ module _ (claims· : Claims) where
       abbrev pub After-put·gave : (c : After-put) → s32 .gives (m28 (c .before .before) (c .before .put-arg .given))
       After-put·gave = λ c. Called.given ps·1 r·1 (claims· .3) T34 (
         record {
-          pos = 22;
+          pos = 23;
           ty = Syntax.tyRef Syntax.erased Syntax.mut (Memory·.pointee
               (Record.the-row .written));
           ref = λ x. x;
@@ -8122,14 +9348,14 @@ module _ (claims· : Claims) where
         abbrev pub After-show·own : Type 0
         After-show·own = Called.Called ps·2 r·2 (claims· .5) T51 (
           record {
-            pos = 25;
+            pos = 26;
             ty = Syntax.tyRef Syntax.erased Syntax.imm (Memory·.pointee
                 (Record.the-row .written));
             ref = λ x. x;
           },
           (
             record {
-              pos = 27;
+              pos = 28;
               ty = Syntax.tyRef Syntax.erased Syntax.mut (Syntax.tyInt Syntax.w8);
               ref
                   = λ x. x;
@@ -8145,14 +9371,14 @@ module _ (claims· : Claims) where
       abbrev pub After-show·gave : (c : After-show) → s49 .gives (m41 (c .before .before) (c .before .show-arg2 .given))
       After-show·gave = λ c. Called.given ps·2 r·2 (claims· .5) T51 (
         record {
-          pos = 25;
+          pos = 26;
           ty = Syntax.tyRef Syntax.erased Syntax.imm (Memory·.pointee
               (Record.the-row .written));
           ref = λ x. x;
         },
         (
           record {
-            pos = 27;
+            pos = 28;
             ty = Syntax.tyRef Syntax.erased Syntax.mut (Syntax.tyInt Syntax.w8);
             ref =
                 λ x. x;
@@ -8277,7 +9503,7 @@ module _ (claims· : Claims) where
         abbrev pub After-perform·own : Type 0
         After-perform·own = Called.Called ps·3 r·3 (claims· .7) T73 (
           record {
-            pos = 30;
+            pos = 31;
             ty = Syntax.tyRef Syntax.erased Syntax.mut (Syntax.tyInt
                 Syntax.w8);
             ref = λ x. x;
@@ -8286,7 +9512,7 @@ module _ (claims· : Claims) where
             record { pos = 2; st = List.[]; d = 0; at = λ x. x },
             (
               record {
-                pos = 32;
+                pos = 33;
                 ty = Syntax.tyRef Syntax.erased
                     Syntax.mut (Memory·.pointee (Record.the-row .written));
                 ref = λ x. x;
@@ -8315,7 +9541,7 @@ module _ (claims· : Claims) where
       abbrev pub After-perform·gave : (c : After-perform) → s71 .gives (m57 (c .before .before) (c .before .perform-arg2 .given))
       After-perform·gave = λ c. Called.given ps·3 r·3 (claims· .7) T73 (
         record {
-          pos = 30;
+          pos = 31;
           ty = Syntax.tyRef Syntax.erased Syntax.mut (Syntax.tyInt
               Syntax.w8);
           ref = λ x. x;
@@ -8324,7 +9550,7 @@ module _ (claims· : Claims) where
           record { pos = 2; st = List.[]; d = 0; at = λ x. x },
           (
             record {
-              pos = 32;
+              pos = 33;
               ty = Syntax.tyRef Syntax.erased
                   Syntax.mut (Memory·.pointee (Record.the-row .written));
               ref = λ x. x;
@@ -8475,7 +9701,7 @@ module _ (claims· : Claims) where
           record { pos = 2; st = List.[]; d = 0; at = λ x. x },
           (
             record {
-              pos = 35;
+              pos = 36;
               ty =
                   Syntax.tyRef Syntax.erased Syntax.imm (Memory·.pointee (Record.the-row .written));
               ref = λ x. x;
@@ -8485,7 +9711,7 @@ module _ (claims· : Claims) where
               (
                 record {
                   pos =
-                      37;
+                      38;
                   ty = Syntax.tyRef Syntax.erased Syntax.mut (Syntax.tyInt Syntax.w8);
                   ref = λ x. x;
                 },
@@ -8505,7 +9731,7 @@ module _ (claims· : Claims) where
         record { pos = 2; st = List.[]; d = 0; at = λ x. x },
         (
           record {
-            pos = 35;
+            pos = 36;
             ty =
                 Syntax.tyRef Syntax.erased Syntax.imm (Memory·.pointee (Record.the-row .written));
             ref = λ x. x;
@@ -8515,7 +9741,7 @@ module _ (claims· : Claims) where
             (
               record {
                 pos =
-                    37;
+                    38;
                 ty = Syntax.tyRef Syntax.erased Syntax.mut (Syntax.tyInt Syntax.w8);
                 ref = λ x. x;
               },
@@ -8652,11 +9878,11 @@ module _ (claims· : Claims) where
           (
             record { pos = 2; st = List.[]; d = 0; at = λ x. x },
             (
-              record { pos = 40; ty = Syntax.tyRef Syntax.erased Syntax.imm (Memory·.pointee (Record.the-row .written)); ref = λ x. x },
+              record { pos = 41; ty = Syntax.tyRef Syntax.erased Syntax.imm (Memory·.pointee (Record.the-row .written)); ref = λ x. x },
               (
                 Num.vAt 13
                     λ x. x,
-                (record { pos = 42; ty = Syntax.tyRef Syntax.erased Syntax.mut (Syntax.tyInt Syntax.w8); ref = λ x. x }, tt),
+                (record { pos = 43; ty = Syntax.tyRef Syntax.erased Syntax.mut (Syntax.tyInt Syntax.w8); ref = λ x. x }, tt),
               ),
             ),
           ),
@@ -8678,11 +9904,11 @@ module _ (claims· : Claims) where
             at = λ x. x;
           },
           (
-            record { pos = 40; ty = Syntax.tyRef Syntax.erased Syntax.imm (Memory·.pointee (Record.the-row .written)); ref = λ x. x },
+            record { pos = 41; ty = Syntax.tyRef Syntax.erased Syntax.imm (Memory·.pointee (Record.the-row .written)); ref = λ x. x },
             (
               Num.vAt
                   13 λ x. x,
-              (record { pos = 42; ty = Syntax.tyRef Syntax.erased Syntax.mut (Syntax.tyInt Syntax.w8); ref = λ x. x }, tt),
+              (record { pos = 43; ty = Syntax.tyRef Syntax.erased Syntax.mut (Syntax.tyInt Syntax.w8); ref = λ x. x }, tt),
             ),
           ),
         ),
@@ -8816,7 +10042,7 @@ module _ (claims· : Claims) where
           record { pos = 2; st = List.[]; d = 0; at = λ x. x },
           (
             record {
-              pos = 45;
+              pos = 46;
               ty =
                   Syntax.tyRef Syntax.erased Syntax.mut (Memory·.pointee (Record.the-row .written));
               ref = λ x. x;
@@ -8826,7 +10052,7 @@ module _ (claims· : Claims) where
               (
                 record {
                   pos =
-                      47;
+                      48;
                   ty = Syntax.tyRef Syntax.erased Syntax.imm (Syntax.tyInt Syntax.w8);
                   ref = λ x. x;
                 },
@@ -8846,7 +10072,7 @@ module _ (claims· : Claims) where
         record { pos = 2; st = List.[]; d = 0; at = λ x. x },
         (
           record {
-            pos = 45;
+            pos = 46;
             ty
                 = Syntax.tyRef Syntax.erased Syntax.mut (Memory·.pointee (Record.the-row .written));
             ref = λ x. x;
@@ -8856,7 +10082,7 @@ module _ (claims· : Claims) where
             (
               record {
                 pos =
-                    47;
+                    48;
                 ty = Syntax.tyRef Syntax.erased Syntax.imm (Syntax.tyInt Syntax.w8);
                 ref = λ x. x;
               },
@@ -8896,102 +10122,221 @@ module _ (claims· : Claims) where
         pub before : After-load
         pub records4 : After-records4·own before
 
-      abbrev pub m119 : (before : At-match-keys1) → (given : s2 .gives (m2 (before .before .before) (before .before .slice-known2 .given))) → Typed.Mo
-          T157
-      m119 = λ before given. s154 (m6 before given)
+      module _ (before· : After-slice-known2) where
+        pub record At-match-keys9·own : Type 0 where
+          pub keys9 : Run.OneOf (List._∷_ 8 List.[]) (Declared.tagOf Call.the-type (Row.get 1 (T4 .locals) (m2 (before· .before) (before·
+              .slice-known2 .given))))
 
-      abbrev pub m120 : (before : At-match-keys1) → (given : s2 .gives (m2 (before .before .before) (before .before .slice-known2 .given))) → Typed.Mo
-          T158
-      m120 = λ before given. s155 (m119 before given)
+      pub record At-match-keys9 : Type 0 where
+        pub before : After-slice-known2
+        pub match : At-match-keys9·own before
+
+      abbrev pub Need-enum-known-call-7 : Type 0
+      Need-enum-known-call-7 = (c : At-match-keys9) → s154 .asks (m2 (c .before .before) (c .before .slice-known2 .given))
+
+      abbrev pub m119 : (before : At-match-keys9) → (given : s154 .gives (m2 (before .before .before) (before .before .slice-known2 .given))) →
+          Typed.Mo T157
+      m119 = λ before given. s154 .next (m2 (before .before .before) (before .before .slice-known2 .given)) given
+
+      module _ (before· : At-match-keys9) where
+        pub record After-call7·own : Type 0 where
+          pub given : s154 .gives (m2 (before· .before .before) (before· .before .slice-known2 .given))
+
+      pub record After-call7 : Type 0 where
+        pub before : At-match-keys9
+        pub call7 : After-call7·own before
+
+      abbrev pub m120 : (before : After-call7) → (given : s155 .gives (m119 (before .before) (before .call7 .given))) → Typed.Mo T158
+      m120 = λ before given. s155 .next (m119 (before .before) (before .call7 .given)) given
+
+      abbrev pub m121 : (before : After-call7) → (given : s155 .gives (m119 (before .before) (before .call7 .given))) → Typed.Mo T159
+      m121 = λ before given. s156 (m120 before given)
+
+      abbrev pub m122 : (before : After-call7) → (given : s155 .gives (m119 (before .before) (before .call7 .given))) → Typed.Mo T160
+      m122 = λ before given. s157 (m121 before given)
+
+      module _ (before· : After-call7) where
+        pub record After-known-told7·own : Type 0 where
+          pub given : s155 .gives (m119 (before· .before) (before· .call7 .given))
+
+      pub record After-known-told7 : Type 0 where
+        pub before : After-call7
+        pub known-told7 : After-known-told7·own before
+
+      abbrev pub m123 : (before : After-known-told7) → (given : s159 .gives (m122 (before .before) (before .known-told7 .given))) → Typed.Mo T162
+      m123 = λ before given. s159 .next (m122 (before .before) (before .known-told7 .given)) given
+
+      abbrev pub m124 : (before : After-known-told7) → (given : s159 .gives (m122 (before .before) (before .known-told7 .given))) → Typed.Mo T163
+      m124 = λ before given. s160 .next (m123 before given)
+
+      module _ (before· : After-known-told7) where
+        pub record After-fold-arg·own : Type 0 where
+          pub given : s159 .gives (m122 (before· .before) (before· .known-told7 .given))
+
+      pub record After-fold-arg : Type 0 where
+        pub before : After-known-told7
+        pub fold-arg : After-fold-arg·own before
+
+      abbrev pub Need-fold-requires : Type 0
+      Need-fold-requires = (c : After-fold-arg) → s161 .asks (m124 (c .before) (c .fold-arg .given))
+
+      abbrev pub m125 : (before : After-fold-arg) → (given : s161 .gives (m124 (before .before) (before .fold-arg .given))) → Typed.Mo T164
+      m125 = λ before given. s161 .next (m124 (before .before) (before .fold-arg .given)) given
+
+      module _ (before· : After-fold-arg) where
+        abbrev pub After-fold·own : Type 0
+        After-fold·own = Called.Called ps·7 r·7 (claims· .15) T163 (
+          record { pos = 2; st = List.[]; d = 0; at = λ x. x },
+          (
+            record {
+              pos = 51;
+              ty =
+                  Syntax.tyRef Syntax.erased Syntax.mut (Memory·.pointee (Record.the-row .written));
+              ref = λ x. x;
+            },
+            (Num.vAt 16 λ x. x, tt),
+          ),
+        ) (m124
+            (before· .before) (before· .fold-arg .given))
+
+      pub record After-fold : Type 0 where
+        pub before : After-fold-arg
+        pub fold : After-fold·own before
+
+      abbrev pub After-fold·gave : (c : After-fold) → s161 .gives (m124 (c .before .before) (c .before .fold-arg .given))
+      After-fold·gave = λ c. Called.given ps·7 r·7 (claims· .15) T163 (
+        record { pos = 2; st = List.[]; d = 0; at = λ x. x },
+        (
+          record {
+            pos = 51;
+            ty
+                = Syntax.tyRef Syntax.erased Syntax.mut (Memory·.pointee (Record.the-row .written));
+            ref = λ x. x;
+          },
+          (Num.vAt 16 λ x. x, tt),
+        ),
+      ) (m124 (c
+          .before .before) (c .before .fold-arg .given)) (c .fold)
+
+      abbrev pub m126 : (before : After-fold-arg) → (given : s161 .gives (m124 (before .before) (before .fold-arg .given))) → Typed.Mo T165
+      m126 = λ before given. s162 (m125 before given)
+
+      abbrev pub m127 : (before : After-fold) → (given : s164 .gives (m126 (before .before) (After-fold·gave before))) → Typed.Mo T167
+      m127 = λ before given. s164 .next (m126 (before .before) (After-fold·gave before)) given
+
+      abbrev pub m128 : (before : After-fold) → (given : s164 .gives (m126 (before .before) (After-fold·gave before))) → Typed.Mo T169
+      m128 = λ before given. s166 (m127 before given)
+
+      abbrev pub m129 : (before : After-fold) → (given : s164 .gives (m126 (before .before) (After-fold·gave before))) → Typed.Mo T170
+      m129 = λ before given. s167 (m128 before given)
+
+      abbrev pub m130 : (before : After-fold) → (given : s164 .gives (m126 (before .before) (After-fold·gave before))) → Typed.Mo T171
+      m130 = λ before given. s168 (m129 before given)
+
+      module _ (before· : After-fold) where
+        pub record After-records5·own : Type 0 where
+          pub given : s164 .gives (m126 (before· .before) (After-fold·gave before·))
+
+      pub record After-records5 : Type 0 where
+        pub before : After-fold
+        pub records5 : After-records5·own before
+
+      abbrev pub m131 : (before : At-match-keys1) → (given : s2 .gives (m2 (before .before .before) (before .before .slice-known2 .given))) → Typed.Mo
+          T172
+      m131 = λ before given. s169 (m6 before given)
+
+      abbrev pub m132 : (before : At-match-keys1) → (given : s2 .gives (m2 (before .before .before) (before .before .slice-known2 .given))) → Typed.Mo
+          T173
+      m132 = λ before given. s170 (m131 before given)
 
       abbrev pub Need-returns : Type 0
       Need-returns = (c : After-enum-told) → Post· (c .before .before .before .before .κs) (dens (c .before .before .before .before .κs) (c .before
-          .before .before .before .args)) (Function.resV r (c .before .before .before .before .κs) (m120 (c .before) (c .enum-told .given) .0))
+          .before .before .before .args)) (Function.resV r (c .before .before .before .before .κs) (m132 (c .before) (c .enum-told .given) .0))
           (Clauses.atExit (Kinds.endedOf 3 ps r) (c .before .before .before .before .κs) (dens (c .before .before .before .before .κs) (c .before
           .before .before .before .args)) (Enter.lastsP (c .before .before .before .before .κs) 1 ps xs (dens (c .before .before .before .before .κs)
-          (c .before .before .before .before .args)) (m120 (c .before) (c .enum-told .given) .1)))
+          (c .before .before .before .before .args)) (m132 (c .before) (c .enum-told .given) .1)))
 
-      abbrev pub m121 : (before : After-clear) → (given : s18 .gives (m16 (before .before) (After-clear·gave before))) → Typed.Mo T157
-      m121 = λ before given. s154 (m20 before given)
+      abbrev pub m133 : (before : After-clear) → (given : s18 .gives (m16 (before .before) (After-clear·gave before))) → Typed.Mo T172
+      m133 = λ before given. s169 (m20 before given)
 
-      abbrev pub m122 : (before : After-clear) → (given : s18 .gives (m16 (before .before) (After-clear·gave before))) → Typed.Mo T158
-      m122 = λ before given. s155 (m121 before given)
+      abbrev pub m134 : (before : After-clear) → (given : s18 .gives (m16 (before .before) (After-clear·gave before))) → Typed.Mo T173
+      m134 = λ before given. s170 (m133 before given)
 
       abbrev pub Need-same-length : Type 0
-      Need-same-length = (c : After-records) → MutSlice.SameLen (Row.get 5 (T158 .locals) (m122 (c .before) (c .records .given))) (dens (c .before
+      Need-same-length = (c : After-records) → MutSlice.SameLen (Row.get 5 (T173 .locals) (m134 (c .before) (c .records .given))) (dens (c .before
           .before .before .before .before .before .before .before .κs) (c .before .before .before .before .before .before .before .before .args) .1 .1
           .1 .1 .0)
 
       abbrev pub Need-returns-2 : Type 0
       Need-returns-2 = (c : After-records) → Post· (c .before .before .before .before .before .before .before .before .κs) (dens (c .before .before
           .before .before .before .before .before .before .κs) (c .before .before .before .before .before .before .before .before .args))
-          (Function.resV r (c .before .before .before .before .before .before .before .before .κs) (m122 (c .before) (c .records .given) .0))
+          (Function.resV r (c .before .before .before .before .before .before .before .before .κs) (m134 (c .before) (c .records .given) .0))
           (Clauses.atExit (Kinds.endedOf 3 ps r) (c .before .before .before .before .before .before .before .before .κs) (dens (c .before .before
           .before .before .before .before .before .before .κs) (c .before .before .before .before .before .before .before .before .args))
           (Enter.lastsP (c .before .before .before .before .before .before .before .before .κs) 1 ps xs (dens (c .before .before .before .before
-          .before .before .before .before .κs) (c .before .before .before .before .before .before .before .before .args)) (m122 (c .before) (c
+          .before .before .before .before .κs) (c .before .before .before .before .before .before .before .before .args)) (m134 (c .before) (c
           .records .given) .1)))
 
-      abbrev pub m123 : (before : After-put) → (given : s36 .gives (m31 (before .before) (After-put·gave before))) → Typed.Mo T157
-      m123 = λ before given. s154 (m34 before given)
+      abbrev pub m135 : (before : After-put) → (given : s36 .gives (m31 (before .before) (After-put·gave before))) → Typed.Mo T172
+      m135 = λ before given. s169 (m34 before given)
 
-      abbrev pub m124 : (before : After-put) → (given : s36 .gives (m31 (before .before) (After-put·gave before))) → Typed.Mo T158
-      m124 = λ before given. s155 (m123 before given)
+      abbrev pub m136 : (before : After-put) → (given : s36 .gives (m31 (before .before) (After-put·gave before))) → Typed.Mo T173
+      m136 = λ before given. s170 (m135 before given)
 
       abbrev pub Need-same-length-2 : Type 0
-      Need-same-length-2 = (c : After-records2) → MutSlice.SameLen (Row.get 5 (T158 .locals) (m124 (c .before) (c .records2 .given))) (dens (c .before
+      Need-same-length-2 = (c : After-records2) → MutSlice.SameLen (Row.get 5 (T173 .locals) (m136 (c .before) (c .records2 .given))) (dens (c .before
           .before .before .before .before .before .before .before .κs) (c .before .before .before .before .before .before .before .before .args) .1 .1
           .1 .1 .0)
 
       abbrev pub Need-returns-3 : Type 0
       Need-returns-3 = (c : After-records2) → Post· (c .before .before .before .before .before .before .before .before .κs) (dens (c .before .before
           .before .before .before .before .before .before .κs) (c .before .before .before .before .before .before .before .before .args))
-          (Function.resV r (c .before .before .before .before .before .before .before .before .κs) (m124 (c .before) (c .records2 .given) .0))
+          (Function.resV r (c .before .before .before .before .before .before .before .before .κs) (m136 (c .before) (c .records2 .given) .0))
           (Clauses.atExit (Kinds.endedOf 3 ps r) (c .before .before .before .before .before .before .before .before .κs) (dens (c .before .before
           .before .before .before .before .before .before .κs) (c .before .before .before .before .before .before .before .before .args))
           (Enter.lastsP (c .before .before .before .before .before .before .before .before .κs) 1 ps xs (dens (c .before .before .before .before
-          .before .before .before .before .κs) (c .before .before .before .before .before .before .before .before .args)) (m124 (c .before) (c
+          .before .before .before .before .κs) (c .before .before .before .before .before .before .before .before .args)) (m136 (c .before) (c
           .records2 .given) .1)))
 
-      abbrev pub m125 : (before : After-lent) → (given : s56 .gives (m45 (before .before) (before .lent .given))) → Typed.Mo T157
-      m125 = λ before given. s154 (m48 before given)
+      abbrev pub m137 : (before : After-lent) → (given : s56 .gives (m45 (before .before) (before .lent .given))) → Typed.Mo T172
+      m137 = λ before given. s169 (m48 before given)
 
-      abbrev pub m126 : (before : After-lent) → (given : s56 .gives (m45 (before .before) (before .lent .given))) → Typed.Mo T158
-      m126 = λ before given. s155 (m125 before given)
+      abbrev pub m138 : (before : After-lent) → (given : s56 .gives (m45 (before .before) (before .lent .given))) → Typed.Mo T173
+      m138 = λ before given. s170 (m137 before given)
 
       abbrev pub Need-same-length-3 : Type 0
-      Need-same-length-3 = (c : After-slice-known3) → MutSlice.SameLen (Row.get 4 (T158 .locals) (m126 (c .before) (c .slice-known3 .given))) (dens (c
+      Need-same-length-3 = (c : After-slice-known3) → MutSlice.SameLen (Row.get 4 (T173 .locals) (m138 (c .before) (c .slice-known3 .given))) (dens (c
           .before .before .before .before .before .before .before .before .before .κs) (c .before .before .before .before .before .before .before
           .before .before .args) .1 .1 .1 .0)
 
       abbrev pub Need-same-length-4 : Type 0
-      Need-same-length-4 = (c : After-slice-known3) → MutSlice.SameLen (Row.get 5 (T158 .locals) (m126 (c .before) (c .slice-known3 .given))) (dens (c
+      Need-same-length-4 = (c : After-slice-known3) → MutSlice.SameLen (Row.get 5 (T173 .locals) (m138 (c .before) (c .slice-known3 .given))) (dens (c
           .before .before .before .before .before .before .before .before .before .κs) (c .before .before .before .before .before .before .before
           .before .before .args) .1 .1 .1 .1 .0)
 
       abbrev pub Need-returns-4 : Type 0
       Need-returns-4 = (c : After-slice-known3) → Post· (c .before .before .before .before .before .before .before .before .before .κs) (dens (c
           .before .before .before .before .before .before .before .before .before .κs) (c .before .before .before .before .before .before .before
-          .before .before .args)) (Function.resV r (c .before .before .before .before .before .before .before .before .before .κs) (m126 (c .before)
+          .before .before .args)) (Function.resV r (c .before .before .before .before .before .before .before .before .before .κs) (m138 (c .before)
           (c .slice-known3 .given) .0)) (Clauses.atExit (Kinds.endedOf 3 ps r) (c .before .before .before .before .before .before .before .before
           .before .κs) (dens (c .before .before .before .before .before .before .before .before .before .κs) (c .before .before .before .before
           .before .before .before .before .before .args)) (Enter.lastsP (c .before .before .before .before .before .before .before .before .before
           .κs) 1 ps xs (dens (c .before .before .before .before .before .before .before .before .before .κs) (c .before .before .before .before
-          .before .before .before .before .before .args)) (m126 (c .before) (c .slice-known3 .given) .1)))
+          .before .before .before .before .before .args)) (m138 (c .before) (c .slice-known3 .given) .1)))
 
-      abbrev pub m127 : (before : After-slice-known4) → (given : s79 .gives (m62 (before .before) (before .slice-known4 .given))) → Typed.Mo T157
-      m127 = λ before given. s154 (m66 before given)
+      abbrev pub m139 : (before : After-slice-known4) → (given : s79 .gives (m62 (before .before) (before .slice-known4 .given))) → Typed.Mo T172
+      m139 = λ before given. s169 (m66 before given)
 
-      abbrev pub m128 : (before : After-slice-known4) → (given : s79 .gives (m62 (before .before) (before .slice-known4 .given))) → Typed.Mo T158
-      m128 = λ before given. s155 (m127 before given)
+      abbrev pub m140 : (before : After-slice-known4) → (given : s79 .gives (m62 (before .before) (before .slice-known4 .given))) → Typed.Mo T173
+      m140 = λ before given. s170 (m139 before given)
 
       abbrev pub Need-same-length-5 : Type 0
-      Need-same-length-5 = (c : After-records3) → MutSlice.SameLen (Row.get 3 (T158 .locals) (m128 (c .before) (c .records3 .given))) (dens (c .before
+      Need-same-length-5 = (c : After-records3) → MutSlice.SameLen (Row.get 3 (T173 .locals) (m140 (c .before) (c .records3 .given))) (dens (c .before
           .before .before .before .before .before .before .before .before .before .before .κs) (c .before .before .before .before .before .before
           .before .before .before .before .before .args) .1 .1 .0)
 
       abbrev pub Need-same-length-6 : Type 0
-      Need-same-length-6 = (c : After-records3) → MutSlice.SameLen (Row.get 5 (T158 .locals) (m128 (c .before) (c .records3 .given))) (dens (c .before
+      Need-same-length-6 = (c : After-records3) → MutSlice.SameLen (Row.get 5 (T173 .locals) (m140 (c .before) (c .records3 .given))) (dens (c .before
           .before .before .before .before .before .before .before .before .before .before .κs) (c .before .before .before .before .before .before
           .before .before .before .before .before .args) .1 .1 .1 .1 .0)
 
@@ -8999,26 +10344,26 @@ module _ (claims· : Claims) where
       Need-returns-5 = (c : After-records3) → Post· (c .before .before .before .before .before .before .before .before .before .before .before .κs)
           (dens (c .before .before .before .before .before .before .before .before .before .before .before .κs) (c .before .before .before .before
           .before .before .before .before .before .before .before .args)) (Function.resV r (c .before .before .before .before .before .before .before
-          .before .before .before .before .κs) (m128 (c .before) (c .records3 .given) .0)) (Clauses.atExit (Kinds.endedOf 3 ps r) (c .before .before
+          .before .before .before .before .κs) (m140 (c .before) (c .records3 .given) .0)) (Clauses.atExit (Kinds.endedOf 3 ps r) (c .before .before
           .before .before .before .before .before .before .before .before .before .κs) (dens (c .before .before .before .before .before .before
           .before .before .before .before .before .κs) (c .before .before .before .before .before .before .before .before .before .before .before
           .args)) (Enter.lastsP (c .before .before .before .before .before .before .before .before .before .before .before .κs) 1 ps xs (dens (c
           .before .before .before .before .before .before .before .before .before .before .before .κs) (c .before .before .before .before .before
-          .before .before .before .before .before .before .args)) (m128 (c .before) (c .records3 .given) .1)))
+          .before .before .before .before .before .before .args)) (m140 (c .before) (c .records3 .given) .1)))
 
-      abbrev pub m129 : (before : After-lent2) → (given : s102 .gives (m79 (before .before) (before .lent2 .given))) → Typed.Mo T157
-      m129 = λ before given. s154 (m83 before given)
+      abbrev pub m141 : (before : After-lent2) → (given : s102 .gives (m79 (before .before) (before .lent2 .given))) → Typed.Mo T172
+      m141 = λ before given. s169 (m83 before given)
 
-      abbrev pub m130 : (before : After-lent2) → (given : s102 .gives (m79 (before .before) (before .lent2 .given))) → Typed.Mo T158
-      m130 = λ before given. s155 (m129 before given)
+      abbrev pub m142 : (before : After-lent2) → (given : s102 .gives (m79 (before .before) (before .lent2 .given))) → Typed.Mo T173
+      m142 = λ before given. s170 (m141 before given)
 
       abbrev pub Need-same-length-7 : Type 0
-      Need-same-length-7 = (c : After-slice-known5) → MutSlice.SameLen (Row.get 4 (T158 .locals) (m130 (c .before) (c .slice-known5 .given))) (dens (c
+      Need-same-length-7 = (c : After-slice-known5) → MutSlice.SameLen (Row.get 4 (T173 .locals) (m142 (c .before) (c .slice-known5 .given))) (dens (c
           .before .before .before .before .before .before .before .before .before .before .κs) (c .before .before .before .before .before .before
           .before .before .before .before .args) .1 .1 .1 .0)
 
       abbrev pub Need-same-length-8 : Type 0
-      Need-same-length-8 = (c : After-slice-known5) → MutSlice.SameLen (Row.get 5 (T158 .locals) (m130 (c .before) (c .slice-known5 .given))) (dens (c
+      Need-same-length-8 = (c : After-slice-known5) → MutSlice.SameLen (Row.get 5 (T173 .locals) (m142 (c .before) (c .slice-known5 .given))) (dens (c
           .before .before .before .before .before .before .before .before .before .before .κs) (c .before .before .before .before .before .before
           .before .before .before .before .args) .1 .1 .1 .1 .0)
 
@@ -9026,26 +10371,26 @@ module _ (claims· : Claims) where
       Need-returns-6 = (c : After-slice-known5) → Post· (c .before .before .before .before .before .before .before .before .before .before .κs) (dens
           (c .before .before .before .before .before .before .before .before .before .before .κs) (c .before .before .before .before .before .before
           .before .before .before .before .args)) (Function.resV r (c .before .before .before .before .before .before .before .before .before .before
-          .κs) (m130 (c .before) (c .slice-known5 .given) .0)) (Clauses.atExit (Kinds.endedOf 3 ps r) (c .before .before .before .before .before
+          .κs) (m142 (c .before) (c .slice-known5 .given) .0)) (Clauses.atExit (Kinds.endedOf 3 ps r) (c .before .before .before .before .before
           .before .before .before .before .before .κs) (dens (c .before .before .before .before .before .before .before .before .before .before .κs)
           (c .before .before .before .before .before .before .before .before .before .before .args)) (Enter.lastsP (c .before .before .before .before
           .before .before .before .before .before .before .κs) 1 ps xs (dens (c .before .before .before .before .before .before .before .before
-          .before .before .κs) (c .before .before .before .before .before .before .before .before .before .before .args)) (m130 (c .before) (c
+          .before .before .κs) (c .before .before .before .before .before .before .before .before .before .before .args)) (m142 (c .before) (c
           .slice-known5 .given) .1)))
 
-      abbrev pub m131 : (before : After-lent3) → (given : s126 .gives (m97 (before .before) (before .lent3 .given))) → Typed.Mo T157
-      m131 = λ before given. s154 (m102 before given)
+      abbrev pub m143 : (before : After-lent3) → (given : s126 .gives (m97 (before .before) (before .lent3 .given))) → Typed.Mo T172
+      m143 = λ before given. s169 (m102 before given)
 
-      abbrev pub m132 : (before : After-lent3) → (given : s126 .gives (m97 (before .before) (before .lent3 .given))) → Typed.Mo T158
-      m132 = λ before given. s155 (m131 before given)
+      abbrev pub m144 : (before : After-lent3) → (given : s126 .gives (m97 (before .before) (before .lent3 .given))) → Typed.Mo T173
+      m144 = λ before given. s170 (m143 before given)
 
       abbrev pub Need-same-length-9 : Type 0
-      Need-same-length-9 = (c : After-slice-known6) → MutSlice.SameLen (Row.get 4 (T158 .locals) (m132 (c .before) (c .slice-known6 .given))) (dens (c
+      Need-same-length-9 = (c : After-slice-known6) → MutSlice.SameLen (Row.get 4 (T173 .locals) (m144 (c .before) (c .slice-known6 .given))) (dens (c
           .before .before .before .before .before .before .before .before .before .before .κs) (c .before .before .before .before .before .before
           .before .before .before .before .args) .1 .1 .1 .0)
 
       abbrev pub Need-same-length-10 : Type 0
-      Need-same-length-10 = (c : After-slice-known6) → MutSlice.SameLen (Row.get 5 (T158 .locals) (m132 (c .before) (c .slice-known6 .given))) (dens
+      Need-same-length-10 = (c : After-slice-known6) → MutSlice.SameLen (Row.get 5 (T173 .locals) (m144 (c .before) (c .slice-known6 .given))) (dens
           (c .before .before .before .before .before .before .before .before .before .before .κs) (c .before .before .before .before .before .before
           .before .before .before .before .args) .1 .1 .1 .1 .0)
 
@@ -9053,52 +10398,74 @@ module _ (claims· : Claims) where
       Need-returns-7 = (c : After-slice-known6) → Post· (c .before .before .before .before .before .before .before .before .before .before .κs) (dens
           (c .before .before .before .before .before .before .before .before .before .before .κs) (c .before .before .before .before .before .before
           .before .before .before .before .args)) (Function.resV r (c .before .before .before .before .before .before .before .before .before .before
-          .κs) (m132 (c .before) (c .slice-known6 .given) .0)) (Clauses.atExit (Kinds.endedOf 3 ps r) (c .before .before .before .before .before
+          .κs) (m144 (c .before) (c .slice-known6 .given) .0)) (Clauses.atExit (Kinds.endedOf 3 ps r) (c .before .before .before .before .before
           .before .before .before .before .before .κs) (dens (c .before .before .before .before .before .before .before .before .before .before .κs)
           (c .before .before .before .before .before .before .before .before .before .before .args)) (Enter.lastsP (c .before .before .before .before
           .before .before .before .before .before .before .κs) 1 ps xs (dens (c .before .before .before .before .before .before .before .before
-          .before .before .κs) (c .before .before .before .before .before .before .before .before .before .before .args)) (m132 (c .before) (c
+          .before .before .κs) (c .before .before .before .before .before .before .before .before .before .before .args)) (m144 (c .before) (c
           .slice-known6 .given) .1)))
 
-      abbrev pub m133 : (before : After-load) → (given : s146 .gives (m113 (before .before) (After-load·gave before))) → Typed.Mo T157
-      m133 = λ before given. s154 (m118 before given)
+      abbrev pub m145 : (before : After-load) → (given : s146 .gives (m113 (before .before) (After-load·gave before))) → Typed.Mo T172
+      m145 = λ before given. s169 (m118 before given)
 
-      abbrev pub m134 : (before : After-load) → (given : s146 .gives (m113 (before .before) (After-load·gave before))) → Typed.Mo T158
-      m134 = λ before given. s155 (m133 before given)
+      abbrev pub m146 : (before : After-load) → (given : s146 .gives (m113 (before .before) (After-load·gave before))) → Typed.Mo T173
+      m146 = λ before given. s170 (m145 before given)
 
       abbrev pub Need-same-length-11 : Type 0
-      Need-same-length-11 = (c : After-records4) → MutSlice.SameLen (Row.get 4 (T158 .locals) (m134 (c .before) (c .records4 .given))) (dens (c
+      Need-same-length-11 = (c : After-records4) → MutSlice.SameLen (Row.get 4 (T173 .locals) (m146 (c .before) (c .records4 .given))) (dens (c
           .before .before .before .before .before .before .before .before .before .κs) (c .before .before .before .before .before .before .before
           .before .before .args) .1 .1 .1 .0)
 
       abbrev pub Need-same-length-12 : Type 0
-      Need-same-length-12 = (c : After-records4) → MutSlice.SameLen (Row.get 5 (T158 .locals) (m134 (c .before) (c .records4 .given))) (dens (c
+      Need-same-length-12 = (c : After-records4) → MutSlice.SameLen (Row.get 5 (T173 .locals) (m146 (c .before) (c .records4 .given))) (dens (c
           .before .before .before .before .before .before .before .before .before .κs) (c .before .before .before .before .before .before .before
           .before .before .args) .1 .1 .1 .1 .0)
 
       abbrev pub Need-returns-8 : Type 0
       Need-returns-8 = (c : After-records4) → Post· (c .before .before .before .before .before .before .before .before .before .κs) (dens (c .before
           .before .before .before .before .before .before .before .before .κs) (c .before .before .before .before .before .before .before .before
-          .before .args)) (Function.resV r (c .before .before .before .before .before .before .before .before .before .κs) (m134 (c .before) (c
+          .before .args)) (Function.resV r (c .before .before .before .before .before .before .before .before .before .κs) (m146 (c .before) (c
           .records4 .given) .0)) (Clauses.atExit (Kinds.endedOf 3 ps r) (c .before .before .before .before .before .before .before .before .before
           .κs) (dens (c .before .before .before .before .before .before .before .before .before .κs) (c .before .before .before .before .before
           .before .before .before .before .args)) (Enter.lastsP (c .before .before .before .before .before .before .before .before .before .κs) 1 ps
           xs (dens (c .before .before .before .before .before .before .before .before .before .κs) (c .before .before .before .before .before .before
-          .before .before .before .args)) (m134 (c .before) (c .records4 .given) .1)))
+          .before .before .before .args)) (m146 (c .before) (c .records4 .given) .1)))
+
+      abbrev pub m147 : (before : After-fold) → (given : s164 .gives (m126 (before .before) (After-fold·gave before))) → Typed.Mo T172
+      m147 = λ before given. s169 (m130 before given)
+
+      abbrev pub m148 : (before : After-fold) → (given : s164 .gives (m126 (before .before) (After-fold·gave before))) → Typed.Mo T173
+      m148 = λ before given. s170 (m147 before given)
+
+      abbrev pub Need-same-length-13 : Type 0
+      Need-same-length-13 = (c : After-records5) → MutSlice.SameLen (Row.get 5 (T173 .locals) (m148 (c .before) (c .records5 .given))) (dens (c
+          .before .before .before .before .before .before .before .before .κs) (c .before .before .before .before .before .before .before .before
+          .args) .1 .1 .1 .1 .0)
+
+      abbrev pub Need-returns-9 : Type 0
+      Need-returns-9 = (c : After-records5) → Post· (c .before .before .before .before .before .before .before .before .κs) (dens (c .before .before
+          .before .before .before .before .before .before .κs) (c .before .before .before .before .before .before .before .before .args))
+          (Function.resV r (c .before .before .before .before .before .before .before .before .κs) (m148 (c .before) (c .records5 .given) .0))
+          (Clauses.atExit (Kinds.endedOf 3 ps r) (c .before .before .before .before .before .before .before .before .κs) (dens (c .before .before
+          .before .before .before .before .before .before .κs) (c .before .before .before .before .before .before .before .before .args))
+          (Enter.lastsP (c .before .before .before .before .before .before .before .before .κs) 1 ps xs (dens (c .before .before .before .before
+          .before .before .before .before .κs) (c .before .before .before .before .before .before .before .before .args)) (m148 (c .before) (c
+          .records5 .given) .1)))
 
       module _ (enum-told : Need-enum-told) (enum-known-call : Need-enum-known-call) (clear-requires : Need-clear-requires) (enum-known-call-2 :
           Need-enum-known-call-2) (put-requires : Need-put-requires) (enum-told-2 : Need-enum-told-2) (show-requires : Need-show-requires)
           (enum-known-call-3 : Need-enum-known-call-3) (perform-requires : Need-perform-requires) (enum-known-call-4 : Need-enum-known-call-4)
           (write-requires : Need-write-requires) (enum-known-call-5 : Need-enum-known-call-5) (write-line-requires : Need-write-line-requires)
-          (enum-known-call-6 : Need-enum-known-call-6) (load-requires : Need-load-requires) (returns : Need-returns) (same-length : Need-same-length)
-          (returns-2 : Need-returns-2) (same-length-2 : Need-same-length-2) (returns-3 : Need-returns-3) (same-length-3 : Need-same-length-3)
-          (same-length-4 : Need-same-length-4) (returns-4 : Need-returns-4) (same-length-5 : Need-same-length-5) (same-length-6 : Need-same-length-6)
-          (returns-5 : Need-returns-5) (same-length-7 : Need-same-length-7) (same-length-8 : Need-same-length-8) (returns-6 : Need-returns-6)
-          (same-length-9 : Need-same-length-9) (same-length-10 : Need-same-length-10) (returns-7 : Need-returns-7) (same-length-11 :
-          Need-same-length-11) (same-length-12 : Need-same-length-12) (returns-8 : Need-returns-8) where
-        lay15 : (c : After-records4) → at144 (W0 (c .before .before .before .before .before .before .before .before .before .κs) (c .before .before
-            .before .before .before .before .before .before .before .args)) (m118 (c .before) (c .records4 .given))
-        lay15 = λ c. (
+          (enum-known-call-6 : Need-enum-known-call-6) (load-requires : Need-load-requires) (enum-known-call-7 : Need-enum-known-call-7)
+          (fold-requires : Need-fold-requires) (returns : Need-returns) (same-length : Need-same-length) (returns-2 : Need-returns-2) (same-length-2 :
+          Need-same-length-2) (returns-3 : Need-returns-3) (same-length-3 : Need-same-length-3) (same-length-4 : Need-same-length-4) (returns-4 :
+          Need-returns-4) (same-length-5 : Need-same-length-5) (same-length-6 : Need-same-length-6) (returns-5 : Need-returns-5) (same-length-7 :
+          Need-same-length-7) (same-length-8 : Need-same-length-8) (returns-6 : Need-returns-6) (same-length-9 : Need-same-length-9) (same-length-10 :
+          Need-same-length-10) (returns-7 : Need-returns-7) (same-length-11 : Need-same-length-11) (same-length-12 : Need-same-length-12) (returns-8 :
+          Need-returns-8) (same-length-13 : Need-same-length-13) (returns-9 : Need-returns-9) where
+        lay17 : (c : After-records5) → at157 (W0 (c .before .before .before .before .before .before .before .before .κs) (c .before .before .before
+            .before .before .before .before .before .args)) (m130 (c .before) (c .records5 .given))
+        lay17 = λ c. (
           (
             tt,
             (
@@ -9106,13 +10473,38 @@ module _ (claims· : Claims) where
               (
                 Path'.refl,
                 (
-                  MutSlice.fix-len (Row.get 4 (T158 .locals) (m134 (c .before) (c .records4 .given)) .ptr) (Row.get 4
-                      (T158 .locals) (m134 (c .before) (c .records4 .given)) .name) (Row.get 4 (T158 .locals) (m134 (c .before) (c .records4 .given)) .now)
+                  Path'.refl,
+                  (
+                    MutSlice.fix-len (Row.get 5 (T173 .locals) (m148 (c .before) (c .records5 .given))
+                        .ptr) (Row.get 5 (T173 .locals) (m148 (c .before) (c .records5 .given)) .name) (Row.get 5 (T173 .locals) (m148 (c .before) (c .records5
+                        .given)) .now) (dens (c .before .before .before .before .before .before .before .before .κs) (c .before .before .before .before .before
+                        .before .before .before .args) .1 .1 .1 .1 .0 .now) (same-length-13 record { before = c .before; records5 = c .records5 }),
+                    tt,
+                  ),
+                ),
+              ),
+            ),
+          ),
+          returns-9 record { before = c .before; records5 = c .records5 },
+        )
+
+        lay16 : (c : After-records4) → at157 (W0 (c .before .before .before .before .before .before .before .before .before .κs) (c .before .before
+            .before .before .before .before .before .before .before .args)) (m118 (c .before) (c .records4 .given))
+        lay16 = λ c. (
+          (
+            tt,
+            (
+              tt,
+              (
+                Path'.refl,
+                (
+                  MutSlice.fix-len (Row.get 4 (T173 .locals) (m146 (c .before) (c .records4 .given)) .ptr) (Row.get 4
+                      (T173 .locals) (m146 (c .before) (c .records4 .given)) .name) (Row.get 4 (T173 .locals) (m146 (c .before) (c .records4 .given)) .now)
                       (dens (c .before .before .before .before .before .before .before .before .before .κs) (c .before .before .before .before .before .before
                       .before .before .before .args) .1 .1 .1 .0 .now) (same-length-11 record { before = c .before; records4 = c .records4 }),
                   (
-                    MutSlice.fix-len (Row.get 5 (T158 .locals) (m134 (c .before) (c .records4 .given)) .ptr) (Row.get 5 (T158 .locals) (m134 (c .before) (c
-                        .records4 .given)) .name) (Row.get 5 (T158 .locals) (m134 (c .before) (c .records4 .given)) .now) (dens (c .before .before .before .before
+                    MutSlice.fix-len (Row.get 5 (T173 .locals) (m146 (c .before) (c .records4 .given)) .ptr) (Row.get 5 (T173 .locals) (m146 (c .before) (c
+                        .records4 .given)) .name) (Row.get 5 (T173 .locals) (m146 (c .before) (c .records4 .given)) .now) (dens (c .before .before .before .before
                         .before .before .before .before .before .κs) (c .before .before .before .before .before .before .before .before .before .args) .1 .1 .1 .1
                         .0 .now) (same-length-12 record { before = c .before; records4 = c .records4 }),
                     tt,
@@ -9127,9 +10519,9 @@ module _ (claims· : Claims) where
           },
         )
 
-        lay14 : (c : After-slice-known6) → at144 (W0 (c .before .before .before .before .before .before .before .before .before .before .κs) (c
+        lay15 : (c : After-slice-known6) → at157 (W0 (c .before .before .before .before .before .before .before .before .before .before .κs) (c
             .before .before .before .before .before .before .before .before .before .before .args)) (m102 (c .before) (c .slice-known6 .given))
-        lay14 = λ c. (
+        lay15 = λ c. (
           (
             tt,
             (
@@ -9137,8 +10529,8 @@ module _ (claims· : Claims) where
               (
                 Path'.refl,
                 (
-                  MutSlice.fix-len (Row.get 4 (T158 .locals) (m132 (c .before) (c .slice-known6 .given)) .ptr)
-                      (Row.get 4 (T158 .locals) (m132 (c .before) (c .slice-known6 .given)) .name) (Row.get 4 (T158 .locals) (m132 (c .before) (c .slice-known6
+                  MutSlice.fix-len (Row.get 4 (T173 .locals) (m144 (c .before) (c .slice-known6 .given)) .ptr)
+                      (Row.get 4 (T173 .locals) (m144 (c .before) (c .slice-known6 .given)) .name) (Row.get 4 (T173 .locals) (m144 (c .before) (c .slice-known6
                       .given)) .now) (dens (c .before .before .before .before .before .before .before .before .before .before .κs) (c .before .before .before
                       .before .before .before .before .before .before .before .args) .1 .1 .1 .0 .now) (same-length-9 record {
                         before = c .before;
@@ -9146,8 +10538,8 @@ module _ (claims· : Claims) where
                             = c .slice-known6;
                       }),
                   (
-                    MutSlice.fix-len (Row.get 5 (T158 .locals) (m132 (c .before) (c .slice-known6 .given)) .ptr) (Row.get 5 (T158
-                        .locals) (m132 (c .before) (c .slice-known6 .given)) .name) (Row.get 5 (T158 .locals) (m132 (c .before) (c .slice-known6 .given)) .now)
+                    MutSlice.fix-len (Row.get 5 (T173 .locals) (m144 (c .before) (c .slice-known6 .given)) .ptr) (Row.get 5 (T173
+                        .locals) (m144 (c .before) (c .slice-known6 .given)) .name) (Row.get 5 (T173 .locals) (m144 (c .before) (c .slice-known6 .given)) .now)
                         (dens (c .before .before .before .before .before .before .before .before .before .before .κs) (c .before .before .before .before .before
                         .before .before .before .before .before .args) .1 .1 .1 .1 .0 .now) (same-length-10 record {
                           before = c .before;
@@ -9163,9 +10555,9 @@ module _ (claims· : Claims) where
           returns-7 record { before = c .before; slice-known6 = c .slice-known6 },
         )
 
-        lay13 : (c : After-slice-known5) → at144 (W0 (c .before .before .before .before .before .before .before .before .before .before .κs) (c
+        lay14 : (c : After-slice-known5) → at157 (W0 (c .before .before .before .before .before .before .before .before .before .before .κs) (c
             .before .before .before .before .before .before .before .before .before .before .args)) (m83 (c .before) (c .slice-known5 .given))
-        lay13 = λ c. (
+        lay14 = λ c. (
           (
             tt,
             (
@@ -9173,8 +10565,8 @@ module _ (claims· : Claims) where
               (
                 Path'.refl,
                 (
-                  MutSlice.fix-len (Row.get 4 (T158 .locals) (m130 (c .before) (c .slice-known5 .given)) .ptr)
-                      (Row.get 4 (T158 .locals) (m130 (c .before) (c .slice-known5 .given)) .name) (Row.get 4 (T158 .locals) (m130 (c .before) (c .slice-known5
+                  MutSlice.fix-len (Row.get 4 (T173 .locals) (m142 (c .before) (c .slice-known5 .given)) .ptr)
+                      (Row.get 4 (T173 .locals) (m142 (c .before) (c .slice-known5 .given)) .name) (Row.get 4 (T173 .locals) (m142 (c .before) (c .slice-known5
                       .given)) .now) (dens (c .before .before .before .before .before .before .before .before .before .before .κs) (c .before .before .before
                       .before .before .before .before .before .before .before .args) .1 .1 .1 .0 .now) (same-length-7 record {
                         before = c .before;
@@ -9182,8 +10574,8 @@ module _ (claims· : Claims) where
                             = c .slice-known5;
                       }),
                   (
-                    MutSlice.fix-len (Row.get 5 (T158 .locals) (m130 (c .before) (c .slice-known5 .given)) .ptr) (Row.get 5 (T158
-                        .locals) (m130 (c .before) (c .slice-known5 .given)) .name) (Row.get 5 (T158 .locals) (m130 (c .before) (c .slice-known5 .given)) .now)
+                    MutSlice.fix-len (Row.get 5 (T173 .locals) (m142 (c .before) (c .slice-known5 .given)) .ptr) (Row.get 5 (T173
+                        .locals) (m142 (c .before) (c .slice-known5 .given)) .name) (Row.get 5 (T173 .locals) (m142 (c .before) (c .slice-known5 .given)) .now)
                         (dens (c .before .before .before .before .before .before .before .before .before .before .κs) (c .before .before .before .before .before
                         .before .before .before .before .before .args) .1 .1 .1 .1 .0 .now) (same-length-8 record {
                           before = c .before;
@@ -9199,16 +10591,16 @@ module _ (claims· : Claims) where
           returns-6 record { before = c .before; slice-known5 = c .slice-known5 },
         )
 
-        lay12 : (c : After-records3) → at144 (W0 (c .before .before .before .before .before .before .before .before .before .before .before .κs) (c
+        lay13 : (c : After-records3) → at157 (W0 (c .before .before .before .before .before .before .before .before .before .before .before .κs) (c
             .before .before .before .before .before .before .before .before .before .before .before .args)) (m66 (c .before) (c .records3 .given))
-        lay12 = λ c. (
+        lay13 = λ c. (
           (
             tt,
             (
               tt,
               (
-                MutSlice.fix-len (Row.get 3 (T158 .locals) (m128 (c .before) (c .records3 .given)) .ptr) (Row.get 3 (T158
-                    .locals) (m128 (c .before) (c .records3 .given)) .name) (Row.get 3 (T158 .locals) (m128 (c .before) (c .records3 .given)) .now) (dens (c
+                MutSlice.fix-len (Row.get 3 (T173 .locals) (m140 (c .before) (c .records3 .given)) .ptr) (Row.get 3 (T173
+                    .locals) (m140 (c .before) (c .records3 .given)) .name) (Row.get 3 (T173 .locals) (m140 (c .before) (c .records3 .given)) .now) (dens (c
                     .before .before .before .before .before .before .before .before .before .before .before .κs) (c .before .before .before .before .before
                     .before .before .before .before .before .before .args) .1 .1 .0 .now) (same-length-5 record {
                       before = c .before;
@@ -9217,8 +10609,8 @@ module _ (claims· : Claims) where
                 (
                   Path'.refl,
                   (
-                    MutSlice.fix-len (Row.get 5 (T158 .locals) (m128 (c .before) (c .records3 .given)) .ptr) (Row.get 5 (T158 .locals)
-                        (m128 (c .before) (c .records3 .given)) .name) (Row.get 5 (T158 .locals) (m128 (c .before) (c .records3 .given)) .now) (dens (c .before
+                    MutSlice.fix-len (Row.get 5 (T173 .locals) (m140 (c .before) (c .records3 .given)) .ptr) (Row.get 5 (T173 .locals)
+                        (m140 (c .before) (c .records3 .given)) .name) (Row.get 5 (T173 .locals) (m140 (c .before) (c .records3 .given)) .now) (dens (c .before
                         .before .before .before .before .before .before .before .before .before .before .κs) (c .before .before .before .before .before .before
                         .before .before .before .before .before .args) .1 .1 .1 .1 .0 .now) (same-length-6 record { before = c .before; records3 = c .records3 }),
                     tt,
@@ -9230,9 +10622,9 @@ module _ (claims· : Claims) where
           returns-5 record { before = c .before; records3 = c .records3 },
         )
 
-        lay11 : (c : After-slice-known3) → at144 (W0 (c .before .before .before .before .before .before .before .before .before .κs) (c .before
+        lay12 : (c : After-slice-known3) → at157 (W0 (c .before .before .before .before .before .before .before .before .before .κs) (c .before
             .before .before .before .before .before .before .before .before .args)) (m48 (c .before) (c .slice-known3 .given))
-        lay11 = λ c. (
+        lay12 = λ c. (
           (
             tt,
             (
@@ -9240,8 +10632,8 @@ module _ (claims· : Claims) where
               (
                 Path'.refl,
                 (
-                  MutSlice.fix-len (Row.get 4 (T158 .locals) (m126 (c .before) (c .slice-known3 .given)) .ptr)
-                      (Row.get 4 (T158 .locals) (m126 (c .before) (c .slice-known3 .given)) .name) (Row.get 4 (T158 .locals) (m126 (c .before) (c .slice-known3
+                  MutSlice.fix-len (Row.get 4 (T173 .locals) (m138 (c .before) (c .slice-known3 .given)) .ptr)
+                      (Row.get 4 (T173 .locals) (m138 (c .before) (c .slice-known3 .given)) .name) (Row.get 4 (T173 .locals) (m138 (c .before) (c .slice-known3
                       .given)) .now) (dens (c .before .before .before .before .before .before .before .before .before .κs) (c .before .before .before .before
                       .before .before .before .before .before .args) .1 .1 .1 .0 .now) (same-length-3 record {
                         before = c .before;
@@ -9249,8 +10641,8 @@ module _ (claims· : Claims) where
                             .slice-known3;
                       }),
                   (
-                    MutSlice.fix-len (Row.get 5 (T158 .locals) (m126 (c .before) (c .slice-known3 .given)) .ptr) (Row.get 5 (T158 .locals)
-                        (m126 (c .before) (c .slice-known3 .given)) .name) (Row.get 5 (T158 .locals) (m126 (c .before) (c .slice-known3 .given)) .now) (dens (c
+                    MutSlice.fix-len (Row.get 5 (T173 .locals) (m138 (c .before) (c .slice-known3 .given)) .ptr) (Row.get 5 (T173 .locals)
+                        (m138 (c .before) (c .slice-known3 .given)) .name) (Row.get 5 (T173 .locals) (m138 (c .before) (c .slice-known3 .given)) .now) (dens (c
                         .before .before .before .before .before .before .before .before .before .κs) (c .before .before .before .before .before .before .before
                         .before .before .args) .1 .1 .1 .1 .0 .now) (same-length-4 record { before = c .before; slice-known3 = c .slice-known3 }),
                     tt,
@@ -9262,9 +10654,9 @@ module _ (claims· : Claims) where
           returns-4 record { before = c .before; slice-known3 = c .slice-known3 },
         )
 
-        lay10 : (c : After-records2) → at144 (W0 (c .before .before .before .before .before .before .before .before .κs) (c .before .before .before
+        lay11 : (c : After-records2) → at157 (W0 (c .before .before .before .before .before .before .before .before .κs) (c .before .before .before
             .before .before .before .before .before .args)) (m34 (c .before) (c .records2 .given))
-        lay10 = λ c. (
+        lay11 = λ c. (
           (
             tt,
             (
@@ -9274,8 +10666,8 @@ module _ (claims· : Claims) where
                 (
                   Path'.refl,
                   (
-                    MutSlice.fix-len (Row.get 5 (T158 .locals) (m124 (c .before) (c .records2 .given))
-                        .ptr) (Row.get 5 (T158 .locals) (m124 (c .before) (c .records2 .given)) .name) (Row.get 5 (T158 .locals) (m124 (c .before) (c .records2
+                    MutSlice.fix-len (Row.get 5 (T173 .locals) (m136 (c .before) (c .records2 .given))
+                        .ptr) (Row.get 5 (T173 .locals) (m136 (c .before) (c .records2 .given)) .name) (Row.get 5 (T173 .locals) (m136 (c .before) (c .records2
                         .given)) .now) (dens (c .before .before .before .before .before .before .before .before .κs) (c .before .before .before .before .before
                         .before .before .before .args) .1 .1 .1 .1 .0 .now) (same-length-2 record { before = c .before; records2 = c .records2 }),
                     tt,
@@ -9287,9 +10679,9 @@ module _ (claims· : Claims) where
           returns-3 record { before = c .before; records2 = c .records2 },
         )
 
-        lay9 : (c : After-records) → at144 (W0 (c .before .before .before .before .before .before .before .before .κs) (c .before .before .before
+        lay10 : (c : After-records) → at157 (W0 (c .before .before .before .before .before .before .before .before .κs) (c .before .before .before
             .before .before .before .before .before .args)) (m20 (c .before) (c .records .given))
-        lay9 = λ c. (
+        lay10 = λ c. (
           (
             tt,
             (
@@ -9299,8 +10691,8 @@ module _ (claims· : Claims) where
                 (
                   Path'.refl,
                   (
-                    MutSlice.fix-len (Row.get 5 (T158 .locals) (m122 (c .before) (c .records .given))
-                        .ptr) (Row.get 5 (T158 .locals) (m122 (c .before) (c .records .given)) .name) (Row.get 5 (T158 .locals) (m122 (c .before) (c .records
+                    MutSlice.fix-len (Row.get 5 (T173 .locals) (m134 (c .before) (c .records .given))
+                        .ptr) (Row.get 5 (T173 .locals) (m134 (c .before) (c .records .given)) .name) (Row.get 5 (T173 .locals) (m134 (c .before) (c .records
                         .given)) .now) (dens (c .before .before .before .before .before .before .before .before .κs) (c .before .before .before .before .before
                         .before .before .before .args) .1 .1 .1 .1 .0 .now) (same-length record { before = c .before; records = c .records }),
                     tt,
@@ -9312,19 +10704,23 @@ module _ (claims· : Claims) where
           returns-2 record { before = c .before; records = c .records },
         )
 
-        lay8 : (c : After-enum-told) → at144 (W0 (c .before .before .before .before .κs) (c .before .before .before .before .args)) (m6 (c .before) (c
+        lay9 : (c : After-enum-told) → at157 (W0 (c .before .before .before .before .κs) (c .before .before .before .before .args)) (m6 (c .before) (c
             .enum-told .given))
-        lay8 = λ c. ((tt, (tt, (Path'.refl, (Path'.refl, (Path'.refl, tt))))), returns record { before = c .before; enum-told = c .enum-told })
+        lay9 = λ c. ((tt, (tt, (Path'.refl, (Path'.refl, (Path'.refl, tt))))), returns record { before = c .before; enum-told = c .enum-told })
+
+        lay8 : (c : After-fold) → at143 (W1 (c .before .before .before .before .before .before .before .κs) (c .before .before .before .before .before
+            .before .before .args)) (m125 (c .before) (After-fold·gave c))
+        lay8 = λ c. (Path'.refl, λ g. lay17 record { before = record { before = c .before; fold = c .fold }; records5 = record { given = g } })
 
         lay7 : (c : After-load) → at127 (W1 (c .before .before .before .before .before .before .before .before .κs) (c .before .before .before .before
             .before .before .before .before .args)) (m111 (c .before) (After-load·gave c))
-        lay7 = λ c. (Path'.refl, λ g. lay15 record { before = record { before = c .before; load = c .load }; records4 = record { given = g } })
+        lay7 = λ c. (Path'.refl, λ g. lay16 record { before = record { before = c .before; load = c .load }; records4 = record { given = g } })
 
         lay6 : (c : After-write-line) → at106 (W1 (c .before .before .before .before .before .before .before .before .κs) (c .before .before .before
             .before .before .before .before .before .args)) (m93 (c .before) (After-write-line·gave c))
         lay6 = λ c. (
           Path'.refl,
-          λ g. λ g'. lay14 record {
+          λ g. λ g'. lay15 record {
             before = record {
               before = record { before = c .before; write-line = c .write-line };
               lent3 = record { given = g };
@@ -9337,7 +10733,7 @@ module _ (claims· : Claims) where
             .before .before .before .before .args)) (m75 (c .before) (After-write·gave c))
         lay5 = λ c. (
           Path'.refl,
-          λ g. λ g'. lay13 record {
+          λ g. λ g'. lay14 record {
             before = record {
               before = record { before = c .before; write = c .write };
               lent2 = record
@@ -9353,7 +10749,7 @@ module _ (claims· : Claims) where
           Path'.refl,
           λ g. λ g'. (
             Path'.refl,
-            λ g''. lay12 record {
+            λ g''. lay13 record {
               before = record {
                 before = record {
                   before = record {
@@ -9376,7 +10772,7 @@ module _ (claims· : Claims) where
             .before .before .args)) (m42 (c .before) (After-show·gave c))
         lay3 = λ c. (
           Path'.refl,
-          λ g. λ g'. lay11 record {
+          λ g. λ g'. lay12 record {
             before = record {
               before = record { before = c .before; show = c .show };
               lent = record {
@@ -9389,13 +10785,13 @@ module _ (claims· : Claims) where
 
         lay2 : (c : After-put) → at24 (W1 (c .before .before .before .before .before .before .before .κs) (c .before .before .before .before .before
             .before .before .args)) (m29 (c .before) (After-put·gave c))
-        lay2 = λ c. (Path'.refl, λ g. lay10 record { before = record { before = c .before; put = c .put }; records2 = record { given = g } })
+        lay2 = λ c. (Path'.refl, λ g. lay11 record { before = record { before = c .before; put = c .put }; records2 = record { given = g } })
 
         lay1 : (c : After-clear) → at8 (W1 (c .before .before .before .before .before .before .before .κs) (c .before .before .before .before .before
             .before .before .args)) (m15 (c .before) (After-clear·gave c))
-        lay1 = λ c. (Path'.refl, λ g. lay9 record { before = record { before = c .before; clear = c .clear }; records = record { given = g } })
+        lay1 = λ c. (Path'.refl, λ g. lay10 record { before = record { before = c .before; clear = c .clear }; records = record { given = g } })
 
-        pub laid : (c : Start) → at145 (W0 (c .κs) (c .args)) (m0 (c .κs) (c .args))
+        pub laid : (c : Start) → at158 (W0 (c .κs) (c .args)) (m0 (c .κs) (c .args))
         laid = λ c. λ g. λ g'. (
           λ k. (
             enum-told record {
@@ -9405,7 +10801,7 @@ module _ (claims· : Claims) where
               };
               match = record { keys1 = k };
             },
-            λ g''. lay8 record {
+            λ g''. lay9 record {
               before = record {
                 before = record {
                   before
@@ -9473,7 +10869,7 @@ module _ (claims· : Claims) where
                     };
                     clear = Called.called ps·0 r·0 (claims· .1) T17 (
                       record {
-                        pos = 19;
+                        pos = 20;
                         ty = Syntax.tyRef
                             Syntax.erased Syntax.mut (Memory·.pointee (Record.the-row .written));
                         ref = λ x. x;
@@ -9550,7 +10946,7 @@ module _ (claims· : Claims) where
                       put = Called.called
                           ps·1 r·1 (claims· .3) T34 (
                             record {
-                              pos = 22;
+                              pos = 23;
                               ty = Syntax.tyRef Syntax.erased Syntax.mut (Memory·.pointee (Record.the-row .written));
                               ref
                                   = λ x. x;
@@ -9624,14 +11020,14 @@ module _ (claims· : Claims) where
                           };
                           show = Called.called ps·2 r·2 (claims· .5) T51 (
                             record {
-                              pos = 25;
+                              pos = 26;
                               ty = Syntax.tyRef Syntax.erased Syntax.imm (Memory·.pointee
                                   (Record.the-row .written));
                               ref = λ x. x;
                             },
                             (
                               record {
-                                pos = 27;
+                                pos = 28;
                                 ty = Syntax.tyRef Syntax.erased Syntax.mut (Syntax.tyInt Syntax.w8);
                                 ref
                                     = λ x. x;
@@ -9717,7 +11113,7 @@ module _ (claims· : Claims) where
                                   perform-arg2 = record { given = g'18 };
                                 };
                                 perform = Called.called ps·3 r·3 (claims· .7) T73 (
-                                  record { pos = 30; ty = Syntax.tyRef Syntax.erased Syntax.mut (Syntax.tyInt Syntax.w8); ref = λ x. x },
+                                  record { pos = 31; ty = Syntax.tyRef Syntax.erased Syntax.mut (Syntax.tyInt Syntax.w8); ref = λ x. x },
                                   (
                                     record {
                                       pos = 2;
@@ -9727,7 +11123,7 @@ module _ (claims· : Claims) where
                                     },
                                     (
                                       record {
-                                        pos = 32;
+                                        pos = 33;
                                         ty = Syntax.tyRef Syntax.erased Syntax.mut (Memory·.pointee (Record.the-row .written));
                                         ref = λ
                                             x. x;
@@ -9826,7 +11222,7 @@ module _ (claims· : Claims) where
                                     },
                                     (
                                       record {
-                                        pos = 35;
+                                        pos = 36;
                                         ty = Syntax.tyRef Syntax.erased Syntax.imm (Memory·.pointee (Record.the-row
                                             .written));
                                         ref = λ x. x;
@@ -9835,7 +11231,7 @@ module _ (claims· : Claims) where
                                         Num.vAt 12 λ x. x,
                                         (
                                           record {
-                                            pos = 37;
+                                            pos = 38;
                                             ty = Syntax.tyRef Syntax.erased Syntax.mut (Syntax.tyInt
                                                 Syntax.w8);
                                             ref = λ x. x;
@@ -9931,7 +11327,7 @@ module _ (claims· : Claims) where
                                     record { pos = 2; st = List.[]; d = 0; at = λ x. x },
                                     (
                                       record {
-                                        pos = 40;
+                                        pos = 41;
                                         ty = Syntax.tyRef Syntax.erased Syntax.imm (Memory·.pointee
                                             (Record.the-row .written));
                                         ref = λ x. x;
@@ -9940,7 +11336,7 @@ module _ (claims· : Claims) where
                                         Num.vAt 13 λ x. x,
                                         (
                                           record {
-                                            pos = 42;
+                                            pos = 43;
                                             ty = Syntax.tyRef Syntax.erased Syntax.mut
                                                 (Syntax.tyInt Syntax.w8);
                                             ref = λ x. x;
@@ -10042,10 +11438,10 @@ module _ (claims· : Claims) where
                                           x. x;
                                     },
                                     (
-                                      record { pos = 45; ty = Syntax.tyRef Syntax.erased Syntax.mut (Memory·.pointee (Record.the-row .written)); ref = λ x. x },
+                                      record { pos = 46; ty = Syntax.tyRef Syntax.erased Syntax.mut (Memory·.pointee (Record.the-row .written)); ref = λ x. x },
                                       (
                                         Num.vAt 15 λ x. x,
-                                        (record { pos = 47; ty = Syntax.tyRef Syntax.erased Syntax.imm (Syntax.tyInt Syntax.w8); ref = λ x. x }, tt),
+                                        (record { pos = 48; ty = Syntax.tyRef Syntax.erased Syntax.imm (Syntax.tyInt Syntax.w8); ref = λ x. x }, tt),
                                       ),
                                     ),
                                   ) (m110 record {
@@ -10073,33 +11469,112 @@ module _ (claims· : Claims) where
                             ),
                           ),
                         ),
-                        Match.each-below 8 (λ j.
-                            (((((((Unit {0} × (Run.OneOf (List._∷_ 0 List.[]) j → ⊥)) × (Run.OneOf (List._∷_ 1 List.[]) j → ⊥)) × (Run.OneOf (List._∷_ 2 List.[]) j →
-                            ⊥)) × (Run.OneOf (List._∷_ 3 List.[]) j → ⊥)) × (Run.OneOf (List._∷_ 4 List.[]) j → ⊥)) × (Run.OneOf (List._∷_ 5 List.[]) j → ⊥)) ×
-                            (Run.OneOf (List._∷_ 6 List.[]) j → ⊥)) × (Run.OneOf (List._∷_ 7 List.[]) j → ⊥) → ⊥) (
-                              λ n. n .1 Path'.refl,
+                        (
+                          λ k. (
+                            enum-known-call-7
+                                record {
+                                  before = record { before = record { before = c; slice-known = record { given = g } }; slice-known2 = record { given = g' } };
+                                  match = record { keys9 = k };
+                                },
+                            λ g'35. λ g'36. λ g'37. (
+                              Path'.refl,
                               (
-                                λ n. n .0 .1 Path'.refl,
-                                (
-                                  λ n. n .0 .0 .1 Path'.refl,
-                                  (
-                                    λ n. n .0 .0 .0 .1 Path'.refl,
-                                    (
-                                      λ n. n .0 .0 .0 .0 .1 Path'.refl,
-                                      (
-                                        λ n. n .0 .0 .0 .0 .0 .1 Path'.refl,
+                                fold-requires record {
+                                  before = record {
+                                    before = record {
+                                      before
+                                          = record {
+                                            before = record { before = record { before = c; slice-known = record { given = g } }; slice-known2 = record { given = g' } };
+                                            match = record { keys9 = k };
+                                          };
+                                      call7 = record { given = g'35 };
+                                    };
+                                    known-told7 = record { given = g'36 };
+                                  };
+                                  fold-arg = record {
+                                    given =
+                                        g'37;
+                                  };
+                                },
+                                λ g'38. lay8 record {
+                                  before = record {
+                                    before = record {
+                                      before = record {
+                                        before = record {
+                                          before = record {
+                                            before = record
+                                                { before = c; slice-known = record { given = g } };
+                                            slice-known2 = record { given = g' };
+                                          };
+                                          match = record { keys9 = k };
+                                        };
+                                        call7 =
+                                            record { given = g'35 };
+                                      };
+                                      known-told7 = record { given = g'36 };
+                                    };
+                                    fold-arg = record { given = g'37 };
+                                  };
+                                  fold = Called.called ps·7 r·7
+                                      (claims· .15) T163 (
+                                        record { pos = 2; st = List.[]; d = 0; at = λ x. x },
                                         (
-                                          λ n. n .0 .0 .0 .0 .0 .0 .1 Path'.refl,
-                                          (λ n. n .0 .0 .0 .0 .0 .0 .0 .1 Path'.refl, tt),
+                                          record {
+                                            pos = 51;
+                                            ty = Syntax.tyRef Syntax.erased Syntax.mut
+                                                (Memory·.pointee (Record.the-row .written));
+                                            ref = λ x. x;
+                                          },
+                                          (Num.vAt 16 λ x. x, tt),
+                                        ),
+                                      ) (m124 record {
+                                        before = record {
+                                          before =
+                                              record {
+                                                before = record { before = record { before = c; slice-known = record { given = g } }; slice-known2 = record { given = g' } };
+                                                match = record { keys9 = k };
+                                              };
+                                          call7 = record { given = g'35 };
+                                        };
+                                        known-told7 = record { given = g'36 };
+                                      } g'37) g'38;
+                                },
+                              ),
+                            ),
+                          ),
+                          Match.each-below 9 (λ j. ((((((((Unit {0} × (Run.OneOf (List._∷_ 0 List.[]) j → ⊥)) × (Run.OneOf (List._∷_ 1 List.[]) j → ⊥)) × (Run.OneOf
+                              (List._∷_ 2 List.[]) j → ⊥)) × (Run.OneOf (List._∷_ 3 List.[]) j → ⊥)) × (Run.OneOf (List._∷_ 4 List.[]) j → ⊥)) × (Run.OneOf (List._∷_ 5
+                              List.[]) j → ⊥)) × (Run.OneOf (List._∷_ 6 List.[]) j → ⊥)) × (Run.OneOf (List._∷_ 7 List.[]) j → ⊥)) × (Run.OneOf (List._∷_ 8 List.[]) j →
+                              ⊥) → ⊥) (
+                                λ n. n .1 Path'.refl,
+                                (
+                                  λ n. n .0 .1 Path'.refl,
+                                  (
+                                    λ n. n .0 .0 .1 Path'.refl,
+                                    (
+                                      λ n. n .0 .0 .0 .1 Path'.refl,
+                                      (
+                                        λ n. n .0 .0
+                                            .0 .0 .1 Path'.refl,
+                                        (
+                                          λ n. n .0 .0 .0 .0 .0 .1 Path'.refl,
+                                          (
+                                            λ n. n .0 .0 .0 .0 .0 .0 .1 Path'.refl,
+                                            (
+                                              λ n. n .0 .0 .0 .0 .0 .0 .0 .1
+                                                  Path'.refl,
+                                              (λ n. n .0 .0 .0 .0 .0 .0 .0 .0 .1 Path'.refl, tt),
+                                            ),
+                                          ),
                                         ),
                                       ),
                                     ),
                                   ),
                                 ),
-                              ),
-                            ) (Declared.tagOf Call.the-type
-                            (Row.get 1 (T4 .locals) (m2 record { before = c; slice-known = record { given = g } } g'))) (Match.tag-small Call.the-type (Row.get 1 (T4
-                            .locals) (m2 record { before = c; slice-known = record { given = g } } g'))),
+                              ) (Declared.tagOf Call.the-type (Row.get 1 (T4
+                              .locals) (m2 record { before = c; slice-known = record { given = g } } g'))) (Match.tag-small Call.the-type (Row.get 1 (T4 .locals) (m2
+                              record { before = c; slice-known = record { given = g } } g'))),
+                        ),
                       ),
                     ),
                   ),
@@ -10130,7 +11605,8 @@ module _ (claims· : Claims) where
             "records::put") (known2 : Plain.Known 𝓤 H A W 𝓣 2 ps·2 r·2 (claims· .4) (claims· .5) "probe::calls::show") (known3 : Plain.Known 𝓤 H A W 𝓣
             2 ps·3 r·3 (claims· .6) (claims· .7) "journal::perform") (known4 : Plain.Known 𝓤 H A W 𝓣 2 ps·4 r·4 (claims· .8) (claims· .9)
             "sheet::write") (known5 : Plain.Known 𝓤 H A W 𝓣 2 ps·5 r·5 (claims· .10) (claims· .11) "sheet::write_line") (known6 : Plain.Known 𝓤 H A W
-            𝓣 2 ps·6 r·6 (claims· .12) (claims· .13) "sheet::load") where
+            𝓣 2 ps·6 r·6 (claims· .12) (claims· .13) "sheet::load") (known7 : Plain.Known 𝓤 H A W 𝓣 1 ps·7 r·7 (claims· .14) (claims· .15)
+            "fold::fold") where
           pub spec : Statement.Triple 𝓤 (Wp.WpFn 𝓤 H (𝓣 .C) (𝓣 .Λ) (Function.fnOf 3 ps r xs m hs body)) (Function.plainOf 𝓤 H A 3 ps r Pre· Post·)
           spec = Plain.t-fn-plain 𝓤 H A W 𝓣 3 ps r xs m hs body (λ κs qs bs. Φ) (λ κs qs bs bd. typed κs qs 𝓤 H A W 𝓣 (
             known0,
@@ -10140,4 +11616,5 @@ module _ (claims· : Claims) where
             known4,
             known5,
             known6,
+            known7,
           ) bs bd) Pre· Post· asked
