@@ -10,6 +10,7 @@ pub mod Newest
 pub mod Old
 pub mod Order
 pub mod Parties
+pub mod Reached
 pub mod Retired
 pub mod Run
 pub mod Two

@@ -103,7 +103,7 @@ pub fn take_out(meaning: Meaning, value: Operand) -> Taken
 }
 
 // Whether the meaning's values have a sign.
-fn has_sign(meaning: Meaning) -> bool
+pub fn has_sign(meaning: Meaning) -> bool
     ensures { λ r. ⌜ r ≡ hasSign meaning ⌝ }
 {
     match meaning {

@@ -149,3 +149,17 @@ target-16 form some = by-meaning (rowOf form .meaning) refl some
     by-meaning (Signed unit) e s = by-unit unit (eqb unit 16) refl e s
     by-meaning (Chosen signed list) e s = absurd (subst T s tt)
     by-meaning (Complement top) e s = absurd (subst T s tt)
+
+pub target-own : (form : Form) → isNone (targetRowOf form) ≡ false → targetRowOf form ≡ rowOf form
+target-own form some = by-meaning (rowOf form .meaning) some
+  where
+    by-unit : (b : Bool) → isNone (cond b (rowOf form) noRow) ≡ false → cond b (rowOf form) noRow ≡ rowOf form
+    by-unit true s = refl
+    by-unit false s = absurd (subst T s tt)
+
+    by-meaning : (m : Meaning) → isNone (onlyTimes16 m (rowOf form)) ≡ false → onlyTimes16 m (rowOf form) ≡ rowOf form
+    by-meaning None s = absurd (subst T s tt)
+    by-meaning (Unsigned plus) s = absurd (subst T s tt)
+    by-meaning (Signed unit) s = by-unit (eqb unit 16) s
+    by-meaning (Chosen signed list) s = absurd (subst T s tt)
+    by-meaning (Complement top) s = absurd (subst T s tt)

@@ -115,7 +115,7 @@ module _ (text : List ℕ) (at : ℕ) where
     digits-more d = rw (add-one, drop-cons text at 0 h, d .test)
 
 -- no decimal but that of 0 begins with a zero
-zero-alone : (n c : ℕ) (ds : List ℕ) → decimal n ≡ 48 ∷ c ∷ ds → ⊥
+pub zero-alone : (n c : ℕ) (ds : List ℕ) → decimal n ≡ 48 ∷ c ∷ ds → ⊥
 zero-alone n c ds e =
     elim (decLt 0 n) [
       | yes p ↦

@@ -1,0 +1,4 @@
+pub mod Inverse
+pub mod Lines
+pub mod Reading
+pub mod States

@@ -1,0 +1,4 @@
+pub mod Read
+pub mod Redo
+pub mod RoundTrip
+pub mod State

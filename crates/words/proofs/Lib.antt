@@ -1,0 +1,4 @@
+pub mod Beginnings
+pub mod Hex
+pub mod RoundTrip
+pub mod Unique
