@@ -112,18 +112,18 @@ module _ (party places : ℕ) (code : List ℕ) (b : Bytes code) (short : length
   from-run [] = refl
   from-run (c ∷ cs) = ap (λ (o : Outcome). step party places o c) (from-run cs)
 
-  run-sheet : (cs : List Call) → HasSheet party places Full (from party places (run party places code []) cs .journal)
-  run-sheet cs =
-      rw (from-run cs)
-      (record {
+  -- its journal has a sheet
+  pub run-has : (cs : List Call) → HasSheet party places Full (run party places code cs .journal)
+  run-has cs =
+      record {
         valid = run-valid party places code b short cs;
         held = subst T (sym (run-all party places code b short fits64 (changes-held party) cs)) tt;
         told = subst T (sym (run-all party places code b short (tells Full) (record { edits = λ n e h low taken. refl; wholes = λ k n m low. refl }) cs)) tt;
-      })
+      }
 
   run-sheets : (cs : List Call) → Sheets party places (run party places code []) cs
-  run-sheets [] = run-sheet []
-  run-sheets (c ∷ cs) = (run-sheet (c ∷ cs), run-sheets cs)
+  run-sheets [] = run-has []
+  run-sheets (c ∷ cs) = (rw (from-run (c ∷ cs)) (run-has (c ∷ cs)), run-sheets cs)
 
 pub demand-3-across : Demand3Across
 demand-3-across party places code within b short calls own =

@@ -1,4 +1,5 @@
 pub mod Across
+pub mod BySheet
 pub mod Changes
 pub mod Checked
 pub mod Edits

@@ -135,7 +135,7 @@ module _ (party places : ℕ) (code : List ℕ) (b : Bytes code) (short : length
         fewer (c ∷ cs) s = record { stand = s .stand .1; few = let h = s .few in omega arith }
     call-stands fold = record { stand = fold-stands code b party cs (s .stand); few = omega (arith, as-length now (touched cs), touched-few cs, s .few) }
 
-  all-stand : (calls : List Call) → Standing places code (standingChanges places code calls)
+  pub all-stand : (calls : List Call) → Standing places code (standingChanges places code calls)
   all-stand [] = record { stand = tt; few = omega arith }
   all-stand (call ∷ calls) = call-stands (standingChanges places code calls) (all-stand calls) call
 

@@ -6,6 +6,7 @@
 pub mod Sets
 pub mod Demand3
 pub mod Across
+pub mod BySheet
 pub mod Parties
 pub mod Folds
 pub mod Checked

@@ -27,7 +27,7 @@ pub const FROM: usize = 6;
 // Whether the start of the line at hand is gone, since there was no room for it.
 pub const CUT: usize = 7;
 
-// Whether the input has ended.
+// Whether the run is over: the input has ended, or the system failed.
 pub const OVER: usize = 8;
 
 // How many bytes of output are not written yet.
@@ -43,7 +43,10 @@ pub const ANSWER: usize = 12;
 
 pub const WRITTEN: usize = 13;
 
-const REPORT: usize = 14;
+// The exit status.
+pub const STATUS: usize = 14;
+
+const REPORT: usize = 15;
 
 // At first the journal is one opened for one party.
 pub fn first() -> [u64; REPORT + NUMBERS] {

@@ -30,6 +30,16 @@ fn places() -> [Record; kept::MOST_PLACES]
 }
 
 fn main() {
+    let started = console::started();
+    if console::has_arguments(started) {
+        console::end(started, console::misused(b"usage: probe <LINES\n"));
+        return;
+    }
+    console::end(started, run());
+}
+
+// Answers standard input, and tells the exit status.
+fn run() -> u64 {
     let mut text = room();
     let mut code = code_room();
     let mut lent = room();
@@ -44,4 +54,5 @@ fn main() {
         &mut out,
         &mut records,
     );
+    kept::get(&kept, kept::STATUS)
 }

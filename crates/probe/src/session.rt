@@ -4,6 +4,9 @@ use crate::calls;
 use crate::calls::Call;
 use crate::command;
 use crate::kept;
+use console::Bytes;
+use libc::STDIN_FILENO;
+use libc::STDOUT_FILENO;
 use lines::part;
 use record::Record;
 
@@ -62,7 +65,7 @@ fn turn(
     let to = readable(kept::get(kept, kept::CUT), from, end);
     kept::set(kept, kept::FROM, end as u64 + 1);
     kept::set(kept, kept::CUT, 0);
-    let at = flushed(out, kept::get(kept, kept::AT) as usize);
+    let at = flushed(out, kept::get(kept, kept::AT) as usize, kept);
     command::answer(&text[from..to], code, lent, kept, out, at)
 }
 
@@ -78,16 +81,25 @@ fn readable(cut: u64, from: usize, end: usize) -> usize
     }
 }
 
-// Writes the answers, and reads once after the bytes that are held and not answered.
+// Writes the answers, and reads once more where that can be done.
 fn more(text: &mut [u8], held: usize, from: usize, kept: &mut [u64], out: &mut [u8]) {
     let at = kept::get(kept, kept::AT) as usize;
-    write(out, at);
+    write(out, at, kept);
     kept::set(kept, kept::AT, 0);
+    if kept::get(kept, kept::OVER) == 0 {
+        take(text, held, from, kept, out);
+    }
+}
+
+// Reads once after the bytes that are held and not answered.
+fn take(text: &mut [u8], held: usize, from: usize, kept: &mut [u64], out: &mut [u8]) {
     let left = moved(text, held, from, kept);
-    let now = read(text, left);
-    kept::set(kept, kept::HELD, now as u64);
+    let got = read(text, left);
+    kept::set(kept, kept::HELD, got.count as u64);
     kept::set(kept, kept::FROM, 0);
-    if now == left {
+    if !got.ok {
+        fail(b"probe: standard input", kept);
+    } else if got.count == left {
         last(left, kept, out);
     }
 }
@@ -103,12 +115,14 @@ fn moved(text: &mut [u8], held: usize, from: usize, kept: &mut [u64]) -> usize {
     if from < held { held - from } else { 0 }
 }
 
-// Reads once after the bytes that are held, and answers how many are held then.
-fn read(text: &mut [u8], held: usize) -> usize {
+// Reads once after the bytes that are held, and counts those that are held then.
+fn read(text: &mut [u8], held: usize) -> Bytes {
     let from = part::within(text, held);
-    let free = &mut text[from..];
-    let got = libc::read(libc::STDIN_FILENO, free);
-    from + io::count(got, free)
+    let got = console::read(STDIN_FILENO, &mut text[from..]);
+    Bytes {
+        ok: got.ok,
+        count: from + got.count,
+    }
 }
 
 // What stands after the last newline is no line.
@@ -116,20 +130,27 @@ fn last(left: usize, kept: &mut [u64], out: &mut [u8]) {
     kept::set(kept, kept::OVER, 1);
     if kept::get(kept, kept::CUT) != 0 || 0 < left {
         let to = command::ended(out, 0, command::UNREAD);
-        write(out, to);
+        write(out, to, kept);
     }
 }
 
 // Writes the output where it could have no room for another answer, and answers where it stands then.
-fn flushed(out: &[u8], at: usize) -> usize {
+fn flushed(out: &[u8], at: usize, kept: &mut [u64]) -> usize {
     if at < FULL {
         return at;
     }
-    write(out, at);
+    write(out, at, kept);
     0
 }
 
-fn write(out: &[u8], at: usize) {
-    let n = part::within(out, at);
-    io::write_all(libc::STDOUT_FILENO, &out[0..n]);
+fn write(out: &[u8], at: usize, kept: &mut [u64]) {
+    if !console::write_all(STDOUT_FILENO, out, at) {
+        fail(b"probe: standard output", kept);
+    }
+}
+
+// The system failed, which is said, and the run is over.
+fn fail(what: &[u8], kept: &mut [u64]) {
+    kept::set(kept, kept::STATUS, console::failed(what));
+    kept::set(kept, kept::OVER, 1);
 }

@@ -11,11 +11,11 @@ use lib.ListN.{length, getD, take, drop, replicate, length-drop, take-append-dro
 use lib.Seq.{sets, drop-drop, drop-length, length-take-le, take-append-seam}
 use Rattle.bundle.proofs.Elements.{listed}
 use Rattle.text.specs.Ascii.{sameText, startsWith}
-use Rattle.text.specs.Fields.{fields, fieldsOf}
+use Rattle.text.specs.Fields.{fields, Words, fieldsOf}
 use Rattle.text.specs.declared.fields.Fields.{Fields}
 use Rattle.text.proofs.Numbers.{taken}
-use Rattle.text.proofs.RoundTrip.{Words, starts, starts-is, fields-read, fields-back}
-use Rattle.text.proofs.Stands.{Stands, stands, stands-then, stands-parts}
+use Rattle.text.proofs.RoundTrip.{starts, starts-is, fields-back}
+use Rattle.text.proofs.Stands.{Stands, whole-stands, stands-then, stands-parts}
 use Rattle.text.proofs.Stored.{all-read}
 use Rattle.redo.specs.Read.{afterLines, changesAt, partsFrom, partsAt, lookOf, between, heldBy, redoIn}
 use Rattle.redo.specs.Redo.{Redo, headEnds, start, endLine, linesOf, redoOf}
@@ -27,9 +27,6 @@ use Rattle.redo.specs.declared.reader.Found.the-variants as found
 use Rattle.redo.specs.declared.reader.Parts.{Parts}
 use Rattle.redo.proofs.Lines.{lines-back, lines-read}
 use Rattle.redo.proofs.Reading.{last-is, last-within}
-
-whole-stands : (text : List ℕ) → Stands text 0 text (length text)
-whole-stands text = record { found = sym (ap (λ (l : List ℕ). text ++ l) (drop-length text) ∙ append-nil text); place = omega arith }
 
 -- what stands between two places
 between-is : {text : List ℕ} {at : ℕ} {piece : List ℕ} {next : ℕ} → Stands text at piece next → between text at next ≡ piece
@@ -171,7 +168,7 @@ module _ (text : List ℕ) (p : Parts) (l : Looked text p) where
   unfolding redoOf
   is-written =
       let a = all-read text 5 headEnds (head text) refl (omega arith) (l .read) in
-      let s = fields-read text headEnds 5 (a .numbers) (head text .next) (a .found) in
+      let s = a .stand in
       let n = a .looked in
       let c = lines-read text (getD (head text .of) 0 0) (head text .next) (l .sheet) (l .after) in
       let count = sym (n 0) ∙ sym (c .long) in

@@ -8,8 +8,8 @@ use native.Mathlib.Nat.{add-zero}
 use native.Mathlib.Omega.{arith}
 use lib.ListN.{length}
 use Rattle.bundle.proofs.Elements.{listed}
-use Rattle.text.specs.Fields.{fields, fieldsOf}
-use Rattle.text.proofs.RoundTrip.{Words, fields-read, fields-back}
+use Rattle.text.specs.Fields.{fields, Words, fieldsOf}
+use Rattle.text.proofs.RoundTrip.{fields-back}
 use Rattle.text.proofs.Stands.{Stands, stands-then, stands-parts}
 use Rattle.text.proofs.Stored.{all-read}
 use Rattle.redo.specs.Read.{changeOf, changeAt, afterLines, changesAt}
@@ -46,7 +46,7 @@ module _ (text : List ℕ) where
           let v : changeOf (f .of) ≡ c = cc in
           let p : f .next ≡ next = cc in
           let a = all-read text at lineEnds f refl (omega arith) t in
-          let s = fields-read text lineEnds at (a .numbers) (f .next) (a .found) in
+          let s = a .stand in
           let n = a .looked in
           let same : numbersOf (changeOf (f .of)) ≡ a .numbers = (λ i. n 0 i ∷ n 1 i ∷ n 2 i ∷ n 3 i ∷ n 4 i ∷ []) ∙ sym (listed (a .numbers) 0 5 (s .count)) in
           rw (← v, ← p) (record { words = subst Words (sym same) (s .words); stands = subst (λ (ms : List ℕ). Stands text at (fields ms lineEnds) (f .next)) (sym same) (s .piece) })

@@ -1,19 +1,15 @@
 -- Reading accepts exactly what is written, and gives what was written. Proved in `proofs/Inverse.antt`. Assumes nothing.
-use Prim.Native.Nat.{ℕ, _≤_, _<_, _^_}
+use Prim.Native.Nat.{ℕ, _≤_}
 use mathlib.Core.Path.{_≡_}
 use mathlib.Core.List.{List, [], _∷_}
 use mathlib.Core.Option.{some}
 use lib.ListN.{length}
+use Rattle.text.specs.Fields.{Words}
 use Rattle.redo.specs.Read.{lookOf, redoIn}
 use Rattle.redo.specs.Redo.{Redo, numbersOf, redoOf}
 use Rattle.redo.specs.declared.Change.{Change}
 use Rattle.redo.specs.declared.reader.Found.the-variants as found
 use Rattle.redo.specs.declared.reader.Parts.{Parts}
-
--- numbers of 64 bits
-abbrev pub Words : List ℕ → Type 0
-Words [] = Unit {0}
-Words (n ∷ ns) = (n < 2 ^ 64) × Words ns
 
 abbrev pub WordsIn : List Change → Type 0
 WordsIn [] = Unit {0}

@@ -1,6 +1,9 @@
-// What is said of an image that is left out, on standard error: its number among the images, its name, and why.
+// What is said of an image that is left out, on standard error: its number among the images, its name, and why. Each answers the exit status
+// then.
 use answer::ACCEPTED;
 use answer::TOO_LONG;
+use console::DONE;
+use console::REFUSED;
 use libc::STDERR_FILENO;
 use lines::part;
 
@@ -8,30 +11,32 @@ use lines::part;
 const ROOM: usize = 4200;
 
 // It can't be opened or read, as the system says.
-pub fn failed(i: u64, name: &[u8]) {
+pub fn failed(i: u64, name: &[u8]) -> u64 {
     let mut line = [0u8; ROOM];
     let end = put_name(&mut line, i, name);
-    fail(&line, end);
+    fail(&line, end)
 }
 
-fn fail(line: &[u8], end: usize) {
+fn fail(line: &[u8], end: usize) -> u64 {
     let n = part::within(line, end);
-    os::fail(&line[0..n]);
+    console::failed(&line[0..n])
 }
 
 // It is refused, where it is: the answer's number and name.
-pub fn refused(i: u64, name: &[u8], answer: u8) {
+pub fn refused(i: u64, name: &[u8], answer: u8) -> u64 {
     if answer == ACCEPTED {
-        return;
+        return DONE;
     }
     let mut line = [0u8; ROOM];
     let end = put_refusal(&mut line, i, name, answer);
-    write(&line, end);
+    console::write_all(STDERR_FILENO, &line, end);
+    REFUSED
 }
 
 // Standard input isn't bytes in hex.
-pub fn bad_hex() {
+pub fn bad_hex() -> u64 {
     io::write_all(STDERR_FILENO, b"report: image 1, -: badhex\n");
+    REFUSED
 }
 
 fn put_refusal(line: &mut [u8], i: u64, name: &[u8], answer: u8) -> usize {
@@ -54,9 +59,4 @@ fn put_name(line: &mut [u8], i: u64, name: &[u8]) -> usize {
     let comma = text::put_field(line, start, i, b',');
     let space = text::put_byte(line, comma, b' ');
     text::put_text(line, space, name)
-}
-
-fn write(line: &[u8], end: usize) {
-    let n = part::within(line, end);
-    io::write_all(STDERR_FILENO, &line[0..n]);
 }

@@ -5,7 +5,7 @@ use lib.Dec.{T, ltb, ltb→lt}
 use borrow.Author.Tests.{lt-ltb}
 use mir.Facts.{and-yes}
 use Rattle.record.specs.Record.{allFit64}
-use Rattle.text.proofs.RoundTrip.{Words}
+use Rattle.text.specs.Fields.{Words}
 
 pub words : (ns : List ℕ) → T (allFit64 ns) → Words ns
 words [] t = tt

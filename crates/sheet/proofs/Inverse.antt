@@ -24,7 +24,7 @@ use Rattle.text.specs.Decimal.{decimal}
 use Rattle.text.specs.declared.number.Number.{Number}
 use Rattle.text.specs.declared.number.Number.the-variants.{Read, Refused}
 use Rattle.text.proofs.RoundTrip.{starts-is, field-read, field-back}
-use Rattle.text.proofs.Stands.{Stands, stands-then, stands-parts}
+use Rattle.text.proofs.Stands.{Stands, whole-stands, stands-then, stands-parts}
 use Rattle.sheet.specs.RoundTrip.{HasSheet, LoadsWritten, LoadsOnlyWritten, RefusesOther, RefusesMore, RefusesFull, RefusesInvalid}
 use Rattle.sheet.specs.Load.{recordsAt, headOf, recordsAs, orElse, recordsIn, loadedWith, loadOf}
 use Rattle.sheet.specs.Sheet.{lineAs, tells, linesAs, headerOf, sheetAs}
@@ -44,9 +44,6 @@ records-back party kind text (r ∷ rs) at m h t s =
     let c = and-yes (tells kind r) (all (tells kind) rs) t in
     let p = stands-parts (lineAs kind r) s in
     rw (line-back party text at r _ kind (a .0) (b .0) (c .0) (p .0), records-back party kind text rs (at + length (lineAs kind r)) (a .1) (b .1) (c .1) (p .1))
-
-whole-stands : (text : List ℕ) → Stands text 0 text (length text)
-whole-stands text = record { found = sym (ap (λ (l : List ℕ). text ++ l) (drop-length text) ∙ append-nil text); place = omega arith }
 
 -- the count in the first line, with its end
 abbrev counted : ℕ → List ℕ

@@ -22,8 +22,8 @@ use Rattle.record.specs.declared.Record.{Record}
 use Rattle.record.proofs.Laws.{may-passes, may-party, whole-is, passes-form}
 use Rattle.text.specs.Ascii.{tab}
 use Rattle.text.specs.Decimal.{decimal}
-use Rattle.text.specs.Fields.{fields, fieldsAt}
-use Rattle.text.proofs.RoundTrip.{Words, fields-read, fields-back}
+use Rattle.text.specs.Fields.{fields, Words, fieldsAt}
+use Rattle.text.proofs.RoundTrip.{fields-read, fields-back}
 use Rattle.text.proofs.Stands.{Stands, stands-then, stands-parts}
 use Rattle.sheet.specs.declared.line.Kind.{Kind}
 use Rattle.sheet.specs.declared.line.Kind.the-variants.{Full, Old}

@@ -14,7 +14,7 @@ use lib.ListN.{length, getD, take, drop, set, drop-of-length-le, length-take, ta
 use lib.Seq.{drop-cons, drop-drop, append-snoc, take-append-seam}
 use Rattle.text.specs.Ascii.{within, sameText, startsWith}
 use Rattle.text.specs.Decimal.{decimal}
-use Rattle.text.specs.Fields.{fields, fieldAt, before, fieldsAt, readTo}
+use Rattle.text.specs.Fields.{fields, Words, fieldAt, before, fieldsAt, readTo}
 use Rattle.text.specs.Number.{digitsOf, numberOf}
 use Rattle.text.specs.declared.number.Number.{Number}
 use Rattle.text.specs.declared.number.Number.the-variants.{Read, Refused}
@@ -95,11 +95,7 @@ fields-first text at end ends ns next e = by-field (fieldAt text at end) refl
     by-field Refused f = absurd (Option·none-ne-some (ns, next) (rw f at e))
     by-field (Read n middle) f = by-rest n middle f (fieldsAt text middle ends) refl (rw f at e)
 
--- numbers below 2 ^ 64, and bytes that are no digits
-abbrev pub Words : List ℕ → Type 0
-Words [] = Unit {0}
-Words (n ∷ ns) = (n < 2 ^ 64) × Words ns
-
+-- bytes that are no digits
 abbrev pub NoDigits : List ℕ → Type 0
 NoDigits [] = Unit {0}
 NoDigits (c ∷ cs) = (within 48 57 c ≡ false) × NoDigits cs

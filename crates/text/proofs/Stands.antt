@@ -1,16 +1,20 @@
 -- A piece that stands in a text, from one place to another: two pieces that follow each other are one, and the other way round.
 -- Assumes nothing.
 use mathlib.Core.Path.{_≡_, refl, sym, ap, _∙_}
-use mathlib.Core.List.{List, _++_, append-assoc}
+use mathlib.Core.List.{List, _++_, append-assoc, append-nil}
 use Prim.Native.Nat.{ℕ, _+_}
 use native.Mathlib.Omega.{arith}
 use lib.ListN.{length, drop, length-append}
-use lib.Seq.{drop-drop, drop-at}
+use lib.Seq.{drop-drop, drop-at, drop-length}
 
 -- the piece stands at `at` and ends at `next`
 pub record Stands (text : List ℕ) (at : ℕ) (piece : List ℕ) (next : ℕ) : Type 0 where
   pub found : drop at text ≡ piece ++ drop next text
   pub place : next ≡ at + length piece
+
+-- a text stands in itself
+pub whole-stands : (text : List ℕ) → Stands text 0 text (length text)
+whole-stands text = record { found = sym (ap (λ (l : List ℕ). text ++ l) (drop-length text) ∙ append-nil text); place = omega arith }
 
 module _ {text : List ℕ} where
   -- the text goes on with the piece

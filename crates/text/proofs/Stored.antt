@@ -9,7 +9,7 @@ use lib.ListN.{length, getD, drop, replicate}
 use lib.Seq.{sets, getD-drop}
 use Rattle.text.specs.Fields.{fieldsAt, readTo, fieldsOf}
 use Rattle.text.specs.declared.fields.Fields.{Fields}
-use Rattle.text.proofs.RoundTrip.{fields-read}
+use Rattle.text.proofs.RoundTrip.{FieldsStand, fields-read}
 use Rattle.text.proofs.Writing.{written-start}
 
 -- zeros after a list change nothing that is looked up in it
@@ -28,10 +28,11 @@ stored ns h i =
     ap (λ (l : List ℕ). getD l i 0) (written-start (replicate 8 0) ns h)
     ∙ padded ns (drop (length ns) (replicate 8 0)) (λ k. getD-drop (length ns) (replicate 8 0) k 0 ∙ zeros 8 (length ns + k)) i
 
--- the fields were read
+-- the fields were read: their numbers stand there, and are those of the array
 pub record AllRead (text : List ℕ) (at : ℕ) (ends : List ℕ) (f : Fields) : Type 0 where
   pub numbers : List ℕ
   pub found : fieldsAt text at ends ≡ some (numbers, f .next)
+  pub stand : FieldsStand text at ends numbers (f .next)
   pub looked : (i : ℕ) → getD (f .of) i 0 ≡ getD numbers i 0
 
 module _ (text : List ℕ) (at : ℕ) (ends : List ℕ) (f : Fields) (e : f ≡ fieldsOf text at ends) where
@@ -53,9 +54,11 @@ module _ (text : List ℕ) (at : ℕ) (ends : List ℕ) (f : Fields) (e : f ≡ 
       go : (o : Option (List ℕ × ℕ)) → fieldsAt text at ends ≡ o → By o → AllRead text at ends f
       go none s q = absurd (false≢true (sym (ap (λ (g : Fields). g .read) q) ∙ r))
       go (some p) s q =
-          let count = fields-read text ends at (p .0) (p .1) s .count in
+          let found = s ∙ ap (λ (k : ℕ). some (p .0, k)) (sym (ap (λ (g : Fields). g .next) q)) in
+          let stand = fields-read text ends at (p .0) (f .next) found in
           record {
             numbers = p .0;
-            found = s ∙ ap (λ (k : ℕ). some (p .0, k)) (sym (ap (λ (g : Fields). g .next) q));
-            looked = λ i. ap (λ (g : Fields). getD (g .of) i 0) q ∙ stored (p .0) (omega (arith, count, h)) i;
+            found = found;
+            stand = stand;
+            looked = λ i. ap (λ (g : Fields). getD (g .of) i 0) q ∙ stored (p .0) (omega (arith, stand .count, h)) i;
           }

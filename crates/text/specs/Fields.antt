@@ -1,5 +1,5 @@
 -- Fields of a text: decimals, each ended by a byte of its own. Assumes nothing.
-use Prim.Native.Nat.{ℕ, _+_}
+use Prim.Native.Nat.{ℕ, _+_, _^_, _<_}
 use mathlib.Core.Bool.{true, false, cond}
 use mathlib.Core.List.{List, [], _∷_, _++_}
 use mathlib.Core.Option.{Option, none, some}
@@ -17,6 +17,11 @@ abbrev pub fields : List ℕ → List ℕ → List ℕ
 fields [] ends = []
 fields (n ∷ ns) [] = []
 fields (n ∷ ns) (end ∷ ends) = decimal n ++ (end ∷ fields ns ends)
+
+-- numbers of 64 bits
+abbrev pub Words : List ℕ → Type 0
+Words [] = Unit {0}
+Words (n ∷ ns) = (n < 2 ^ 64) × Words ns
 
 -- what comes after a number, or where there is none
 abbrev pub afterNumber {ℓ} : {A : Type ℓ} → Number → (ℕ → ℕ → A) → A → A

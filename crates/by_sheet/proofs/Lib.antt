@@ -1,0 +1,5 @@
+pub mod Backs
+pub mod Made
+pub mod Performing
+pub mod Told
+pub mod Touched

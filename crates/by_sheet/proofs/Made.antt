@@ -1,0 +1,3 @@
+pub mod marks
+pub mod perform_task
+pub mod taking

@@ -1,0 +1,1 @@
+pub mod put_all_back

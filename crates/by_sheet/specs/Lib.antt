@@ -1,0 +1,4 @@
+pub mod Mark
+pub mod Perform
+pub mod Taking
+pub mod inner

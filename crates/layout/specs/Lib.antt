@@ -1,0 +1,4 @@
+pub mod Change
+pub mod Layout
+pub mod Read
+pub mod RoundTrip

@@ -1,2 +1,0 @@
-pub mod put_line
-pub mod put_sheet
