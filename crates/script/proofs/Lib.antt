@@ -1,4 +1,3 @@
 pub mod Lines
-pub mod Made
 pub mod Turns
 pub mod Unique

@@ -3,7 +3,6 @@ pub mod Held
 pub mod Inverse
 pub mod Lengths
 pub mod Lines
-pub mod Made
 pub mod OneKind
 pub mod Reading
 pub mod Sheets

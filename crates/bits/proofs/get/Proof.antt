@@ -8,7 +8,7 @@ use Rattle.bits.proofs.Shift.{one_shl}
 use Rattle.bits.proofs.get.Statement.{statement}
 use Rattle.bits.proofs.get.Tie as tie
 
-rem-result : tie.Need-nonzero-rem-result
+rem-result : tie.Need-nonzero_rem-result
 rem-result c = subst (λ (x : ℕ). 0 < x) (sym (one_shl c.args.width c.requires.1)) (pow_pos c.args.width)
 
 returns : tie.Need-returns

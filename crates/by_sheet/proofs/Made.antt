@@ -1,3 +1,0 @@
-pub mod marks
-pub mod perform_task
-pub mod taking

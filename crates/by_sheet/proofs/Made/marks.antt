@@ -1,1 +1,0 @@
-pub mod mark_all

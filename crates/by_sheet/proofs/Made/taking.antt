@@ -1,1 +1,0 @@
-pub mod put_all_back

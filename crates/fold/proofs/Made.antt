@@ -1,2 +1,0 @@
-pub mod fold
-pub mod fold_own

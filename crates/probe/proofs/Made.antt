@@ -1,3 +1,0 @@
-pub mod calls
-pub mod places
-pub mod session

@@ -1,4 +1,0 @@
-pub mod clear
-pub mod made
-pub mod make
-pub mod show

@@ -1,2 +1,0 @@
-pub mod run
-pub mod run_line
