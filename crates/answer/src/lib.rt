@@ -1,4 +1,6 @@
 // What a call answers: 0 where it accepts, and the number of the refusal, by 01 and 02, where it does not.
+#![tactic(auto)]
+
 pub const ACCEPTED: u8 = 0;
 
 pub const EXHAUSTED_INPUT: u8 = 1;

@@ -1,4 +1,6 @@
 // A part of a word, `width` bits from bit `place` on: read and replaced.
+#![tactic(auto)]
+
 ghost use Rattle.std.specs.Prelude.{◌≡◌, ◌+◌, ◌≤◌, ◌<◌};
 ghost use Rattle.bits.specs.Part.{part};
 ghost use Rattle.bits.specs.Part.{put};

@@ -1,4 +1,6 @@
 // Itanium bundles: sixteen bytes are a tag and three slots of 41 bits. Found, loaded, cut and joined.
+#![tactic(auto)]
+
 mod half;
 mod template;
 

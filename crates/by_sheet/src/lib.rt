@@ -1,4 +1,6 @@
 // A party's calls by its sheet: the journal is the one that the sheet tells of, and what a call leaves of it is a sheet again.
+#![tactic(auto)]
+
 mod marks;
 mod taking;
 

@@ -1,4 +1,6 @@
 // Opcode and form of a word, from the unit that it is for, by 000's A and B tables; and whether the word in a slot has a form.
+#![tactic(auto)]
+
 ghost use Rattle.std.specs.Prelude.{◌≡◌};
 ghost use Rattle.bundle.specs.Bundle.{whole};
 ghost use Rattle.choice.specs.Choice.{no_choice, choice_of, word_has, has_form};

@@ -1,4 +1,6 @@
 // Opcode and form of an A word, by 000's A table: a function for each part of it, and one `match` or one list in each.
+#![tactic(auto)]
+
 ghost use Rattle.std.specs.Prelude.{◌≡◌, cond, [], ◌∷◌, ◌+◌, ◌<◌, T, ltb};
 ghost use Rattle.bits.specs.Part.{part};
 ghost use Rattle.opcodes.specs.Tables.{a_table, none, short, opcode, alu, multimedia};

@@ -1,4 +1,6 @@
 // Opcode and form of a B word, by 000's B table: a function for each part of it, and one `match` in each.
+#![tactic(auto)]
+
 ghost use Rattle.std.specs.Prelude.{◌≡◌, [], ◌∷◌, T};
 ghost use Rattle.opcodes.specs.Tables.{b_table, none, short, opcode, x6};
 ghost use Rattle.table.specs.Entry.{holds, chosen};

@@ -2,6 +2,8 @@
 //
 // A program has no exit status of its own: it writes it to a descriptor that its first two arguments name, as `--status 3`, and whoever
 // started it (`./run`) ends with that. Where a call fails, errno stays, for `os::fail`.
+#![tactic(auto)]
+
 mod start;
 mod transfer;
 

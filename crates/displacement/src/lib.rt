@@ -1,4 +1,6 @@
 // The value that makes an address the target of a form: what `target` undoes.
+#![tactic(auto)]
+
 mod outcome;
 
 ghost use Rattle.std.specs.Prelude.{◌≡◌};

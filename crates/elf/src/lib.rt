@@ -1,4 +1,6 @@
 // What an ELF64 little-endian Itanium file says of its code: in its header, in a section header, in a program header.
+#![tactic(auto)]
+
 ghost use Rattle.std.specs.Prelude.{◌≡◌, ◌+◌, ◌*◌, ◌≤◌, ◌<◌, leb, length};
 ghost use Rattle.answer.specs.Answer.{first};
 ghost use Rattle.elf.specs.Elf.{is_elf, elf_refusals, tables_of, elf_header, header_place, section_of, segment_of};

@@ -1,4 +1,6 @@
 // A party's journal folded: of each bundle that its records touch one record is left, of the whole bundle.
+#![tactic(auto)]
+
 ghost use Rattle.std.specs.Prelude.{◌≡◌, true, cond, ◌+◌, ◌≤◌, min, ltb, length, get_or, set, replicate};
 ghost use Rattle.record.specs.Record.{highest};
 ghost use Rattle.records.specs.Journal.{limit, lent, standing, journal_of, valid_of};

@@ -1,5 +1,7 @@
 // What stands beside FILE, in the folder FILE.patches: a sheet for each window, the layout, and while it is worked in the lock and the redo
 // file of a commit.
+#![tactic(auto)]
+
 mod commits;
 mod files;
 mod lock;

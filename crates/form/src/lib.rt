@@ -1,4 +1,6 @@
 // An instruction's form, as A4 or X2, and an edit: another value for the immediate of a form in a slot.
+#![tactic(auto)]
+
 ghost use Rattle.std.specs.Prelude.{◌≡◌};
 ghost use Rattle.form.specs.Form.{is_form, last_of};
 

@@ -1,4 +1,6 @@
 // The calls for programs in C and Rust: cut, immediate and target, on numbers and byte slices.
+#![tactic(auto)]
+
 ghost use Rattle.std.specs.Prelude.{◌≡◌};
 ghost use Rattle.glindorsc.specs.Calls.{Answered, Filled, cut_numbers, cut_call, immediate_call, target_call};
 

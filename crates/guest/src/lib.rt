@@ -1,4 +1,6 @@
 // The code of a file: where it stands, by the file's ELF headers or as an operator says, and a window of it read.
+#![tactic(auto)]
+
 mod exact;
 mod extents;
 mod headers;

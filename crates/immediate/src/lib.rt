@@ -1,4 +1,6 @@
 // The immediates of a bundle's forms, read and changed by the manual, and the targets that they make.
+#![tactic(auto)]
+
 mod fit;
 mod outcome;
 

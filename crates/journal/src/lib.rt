@@ -1,4 +1,6 @@
 // Edits of one immediate each, the journals of those that stand, a party's each, and undoing a party's last.
+#![tactic(auto)]
+
 mod plan;
 
 ghost use Rattle.std.specs.Prelude.{◌≡◌, true};

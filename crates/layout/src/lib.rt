@@ -1,4 +1,6 @@
 // How a file is read and which of its windows have a sheet, as a text: written, looked through, and with a window listed or not.
+#![tactic(auto)]
+
 mod change;
 mod reader;
 

@@ -1,7 +1,7 @@
 // What is to be written, in a buffer with a position. Each function answers the position after what it
 // put; what has no room is dropped.
 use crate::part;
-use hex::put_hex;
+use hex_text::put_hex;
 use text::{put_byte, put_decimal};
 
 // A space and a number.

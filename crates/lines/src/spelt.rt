@@ -39,12 +39,12 @@ pub fn put(s: &[u8], to: &mut [u8]) {
         if s.len() <= at + 1 {
             return;
         }
-        to[i] = hex::digit_value(s[at]) % 16 * 16 + hex::digit_value(s[at + 1]) % 16;
+        to[i] = hex_text::digit_value(s[at]) % 16 * 16 + hex_text::digit_value(s[at + 1]) % 16;
         i += 1;
     }
 }
 
 // A digit, and no capital.
 fn is_digit(c: u8) -> bool {
-    hex::digit_value(c) < 16 && (c <= b'9' || b'a' <= c)
+    hex_text::digit_value(c) < 16 && (c <= b'9' || b'a' <= c)
 }

@@ -6,9 +6,9 @@ use lib.ListN.{length}
 use borrow.Author.Tests.{lt-ltb, le-ltb}
 use Rattle.answer.specs.Answer.{first, accepted, too_long}
 use Rattle.bundle.specs.Bundle.{longest_code}
-use Rattle.hex.specs.Hex.{hex_bytes}
-use Rattle.hex.specs.declared.Ending.{Ending}
-use Rattle.hex.proofs.Enough.{decisive, enough}
+use Rattle.hex_text.specs.Hex.{hex_bytes}
+use Rattle.hex_text.specs.declared.Ending.{Ending}
+use Rattle.hex_text.proofs.Enough.{decisive, enough}
 use Rattle.lister.specs.Listing.{list_refusals, listing_from, listing_of, Decides}
 
 pub short-listed : (code : List ℕ) → length code ≤ longest_code → first (list_refusals code) ≡ accepted

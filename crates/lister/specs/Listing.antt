@@ -4,9 +4,9 @@ use Rattle.answer.specs.Answer.{Refusal, bad_bundle, too_long}
 use Rattle.bundle.specs.Bundle.{longest_code, cut_of}
 use Rattle.bundle.specs.Template.{marked_units}
 use Rattle.bundle.specs.declared.Bundle.{Bundle}
-use Rattle.hex.specs.Hex.{hex_bytes}
-use Rattle.hex.specs.declared.Ending.{Ending}
-use Rattle.hex.specs.declared.Ending.TheVariants.{Whole, BadHex, TooLong}
+use Rattle.hex_text.specs.Hex.{hex_bytes}
+use Rattle.hex_text.specs.declared.Ending.{Ending}
+use Rattle.hex_text.specs.declared.Ending.TheVariants.{Whole, BadHex, TooLong}
 use Rattle.table.specs.Ascii.{ascii}
 use Rattle.text.specs.Ascii.{tab, line}
 use Rattle.text.specs.Decimal.{decimal}

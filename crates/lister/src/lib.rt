@@ -1,4 +1,6 @@
 // The listing of a code, document 01's last example, as a text.
+#![tactic(auto)]
+
 mod line;
 
 ghost use Rattle.std.specs.Prelude.{◌≡◌, [], ◌≤◌, leb, length};
@@ -9,7 +11,7 @@ ghost use Rattle.lister.specs.Listing.{list_of, list_refusals, listing_of, Decid
 
 use answer::{ACCEPTED, NO_ROOM, TOO_LONG};
 use bundle::LONGEST_CODE;
-use hex::Ending;
+use hex_text::Ending;
 pub use line::put_units;
 use text::Written;
 
@@ -25,7 +27,7 @@ pub fn listing(text: &[u8], out: &mut [u8]) -> Written
     ensures enough { Decides ENOUGH text.now }
 {
     let mut code = [0u8; LONGEST_CODE];
-    let decoded = hex::decode(text, &mut code);
+    let decoded = hex_text::decode(text, &mut code);
     let count = decoded.count;
     let ending = decoded.ending;
     match ending {

@@ -1,4 +1,6 @@
 // Reads bytes in hex from standard input and writes the listing of them: document 01's last example.
+#![tactic(auto)]
+
 use console::Started;
 use libc::{STDIN_FILENO, STDOUT_FILENO};
 

@@ -1,4 +1,6 @@
 // What a raw number means, and the raw number of a value.
+#![tactic(auto)]
+
 ghost use Rattle.std.specs.Prelude.{◌≡◌, ◌^◌, ◌<◌, ◌≤◌, true, false};
 ghost use Rattle.operand.specs.Pattern.{pattern_of, integer_of};
 ghost use Rattle.meaning.specs.Meaning.{signed_of, value_of, entry, entry_value, patterned, has_sign, operand_for, taken_by, taken_of, entry_of, place_in, raw_up, raw_down, raw_signed, raw_above, raw_of};

@@ -1,4 +1,6 @@
 // Whether two edits set a bit in common, by the table of rows: a tool asks it before it mixes two files of edits.
+#![tactic(auto)]
+
 ghost use Rattle.std.specs.Prelude.{◌≡◌, ◌||◌, ◌+◌, ◌≤◌, ◌<◌, T, leb};
 ghost use Rattle.answer.specs.Answer.{first, accepted};
 ghost use Rattle.bits.specs.Parts.{apart_from, meet_not};

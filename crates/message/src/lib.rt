@@ -1,4 +1,6 @@
 // What an operator is told, as text: addresses and bundles in hex, values, answers by name, the numbers that a form takes.
+#![tactic(auto)]
+
 mod spoken;
 mod takes;
 
@@ -32,7 +34,7 @@ pub fn put_hex(out: &mut [u8], at: usize, n: u64, width: usize) -> usize {
 pub fn put_bundle(out: &mut [u8], at: usize, halves: Halves) -> usize {
     let mut bytes = [0u8; 16];
     bundle::write(&mut bytes, halves);
-    hex::put_hex(out, at, &bytes)
+    hex_text::put_hex(out, at, &bytes)
 }
 
 // An answer's number and name.

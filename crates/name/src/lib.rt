@@ -1,4 +1,6 @@
 // A form as text, `M48`, and `-` for no form: read and written.
+#![tactic(auto)]
+
 ghost use Rattle.std.specs.Prelude.{◌≡◌, [], ◌∷◌, ◌++◌};
 ghost use Rattle.text.specs.Put.{Put};
 ghost use Rattle.name.specs.Name.{is_letter, name_of, name_at, named_at};

@@ -1,4 +1,6 @@
 // An opcode as text, for `probe` alone: 000's name of it, and `-` for none.
+#![tactic(auto)]
+
 use lines::part;
 use opcodes::Opcode;
 use text::put_text;

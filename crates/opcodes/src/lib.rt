@@ -1,5 +1,7 @@
 // The opcodes of 000's A and B tables, by its names, in the order in which its tables have them first. The tables themselves are in specs:
 // `choice_a` and `choice_b` are the code that is held to them.
+#![tactic(auto)]
+
 #[derive(Drop)]
 pub enum Opcode {
     No,

@@ -1,4 +1,6 @@
 // An instruction's operands with 000's names, and a reading: the last-written position and five operands.
+#![tactic(auto)]
+
 mod twos;
 
 ghost use Rattle.std.specs.Prelude.{◌≡◌, [], ◌∷◌};

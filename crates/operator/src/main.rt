@@ -1,4 +1,6 @@
 // The operator's program, over files: lists, patches, takes patches out again, verifies and counts (`./glindorsc`).
+#![tactic(auto)]
+
 ghost use Rattle.std.specs.Prelude.{◌<◌};
 
 mod aim;

@@ -1,4 +1,6 @@
 // A number that stands in several parts of a slot: gathered from the bundle, and scattered into it.
+#![tactic(auto)]
+
 ghost use Rattle.std.specs.Prelude.{◌≡◌, ◌<◌, T, get_or};
 ghost use Rattle.bits.specs.Parts.{gather, scatter};
 ghost use Rattle.bundle.specs.Bundle.{whole};

@@ -1,4 +1,6 @@
 // Sets slot 2, B1, of document 01's example to 16, and writes the sheet of that edit.
+#![tactic(auto)]
+
 use console::Started;
 use form::{B, Edit, Form};
 use libc::STDOUT_FILENO;

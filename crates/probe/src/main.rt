@@ -1,4 +1,6 @@
 // One line a call, so that anything can drive the compiled library: standard input is answered line by line.
+#![tactic(auto)]
+
 ghost use Rattle.std.specs.Prelude.{◌≡◌, length};
 
 mod calls;

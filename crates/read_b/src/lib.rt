@@ -1,4 +1,6 @@
 // `read_b_operands`: an arm of 000's `match` a function, in its order.
+#![tactic(auto)]
+
 ghost use Rattle.std.specs.Prelude.{◌≡◌};
 ghost use Rattle.reading.specs.Line.{reading_of};
 ghost use Rattle.read_b.specs.Table.{b_forms};

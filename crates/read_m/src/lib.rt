@@ -1,4 +1,6 @@
 // `read_m_operands`: an arm of 000's `match` a function, in its order.
+#![tactic(auto)]
+
 ghost use Rattle.std.specs.Prelude.{◌≡◌, [], ◌∷◌, ◌++◌};
 ghost use Rattle.reading.specs.Line.{◌‥◌, is, mem, i64, s64, dest, no-dest, reading_of};
 ghost use Rattle.read_m.specs.Table.{m_forms, m_forms17, m_forms31, m35, m36, m42, m43};

@@ -1,4 +1,6 @@
 // The call `operands`, over 000's readers of each family.
+#![tactic(auto)]
+
 mod outcome;
 
 ghost use Rattle.std.specs.Prelude.{◌≡◌};

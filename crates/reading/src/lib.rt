@@ -1,4 +1,6 @@
 // 000's `two_op` .. `four_op`, and its pair of five, where one operand is an `ImmI64`: the second in `_imm2`, and so on.
+#![tactic(auto)]
+
 ghost use Rattle.std.specs.Prelude.{◌≡◌, [], ◌∷◌};
 ghost use Rattle.operand.specs.Reading.{listed};
 ghost use Rattle.reading.specs.Line.{difference};

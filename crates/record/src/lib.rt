@@ -1,4 +1,6 @@
 // Records of edits: what was done to a bundle, and the bundle before and after.
+#![tactic(auto)]
+
 ghost use Rattle.std.specs.Prelude.{◌≡◌};
 ghost use Rattle.record.specs.Record.{whole_record, is_whole, same_halves, is_free, may_stand};
 ghost use Rattle.record.specs.Record.{passes};

@@ -1,5 +1,7 @@
 // A slice of records that the caller lends, and that one or two parties share: party 0 has the lower part of it and party 1 the upper.
 // In each part the first `count` places stand, the oldest first, and the others are free.
+#![tactic(auto)]
+
 ghost use Rattle.std.specs.Prelude.{◌≡◌, true, false, ◌-◌, ◌<◌, T, eqb, length, get_or, set, replicate};
 ghost use Rattle.record.specs.Record.{no_record, is_free, may_stand, fits64};
 ghost use Rattle.records.specs.Journal.{limit, lent, all, standing, valid_of, view_if};

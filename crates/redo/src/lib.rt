@@ -1,4 +1,6 @@
 // The redo file, by which a commit is finished after a kill: written piece by piece, looked through, and what becomes of a bundle then.
+#![tactic(auto)]
+
 mod reader;
 mod state;
 

@@ -1,10 +1,12 @@
 // Counts the bundles of images by their templates, and writes the report.
 // The arguments name files of raw bytes; without arguments standard input gives one image, in hex.
+#![tactic(auto)]
+
 mod image;
 mod said;
 
 use console::{DONE, Started};
-use hex::Ending;
+use hex_text::Ending;
 use libc::{STDIN_FILENO, STDOUT_FILENO};
 use tally::NUMBERS;
 
@@ -80,7 +82,7 @@ fn typed() -> Sum {
         };
     }
     let count = read.count;
-    let decoded = hex::decode(&given[..count], &mut bytes);
+    let decoded = hex_text::decode(&given[..count], &mut bytes);
     let ending = decoded.ending;
     if let Ending::BadHex = ending {
         return Sum {

@@ -1,4 +1,6 @@
 // The forms of which no new edit is taken: the numbers of break and nop, which were used as markers.
+#![tactic(auto)]
+
 ghost use Rattle.std.specs.Prelude.{◌≡◌};
 ghost use Rattle.retired.specs.Retired.{is_retired};
 

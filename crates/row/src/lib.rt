@@ -1,4 +1,6 @@
 // The rows of document 01's table: where a form's immediate stands, and what its number means.
+#![tactic(auto)]
+
 ghost use Rattle.std.specs.Prelude.{◌≡◌};
 ghost use Rattle.form.specs.Form.{a, b, f, i, m, x};
 ghost use Rattle.row.specs.Row.{row_of, target_row_of};

@@ -1,4 +1,6 @@
 // A script of a party's edits and undos, run a line at a time, with a line of output for each.
+#![tactic(auto)]
+
 mod line;
 
 ghost use Rattle.std.specs.Prelude.{◌≡◌, ◌+◌, ◌<◌, ◌≤◌, Bool, false, not, ◌&&◌, length, nat_le, nat_lt};

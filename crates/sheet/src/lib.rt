@@ -1,4 +1,6 @@
 // A party's journal as a sheet, written and loaded: document 01, "Journal and sheet".
+#![tactic(auto)]
+
 mod line;
 mod look;
 mod numbered;

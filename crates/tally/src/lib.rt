@@ -1,4 +1,6 @@
 // The template report: an image's bundles counted by their tags, and images added up.
+#![tactic(auto)]
+
 mod lines;
 
 ghost use Rattle.std.specs.Prelude.{◌≡◌, cond, [], ◌++◌, ◌+◌, ◌/◌, ◌≤◌, ◌<◌, length, replicate};

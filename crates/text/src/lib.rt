@@ -3,6 +3,8 @@
 // A `put` function writes at a place of the output and answers the place after what it wrote, or the
 // last that a number can tell where that is past it. A byte for which the output has no place is lost,
 // so a run on an output with none measures the text.
+#![tactic(auto)]
+
 mod decimal;
 mod fields;
 mod number;

@@ -1,5 +1,7 @@
 // Code in a file, by address: which part of it a window shows, and where in the file a bundle stands. A window is 65,536 bytes from an
 // address whose low 16 bits are zero, so that a bundle's number in it doesn't depend on where the code begins.
+#![tactic(auto)]
+
 ghost use Rattle.std.specs.Prelude.{◌≡◌, ◌-◌, min};
 ghost use Rattle.window.specs.Window.{spot_of, lies_in, is_code, shown_in, place_of};
 

@@ -2,7 +2,7 @@
 -- Assumes nothing.
 use Rattle.std.proofs.Common.{◌≡◌, ℕ, ◌+◌, ◌*◌, ◌^◌, ◌<◌, ◌≤◌, true, false, List, length, get_or, drop, pow-suc, add-one, arith, lit<, drop_of_length-le, drop-cons, le-ltb, lt-ltb}
 use native.Mathlib.Nat.{pow-le-pow_right}
-use Rattle.hex.specs.Hex.{digit_value}
+use Rattle.hex_text.specs.Hex.{digit_value}
 use Rattle.words.specs.Number.{are_hex, hex_worth}
 
 module _ (word : List ℕ) (i : ℕ) where

@@ -1,6 +1,6 @@
 -- The number that a word is. A word is a whole text: a number has nothing before or after it. Assumes nothing.
 use Rattle.std.specs.Prelude.{ℕ, ◌+◌, ◌*◌, ◌^◌, Bool, true, cond, ◌&&◌, ◌||◌, List, [], ◌∷◌, length, drop, ◌==◌, nat_le, nat_lt}
-use Rattle.hex.specs.Hex.{digit_value}
+use Rattle.hex_text.specs.Hex.{digit_value}
 use Rattle.table.specs.Ascii.{ascii}
 use Rattle.text.specs.Ascii.{within, starts_with}
 use Rattle.text.specs.Fields.{after_number}

@@ -1,4 +1,6 @@
 // Words as operators write them, each a whole text with nothing before or after it: numbers, values, places in a code, forms.
+#![tactic(auto)]
+
 mod outcome;
 
 ghost use Rattle.std.specs.Prelude.{◌≡◌};
@@ -93,7 +95,7 @@ fn hex_in(word: &[u8]) -> Given
     let mut n: u64 = 0;
     let mut i = 0;
     while i < word.len() {
-        let digit = hex::digit_value(word[i]);
+        let digit = hex_text::digit_value(word[i]);
         if 15 < digit {
             return Given::Refused;
         }

@@ -6,8 +6,8 @@ use native.Mathlib.Omega.{arith}
 use lib.ListN.{length, take, replicate, length-replicate}
 use lib.Seq.{length-take-le}
 use Rattle.bundle.specs.Bundle.{longest_code}
-use Rattle.hex.specs.declared.Ending.TheVariants.{Whole, BadHex, TooLong}
-use Rattle.hex.proofs.Fronts.{Handed, handed}
+use Rattle.hex_text.specs.declared.Ending.TheVariants.{Whole, BadHex, TooLong}
+use Rattle.hex_text.proofs.Fronts.{Handed, handed}
 use Rattle.text.specs.Whole.{wrote_of}
 use Rattle.text.proofs.Wholes.{whole-passed}
 use Rattle.lister.specs.Listing.{list_of, list_refusals, listing_of}

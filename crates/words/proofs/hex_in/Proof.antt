@@ -3,7 +3,7 @@
 use Rattle.std.proofs.Common.{◌≡◌, ℕ, ◌-◌, ◌^◌, ◌<◌, ◌≤◌, false, List, length, get_or, drop, refl, ◌∙◌, arith, rules, le-leb}
 use mathlib.Core.Bool.{and-false}
 use borrow.Author.Tests.{lt-leb}
-use Rattle.hex.specs.Hex.{digit_value}
+use Rattle.hex_text.specs.Hex.{digit_value}
 use Rattle.text.specs.Ascii.{within}
 use Rattle.words.specs.Number.{are_hex, hex_worth, hex_in}
 use Rattle.words.proofs.Hex.{all-hex, all-worth, not-hex, more-hex, more-worth, next-lt, few-lt}

@@ -1,7 +1,9 @@
 // Bytes as text, two hex digits each. They are read in either case, parted by one space or newline; they are written in lower case with
 // nothing between.
+#![tactic(auto)]
+
 ghost use Rattle.std.specs.Prelude.{◌≡◌, ◌<◌, drop};
-ghost use Rattle.hex.specs.Hex.{digit_value, parted, pair_of, front, decoded_of, digit_of, hex_of};
+ghost use Rattle.hex_text.specs.Hex.{digit_value, parted, pair_of, front, decoded_of, digit_of, hex_of};
 ghost use Rattle.text.specs.Put.{Put};
 
 use text::put_byte;

@@ -1,4 +1,4 @@
--- `hex::put_hex` meets its contract. The loop's invariant: the first `i` bytes are written. Assumes nothing.
+-- `hex_text::put_hex` meets its contract. The loop's invariant: the first `i` bytes are written. Assumes nothing.
 use mathlib.Core.Path.{◌≡◌, refl}
 use mathlib.Core.List.{List, [], ◌∷◌, ◌++◌}
 use Prim.Native.Nat.{ℕ, zero, suc, ◌-◌, ◌/◌, ◌%◌, ◌≤◌, ◌<◌}
@@ -8,11 +8,11 @@ use lib.ListN.{length, get_or, take}
 use lib.Seq.{append_snoc, take_all}
 use borrow.Author.Rules.{rules}
 use Rattle.needs.proofs.Together.{together}
-use Rattle.hex.specs.Hex.{digit_of, hex_of}
+use Rattle.hex_text.specs.Hex.{digit_of, hex_of}
 use Rattle.text.specs.Put.{Put}
 use Rattle.text.proofs.Writing.{put-none, put_then, put-length}
-use Rattle.hex.proofs.put_hex.Statement.{statement}
-use Rattle.hex.proofs.put_hex.Tie as tie
+use Rattle.hex_text.proofs.put_hex.Statement.{statement}
+use Rattle.hex_text.proofs.put_hex.Tie as tie
 
 -- as far as the first i bytes
 hex-next : (i : ℕ) (bytes : List ℕ) → i < length bytes → let b = get_or bytes i 0 in hex_of (take (suc i) bytes) ≡ hex_of (take i bytes) ++ (digit_of (b / 16) ∷ digit_of (b % 16) ∷ [])

@@ -1,8 +1,8 @@
--- `hex::digit` meets its contract: each return has the test that led there. Assumes nothing.
+-- `hex_text::digit` meets its contract: each return has the test that led there. Assumes nothing.
 use borrow.Author.Rules.{rules}
 use borrow.Author.Tests.{lt-ltb, le-ltb}
-use Rattle.hex.proofs.digit.Statement.{statement}
-use Rattle.hex.proofs.digit.Tie as tie
+use Rattle.hex_text.proofs.digit.Statement.{statement}
+use Rattle.hex_text.proofs.digit.Tie as tie
 
 pub digit-spec : {M : Type 1} → statement M
 digit-spec =

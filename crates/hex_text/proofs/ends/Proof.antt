@@ -1,10 +1,10 @@
--- `hex::ends` meets its contract: nothing left, or the byte that stands there. Assumes nothing.
+-- `hex_text::ends` meets its contract: nothing left, or the byte that stands there. Assumes nothing.
 use lib.ListN.{drop_of_length-le}
 use lib.Seq.{drop-cons}
-use Rattle.hex.specs.Hex.{parted}
+use Rattle.hex_text.specs.Hex.{parted}
 use borrow.Author.Rules.{rules}
-use Rattle.hex.proofs.ends.Statement.{statement}
-use Rattle.hex.proofs.ends.Tie as tie
+use Rattle.hex_text.proofs.ends.Statement.{statement}
+use Rattle.hex_text.proofs.ends.Tie as tie
 
 pub ends-spec : {M : Type 1} → statement M
 unfolding parted

@@ -1,4 +1,4 @@
--- `hex::decode` meets its contract. The loop's invariant: decoding comes to what the text from `at` on gives in the room that is left, after
+-- `hex_text::decode` meets its contract. The loop's invariant: decoding comes to what the text from `at` on gives in the room that is left, after
 -- the bytes in place already. Assumes nothing.
 use mathlib.Core.Path.{◌≡◌, refl, sym, ◌∙◌}
 use mathlib.Core.List.{List}
@@ -9,14 +9,14 @@ use native.Mathlib.Omega.{arith}
 use borrow.Author.Rules.{rules}
 use lib.ListN.{length, drop, set, length-set, length-drop}
 use lib.Seq.{drop-drop}
-use Rattle.hex.specs.declared.Decoded.{Decoded}
-use Rattle.hex.specs.declared.Ending.{Ending}
-use Rattle.hex.specs.declared.Front.TheVariants.{Byte, Stop}
-use Rattle.hex.specs.Hex.{Bytes, front, hex_bytes, decoded_of}
+use Rattle.hex_text.specs.declared.Decoded.{Decoded}
+use Rattle.hex_text.specs.declared.Ending.{Ending}
+use Rattle.hex_text.specs.declared.Front.TheVariants.{Byte, Stop}
+use Rattle.hex_text.specs.Hex.{Bytes, front, hex_bytes, decoded_of}
 use Rattle.text.specs.Put.{written}
-use Rattle.hex.proofs.Fronts.{byte-room, byte-text, read-stop, read_byte}
-use Rattle.hex.proofs.decode.Statement.{statement}
-use Rattle.hex.proofs.decode.Tie as tie
+use Rattle.hex_text.proofs.Fronts.{byte-room, byte-text, read-stop, read_byte}
+use Rattle.hex_text.proofs.decode.Statement.{statement}
+use Rattle.hex_text.proofs.decode.Tie as tie
 
 -- what is handed back where these bytes come after the first `count`, which stand in `out`
 abbrev more : ℕ → List ℕ → Bytes → Decoded × List ℕ

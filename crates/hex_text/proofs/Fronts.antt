@@ -8,12 +8,12 @@ use native.Mathlib.Omega.{arith}
 use lib.Dec.{ltb, lit≤}
 use lib.ListN.{length, take, drop}
 use lib.Seq.{take-append_seam}
-use Rattle.hex.specs.declared.Decoded.{Decoded}
-use Rattle.hex.specs.declared.Ending.{Ending}
-use Rattle.hex.specs.declared.Ending.TheVariants.{BadHex, TooLong}
-use Rattle.hex.specs.declared.Front.{Front}
-use Rattle.hex.specs.declared.Front.TheVariants.{Byte, Stop}
-use Rattle.hex.specs.Hex.{digit_value, pair_of, front, Bytes, go_on, hex_bytes, decoded_of}
+use Rattle.hex_text.specs.declared.Decoded.{Decoded}
+use Rattle.hex_text.specs.declared.Ending.{Ending}
+use Rattle.hex_text.specs.declared.Ending.TheVariants.{BadHex, TooLong}
+use Rattle.hex_text.specs.declared.Front.{Front}
+use Rattle.hex_text.specs.declared.Front.TheVariants.{Byte, Stop}
+use Rattle.hex_text.specs.Hex.{digit_value, pair_of, front, Bytes, go_on, hex_bytes, decoded_of}
 use Rattle.text.proofs.Writing.{written_start}
 
 -- a byte has room and text

@@ -1,11 +1,11 @@
--- `hex::pair` meets its contract: each return has the tests that led there. Assumes nothing.
+-- `hex_text::pair` meets its contract: each return has the tests that led there. Assumes nothing.
 use mathlib.Core.Logic.{⊎_elim}
 use native.Mathlib.Omega.{arith}
 use borrow.Author.Tests.{lt-ltb, le-ltb, ltb-false, ne_eqb}
-use Rattle.hex.specs.Hex.{pair_of}
+use Rattle.hex_text.specs.Hex.{pair_of}
 use borrow.Author.Rules.{rules}
-use Rattle.hex.proofs.pair.Statement.{statement}
-use Rattle.hex.proofs.pair.Tie as tie
+use Rattle.hex_text.proofs.pair.Statement.{statement}
+use Rattle.hex_text.proofs.pair.Tie as tie
 
 pub pair_spec : {M : Type 1} → statement M
 unfolding pair_of

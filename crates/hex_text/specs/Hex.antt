@@ -1,11 +1,11 @@
 -- Bytes as text: two hex digits each. Read, they are parted by one space or newline; written, by nothing. Assumes nothing.
 use Rattle.std.specs.Prelude.{ℕ, zero, suc, ◌+◌, ◌-◌, ◌*◌, ◌/◌, ◌%◌, Bool, true, cond, ◌||◌, List, [], ◌∷◌, ltb, eqb, length, drop}
 use Rattle.text.specs.Ascii.{within}
-use Rattle.hex.specs.declared.Decoded.{Decoded}
-use Rattle.hex.specs.declared.Ending.{Ending}
-use Rattle.hex.specs.declared.Ending.TheVariants.{Whole, BadHex, TooLong}
-use Rattle.hex.specs.declared.Front.{Front}
-use Rattle.hex.specs.declared.Front.TheVariants.{Byte, Stop}
+use Rattle.hex_text.specs.declared.Decoded.{Decoded}
+use Rattle.hex_text.specs.declared.Ending.{Ending}
+use Rattle.hex_text.specs.declared.Ending.TheVariants.{Whole, BadHex, TooLong}
+use Rattle.hex_text.specs.declared.Front.{Front}
+use Rattle.hex_text.specs.declared.Front.TheVariants.{Byte, Stop}
 use Rattle.text.specs.Put.{written}
 
 -- the value of a hex digit: `0` to `9`, `A` to `F`, `a` to `f`; 16 for any other byte

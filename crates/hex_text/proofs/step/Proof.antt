@@ -1,14 +1,14 @@
--- `hex::step` meets its contract: nothing left, a lone digit, or two. Assumes nothing.
+-- `hex_text::step` meets its contract: nothing left, a lone digit, or two. Assumes nothing.
 use Prim.Native.Nat.{suc}
 use native.Mathlib.Numerals.{add-one, add-two}
 use native.Mathlib.Omega.{arith}
 use lib.ListN.{drop_of_length-le}
 use lib.Seq.{drop-cons}
-use Rattle.hex.specs.Hex.{front}
+use Rattle.hex_text.specs.Hex.{front}
 use borrow.Author.Rules.{rules}
 use Rattle.needs.proofs.Together.{together}
-use Rattle.hex.proofs.step.Statement.{statement}
-use Rattle.hex.proofs.step.Tie as tie
+use Rattle.hex_text.proofs.step.Statement.{statement}
+use Rattle.hex_text.proofs.step.Tie as tie
 
 returns-2 : tie.Need-returns-2
 unfolding front

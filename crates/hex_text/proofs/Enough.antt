@@ -6,7 +6,7 @@ use Prim.Native.Nat.{ℕ, zero, suc, ◌+◌, ◌*◌}
 use native.Mathlib.Omega.{arith}
 use lib.ListN.{take, drop}
 use lib.Seq.{take-nil}
-use Rattle.hex.specs.Hex.{front, parted, pair_of, hex_bytes}
+use Rattle.hex_text.specs.Hex.{front, parted, pair_of, hex_bytes}
 
 front-two : (t : List ℕ) → front 0 (take 2 t) ≡ front 0 t
 unfolding front pair_of

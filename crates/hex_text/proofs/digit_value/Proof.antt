@@ -1,4 +1,4 @@
--- `hex::digit_value` meets its contract: what the code works out and what a digit is worth are compared at every byte by one
+-- `hex_text::digit_value` meets its contract: what the code works out and what a digit is worth are compared at every byte by one
 -- computed check. Assumes nothing.
 use mathlib.Core.Path.{◌≡◌}
 use mathlib.Core.Bool.{cond}
@@ -8,9 +8,9 @@ use borrow.Author.Rules.{rules}
 use borrow.Author.Tests.{lt-ltb, le-ltb, eq-eqb, ne_eqb}
 use Rattle.needs.proofs.Together.{together}
 use Rattle.table.proofs.Check.{checked}
-use Rattle.hex.specs.Hex.{digit_value}
-use Rattle.hex.proofs.digit_value.Statement.{statement}
-use Rattle.hex.proofs.digit_value.Tie as tie
+use Rattle.hex_text.specs.Hex.{digit_value}
+use Rattle.hex_text.proofs.digit_value.Statement.{statement}
+use Rattle.hex_text.proofs.digit_value.Tie as tie
 
 -- the code's bit of a byte
 abbrev bit : ℕ → ℕ
