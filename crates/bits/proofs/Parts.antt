@@ -34,7 +34,7 @@ unfolding scatter
 scatter-lt m n [] v t h = h
 scatter-lt m n (p ∷ ps) v t h =
     let s = and_yes (leb (p.0 + p.1) m) (all_below m ps) t in
-    scatter-lt m _ ps _ s.1 (put-lt n p.0 p.1 v m (leb→le _ _ s.0) h)
+    scatter-lt m (put n p.0 p.1 v) ps (v / 2 ^ p.1) s.1 (put-lt n p.0 p.1 v m (leb→le _ _ s.0) h)
 
 -- parts apart: one ends where the other begins or before, and so do those that lie within them
 apart-sides : (p q : ℕ × ℕ) → T (apart p q) → (p.0 + p.1 ≤ q.0) ⊎ (q.0 + q.1 ≤ p.0)
@@ -68,7 +68,7 @@ unfolding scatter
 part-scatter n q [] v t = refl
 part-scatter n q (p ∷ ps) v t =
     let s = and_yes (apart q p) (apart_from q ps) t in
-    part-scatter _ q ps _ s.1 ∙ part_apart n p q v s.0
+    part-scatter (put n p.0 p.1 v) q ps (v / 2 ^ p.1) s.1 ∙ part_apart n p q v s.0
 
 put-scatter : (n : ℕ) (q : ℕ × ℕ) (ps : Parts) (v u : ℕ) → T (apart_from q ps)
     → put (scatter n ps v) q.0 q.1 u ≡ scatter (put n q.0 q.1 u) ps v
@@ -76,7 +76,7 @@ unfolding scatter
 put-scatter n q [] v u t = refl
 put-scatter n q (p ∷ ps) v u t =
     let s = and_yes (apart q p) (apart_from q ps) t in
-    put-scatter _ q ps _ u s.1 ∙ ap (λ (x : ℕ). scatter x ps (v / 2 ^ p.1)) (put-apart n p q v u s.0)
+    put-scatter (put n p.0 p.1 v) q ps (v / 2 ^ p.1) u s.1 ∙ ap (λ (x : ℕ). scatter x ps (v / 2 ^ p.1)) (put-apart n p q v u s.0)
 
 -- what was written is read
 pub gather-scatter : (n : ℕ) (ps : Parts) (v : ℕ) → T (separate ps) → gather (scatter n ps v) ps ≡ v % 2 ^ widths ps
@@ -84,7 +84,7 @@ unfolding gather scatter
 gather-scatter n [] v t = sym (mod-one v)
 gather-scatter n (p ∷ ps) v t =
     let s = and_yes (apart_from p ps) (separate ps) t in
-    ap₂ (above p.1) (part-scatter _ p ps _ s.0 ∙ get-put n p.0 p.1 v) (gather-scatter _ ps (v / 2 ^ p.1) s.1)
+    ap₂ (above p.1) (part-scatter (put n p.0 p.1 v) p ps (v / 2 ^ p.1) s.0 ∙ get-put n p.0 p.1 v) (gather-scatter (put n p.0 p.1 v) ps (v / 2 ^ p.1) s.1)
     ∙ add_comm (v % 2 ^ p.1) _
     ∙ ap (λ (x : ℕ). x + v % 2 ^ p.1) (mul_comm (2 ^ p.1) _)
     ∙ sym (mod-pow-add v (widths ps) p.1)
@@ -108,7 +108,7 @@ scatter-scatter n (p ∷ ps) u v t =
     let s = and_yes (apart_from p ps) (separate ps) t in
     ap (λ (x : ℕ). scatter x ps (v / 2 ^ p.1))
     (put-scatter _ p ps _ v s.0 ∙ ap (λ (x : ℕ). scatter x ps (u / 2 ^ p.1)) (put-put n p.0 p.1 u v))
-    ∙ scatter-scatter _ ps (u / 2 ^ p.1) (v / 2 ^ p.1) s.1
+    ∙ scatter-scatter (put n p.0 p.1 v) ps (u / 2 ^ p.1) (v / 2 ^ p.1) s.1
 
 -- writes into parts that don't meet commute
 pub scatter-comm : (n : ℕ) (ps qs : Parts) (u v : ℕ) → T (meet_not qs ps) → scatter (scatter n ps u) qs v ≡ scatter (scatter n qs v) ps u
@@ -116,7 +116,7 @@ unfolding scatter
 scatter-comm n ps [] u v t = refl
 scatter-comm n ps (q ∷ qs) u v t =
     let s = and_yes (apart_from q ps) (meet_not qs ps) t in
-    ap (λ (x : ℕ). scatter x qs (v / 2 ^ q.1)) (put-scatter n q ps u v s.0) ∙ scatter-comm _ ps qs u _ s.1
+    ap (λ (x : ℕ). scatter x qs (v / 2 ^ q.1)) (put-scatter n q ps u v s.0) ∙ scatter-comm (put n q.0 q.1 v) ps qs u (v / 2 ^ q.1) s.1
 
 -- no other bit changes
 pub scatter-bit : (n i : ℕ) (ps : Parts) (v : ℕ) → T (apart_from (i, 1) ps) → bit (scatter n ps v) i ≡ bit n i
