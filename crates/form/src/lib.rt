@@ -40,6 +40,7 @@ pub struct Edit {
     pub value: Operand,
 }
 
+#[tactic(auto, unfolding(crate::specs::Form::is_form))]
 pub fn is_form(form: Form) -> bool
     ensures { result ≡ is_form form }
 {
