@@ -16,7 +16,7 @@ use Rattle.bundle.specs.Template.{reserved, template_of}
 use Rattle.bundle.specs.declared.Bundle.{Bundle}
 use Rattle.bundle.specs.Bundle.{longest_code, bundle_at, number_at, find_answer, cut_of, tag_of, slots_of, slot_of, joined, join_refusals, join_of}
 use Rattle.bundle.proofs.Bytes.{Bytes, bytes-number, number-bytes, number_lt, length-bytes, bytes_take, bytes_drop}
-use Rattle.bundle.proofs.Halves.{joined-cut, cut-joined, cut-joined-tag, joined-lt}
+use Rattle.bundle.proofs.Whole.{joined-cut, cut-joined, cut-joined-tag, joined-lt}
 use Rattle.bundle.proofs.Laws.{Joinable, found-sixteen, cut-found, cut-done, join-done, joinable}
 
 -- the number of sixteen bytes

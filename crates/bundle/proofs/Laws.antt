@@ -15,7 +15,7 @@ use Rattle.bundle.specs.Bytes.{bytes}
 use Rattle.bundle.specs.Template.{reserved, template_of}
 use Rattle.bundle.specs.Bundle.{bundle_at, number_at, find_answer, tag_of, slots_of, halves_of, whole, joined, loaded_of, bundle_refusals, cut_number, uncut, cut_of, join_refusals, join_of}
 use Rattle.bundle.proofs.Bytes.{Bytes, number_lt, bytes_take, bytes_drop}
-use Rattle.bundle.proofs.Halves.{Fitting, tag-of-whole, slots-of-whole}
+use Rattle.bundle.proofs.Whole.{Fitting, tag-of-whole, slots-of-whole}
 use Rattle.bundle.proofs.Lies.{lies}
 
 -- a number by whether its tag is reserved

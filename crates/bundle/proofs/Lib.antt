@@ -1,6 +1,5 @@
 pub mod Bytes
 pub mod Elements
-pub mod Halves
 pub mod Inverse
 pub mod Laws
 pub mod Loading
@@ -8,3 +7,4 @@ pub mod Lies
 pub mod Seam
 pub mod Templates
 pub mod Unique
+pub mod Whole

@@ -7,7 +7,7 @@ use Rattle.answer.specs.Answer.{accepted}
 use Rattle.bundle.specs.Bundle.{number_at, find_answer, whole, loaded_of}
 use Rattle.bundle.specs.declared.Loaded.{Loaded}
 use Rattle.bundle.proofs.Bytes.{Bytes}
-use Rattle.bundle.proofs.Halves.{whole-halves}
+use Rattle.bundle.proofs.Whole.{whole-halves}
 use Rattle.bundle.proofs.Laws.{loaded_found, number-at-lt}
 
 pub record Loading (code : List ℕ) (k : ℕ) (loaded : Loaded) : Type 0 where

@@ -51,7 +51,7 @@ pub fn find_answer(code: &[u8], bundle: u64) -> u8
     ACCEPTED
 }
 
-#[derive(Drop)]
+#[derive(Clone, Copy)]
 pub struct Loaded {
     pub answer: u8,
     pub halves: Halves,
@@ -70,7 +70,7 @@ pub fn load(code: &[u8], bundle: u64) -> Loaded
     Loaded { answer, halves }
 }
 
-#[derive(Drop)]
+#[derive(Clone, Copy)]
 pub struct Bundle {
     pub answer: u8,
     pub template: Template,

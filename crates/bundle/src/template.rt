@@ -7,7 +7,7 @@ ghost use Rattle.bundle.specs.Template.{unitless};
 
 use crate::half::Halves;
 
-#[derive(Drop)]
+#[derive(Clone, Copy)]
 pub struct Template {
     pub tag: u8,
     pub units: [u8; 3],

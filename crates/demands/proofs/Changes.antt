@@ -14,7 +14,7 @@ use Rattle.answer.specs.Answer.{accepted, first}
 use Rattle.answer.proofs.Laws.{numbered}
 use Rattle.bundle.specs.Bundle.{longest_code, number_at, halves_of, whole}
 use Rattle.bundle.proofs.Bytes.{Bytes}
-use Rattle.bundle.proofs.Halves.{whole-halves}
+use Rattle.bundle.proofs.Whole.{whole-halves}
 use Rattle.bundle.proofs.Laws.{number-at-lt}
 use Rattle.bundle.proofs.Lies.{Lies, found-when}
 use Rattle.form.specs.declared.Edit.{Edit}

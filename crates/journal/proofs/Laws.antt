@@ -12,7 +12,7 @@ use Rattle.answer.specs.Answer.{Refusal, accepted, first, outcome}
 use Rattle.answer.proofs.Laws.{numbered, NoneApplies, none-applies, first_on, first-stop, first-without, accepts, refuses}
 use Rattle.bundle.specs.Bundle.{find_refusals, find_answer, number_at, units_in, whole}
 use Rattle.bundle.proofs.Bytes.{Bytes}
-use Rattle.bundle.proofs.Halves.{whole-halves}
+use Rattle.bundle.proofs.Whole.{whole-halves}
 use Rattle.bundle.proofs.Laws.{number-at-lt}
 use Rattle.bundle.proofs.Lies.{found-when}
 use Rattle.form.specs.declared.Edit.{Edit}

@@ -10,7 +10,7 @@ use lib.Ieee.Fits.{and_l, and_r}
 use Rattle.answer.specs.Answer.{accepted, first}
 use Rattle.bundle.specs.Bundle.{halves_of, whole}
 use Rattle.bundle.specs.declared.half.Halves.{Halves}
-use Rattle.bundle.proofs.Halves.{whole-halves}
+use Rattle.bundle.proofs.Whole.{whole-halves}
 use Rattle.form.specs.Form.{no_form}
 use Rattle.form.specs.declared.Edit.{Edit}
 use Rattle.operand.specs.Pattern.{pattern_in}

@@ -8,7 +8,7 @@ use lib.Seq.{length-take-le}
 use Rattle.answer.specs.Answer.{accepted}
 use Rattle.bundle.specs.Bytes.{bytes}
 use Rattle.bundle.specs.Bundle.{joined, whole}
-use Rattle.bundle.proofs.Halves.{joined-lt, whole-halves}
+use Rattle.bundle.proofs.Whole.{joined-lt, whole-halves}
 use Rattle.bundle.proofs.Laws.{Joinable, joinable, join-refused, join-done}
 use borrow.Author.Rules.{rules}
 use Rattle.bundle.proofs.join.Statement.{statement}

@@ -4,7 +4,7 @@ use Rattle.std.proofs.Common.{◌≡◌, ℕ, ◌^◌, ◌<◌, sym, refl, ap, �
 use borrow.Author.Tests.{eqb-false, not-true, not-false}
 use Rattle.answer.specs.Answer.{accepted, bad_value, first}
 use Rattle.bundle.specs.Bundle.{whole, halves_of}
-use Rattle.bundle.proofs.Halves.{halves-whole}
+use Rattle.bundle.proofs.Whole.{halves-whole}
 use Rattle.parts.specs.Placed.{width_of}
 use Rattle.row.specs.Row.{Row, row_of}
 use Rattle.meaning.specs.Meaning.{Bad, operand_for, raw_of}

@@ -5,7 +5,7 @@ use Prim.Native.Nat.{◌+◌, ◌*◌, ◌/◌, ◌%◌, ◌<◌, ◌^◌}
 use native.Mathlib.Omega.{arith}
 use lib.ListN.{get_or}
 use Rattle.bundle.specs.Bundle.{halves_of}
-use Rattle.bundle.proofs.Halves.{halves-whole, whole-joined}
+use Rattle.bundle.proofs.Whole.{halves-whole, whole-joined}
 use borrow.Author.Rules.{rules}
 use Rattle.needs.proofs.Together.{together}
 use Rattle.bundle.proofs.half.pack.Statement.{statement}

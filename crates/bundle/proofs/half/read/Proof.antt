@@ -9,7 +9,7 @@ use Rattle.bits.specs.Part.{above}
 use Rattle.bundle.specs.Bytes.{number}
 use Rattle.bundle.specs.Bundle.{halves_of}
 use Rattle.bundle.proofs.Bytes.{number-split}
-use Rattle.bundle.proofs.Halves.{halves-whole}
+use Rattle.bundle.proofs.Whole.{halves-whole}
 use borrow.Author.Rules.{rules}
 use Rattle.needs.proofs.Together.{together}
 use Rattle.bundle.proofs.half.read.Statement.{statement}

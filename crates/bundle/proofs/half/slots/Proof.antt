@@ -5,7 +5,7 @@ use mathlib.Core.List.{[], ◌∷◌}
 use Prim.Native.Nat.{◌+◌, ◌*◌, ◌/◌, ◌%◌, ◌<◌, ◌^◌}
 use native.Mathlib.Omega.{arith}
 use Rattle.bits.specs.Part.{above}
-use Rattle.bundle.proofs.Halves.{slots-of-halves}
+use Rattle.bundle.proofs.Whole.{slots-of-halves}
 use borrow.Author.Rules.{rules}
 use Rattle.needs.proofs.Together.{together}
 use Rattle.bundle.proofs.half.slots.Statement.{statement}

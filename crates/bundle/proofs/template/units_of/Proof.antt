@@ -1,7 +1,7 @@
 -- `template::units_of` meets its contract: the tag is the low half's lowest five bits. Assumes nothing.
 use mathlib.Core.Path.{◌∙◌, ap}
 use Rattle.bundle.specs.Template.{units_of}
-use Rattle.bundle.proofs.Halves.{tag-of-halves}
+use Rattle.bundle.proofs.Whole.{tag-of-halves}
 use borrow.Author.Rules.{rules}
 use Rattle.bundle.proofs.template.units_of.Statement.{statement}
 use Rattle.bundle.proofs.template.units_of.Tie as tie
