@@ -1,2 +1,1 @@
 pub mod LastArm
-pub mod Minus
