@@ -7,7 +7,7 @@ use native.Mathlib.Nat.{add-zero, add-suc, suc-add, zero-add}
 use native.Mathlib.Decide.{dec_lt}
 use native.Mathlib.Omega.{arith}
 use lib.ListN.{length, get_or, take, drop, set, length-append, length-drop, drop_of_length-le}
-use lib.Seq.{length-take-le, take_all, take-length, take-append_seam, set_out, sets-eq, length-sets}
+use lib.Seq.{take_all, take-append_seam, set_out, sets-eq, length-sets}
 use Rattle.text.specs.Decimal.{decimal}
 use Rattle.text.specs.Fields.{fields}
 use Rattle.text.specs.Put.{written, past, Put}
@@ -47,15 +47,6 @@ written-full (x ∷ out) (c ∷ text) h = rw (written_on c out 0 text) (ap (λ (
 pub written_start : (out text : List ℕ) → length text ≤ length out → written out 0 text ≡ text ++ drop (length text) out
 written_start out text h =
     written_is out 0 text (rw zero-add h) ∙ ap (λ (n : ℕ). text ++ drop n out) (zero-add (length text))
-
-pub written-cut : (out text : List ℕ) → length out ≤ length text → written out 0 (take (length out) text) ≡ written out 0 text
-written-cut out text h =
-    let size : length (take (length out) text) ≡ length out = length-take-le (length out) text h in
-    written-full out (take (length out) text) (omega arith) ∙ take_all (length out) (take (length out) text) (omega arith) ∙ sym (written-full out text h)
-
--- what the kit's copy leaves
-pub copied : (out text : List ℕ) → length text ≤ length out → take (length text) text ++ drop (length text) out ≡ written out 0 text
-copied out text h = rw (take-length text) (sym (written_start out text h))
 
 pub written-front : (out text : List ℕ) → length text ≤ length out → take (length text) (written out 0 text) ≡ text
 written-front out text h = rw (written_start out text h) (take-append_seam text _)

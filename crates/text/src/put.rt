@@ -30,10 +30,10 @@ fn put_front(out: &mut [u8], text: &[u8])
 {
     let room = out.len();
     if room < text.len() {
-        bytes::copy(&text[..room], out);
+        out.copy_from_slice(&text[..room]);
         return;
     }
-    bytes::copy(text, out);
+    out[..text.len()].copy_from_slice(text);
 }
 
 // A number, and the byte that ends it.
