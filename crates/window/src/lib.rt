@@ -8,7 +8,7 @@ ghost use Rattle.window.specs.Window.{spot_of, lies_in, is_code, shown_in, place
 const SPAN: u64 = 65536;
 
 // So many bytes of a file from an offset on, and the address of the first; whether they are code.
-#[derive(Drop)]
+#[derive(Clone, Copy)]
 pub struct Extent {
     pub code: bool,
     pub address: u64,
@@ -17,7 +17,7 @@ pub struct Extent {
 }
 
 // Bytes of a window from `first` on, and where in the file they stand.
-#[derive(Drop)]
+#[derive(Clone, Copy)]
 pub struct Part {
     pub first: u64,
     pub offset: u64,
@@ -31,14 +31,14 @@ const NO_PART: Part = Part {
 };
 
 // A place in a file.
-#[derive(Drop)]
+#[derive(Clone, Copy)]
 pub enum Place {
     At(u64),
     Nowhere,
 }
 
 // An address: its window, the bundle there, and what is left below sixteen.
-#[derive(Drop)]
+#[derive(Clone, Copy)]
 pub struct Spot {
     pub window: u64,
     pub bundle: u64,
