@@ -20,7 +20,7 @@ pub const M: u64 = b'M' as u64;
 pub const X: u64 = b'X' as u64;
 
 #[repr(C)]
-#[derive(Drop)]
+#[derive(Clone, Copy)]
 pub struct Form {
     pub family: u64,
     pub number: u64,
@@ -32,7 +32,7 @@ pub const NO_FORM: Form = Form {
     number: 0,
 };
 
-#[derive(Drop)]
+#[derive(Clone, Copy)]
 pub struct Edit {
     pub bundle: u64,
     pub slot: u64,

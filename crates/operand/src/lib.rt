@@ -8,22 +8,22 @@ ghost use Rattle.operand.specs.Reading.{listed, one, unread};
 
 pub use twos::{integer, pattern, pattern_in};
 
-#[derive(Drop)]
+#[derive(Clone, Copy)]
 pub struct GPRegister(pub u8);
 
-#[derive(Drop)]
+#[derive(Clone, Copy)]
 pub struct FloatRegister(pub u8);
 
-#[derive(Drop)]
+#[derive(Clone, Copy)]
 pub struct PredicateRegister(pub u8);
 
-#[derive(Drop)]
+#[derive(Clone, Copy)]
 pub struct ControlRegister(pub u8);
 
-#[derive(Drop)]
+#[derive(Clone, Copy)]
 pub struct BranchRegister(pub u8);
 
-#[derive(Drop)]
+#[derive(Clone, Copy)]
 pub enum IndirectionReg {
     Cpuid,
     Dbr,
@@ -37,10 +37,10 @@ pub enum IndirectionReg {
     Rr,
 }
 
-#[derive(Drop)]
+#[derive(Clone, Copy)]
 pub struct ApplicationRegister(pub u8);
 
-#[derive(Drop)]
+#[derive(Clone, Copy)]
 pub enum Operand {
     None,
     GPRegister(GPRegister),
@@ -61,16 +61,16 @@ pub enum Operand {
 }
 
 // The last operand that the instruction writes: 000's `Option<u8>`.
-#[derive(Drop)]
+#[derive(Clone, Copy)]
 pub enum Position {
     None,
     At(u8),
 }
 
-#[derive(Drop)]
+#[derive(Clone, Copy)]
 pub struct Shown(pub Operand);
 
-#[derive(Drop)]
+#[derive(Clone, Copy)]
 pub struct Reading {
     pub position: Position,
     pub operands: [Shown; 5],

@@ -9,7 +9,7 @@ ghost use Rattle.reading.specs.inner.Small.{Small};
 use operand::{Operand, Position, Reading};
 
 // An immediate with a sign: the number of the bits below the sign, and what the sign counts, which is taken from it.
-#[derive(Drop)]
+#[derive(Clone, Copy)]
 pub struct Difference(pub u64, pub u64);
 
 fn operand_of(d: Difference) -> Operand
