@@ -1,14 +1,19 @@
 // What a program does with its arguments, its input and output, and its exit status.
 //
 // A program has no exit status of its own: it writes it to a descriptor that its first two arguments name, as `--status 3`, and whoever
-// started it (`./run`) ends with that. Where a call fails, errno stays, for `os::fail`.
+// started it (`./run`) ends with that.
 #![tactic(auto)]
 
 mod start;
+mod stderr;
 mod transfer;
 
-use libc::STDERR_FILENO;
 pub use start::Started;
+use std::env::FillError;
+use std::fs::OpenOptions;
+use std::io;
+use std::rt::{Env, Files};
+pub use stderr::EprintBytes;
 pub use transfer::{Bytes, read, read_all, write_all};
 
 // The exit statuses: all was done; the input was refused; the arguments are wrong; the system failed; another has the lock.
@@ -23,34 +28,39 @@ pub const SYSTEM: u64 = 3;
 pub const LOCKED: u64 = 4;
 
 // How this program was started.
-pub fn started() -> Started {
+pub fn started(rt: &impl Env) -> Started {
     let mut word = [0u8; 8];
-    let length = os::arg(1, &mut word);
+    let length = rt.arg(1, &mut word).unwrap_or(0);
     let mut number = [0u8; 1];
-    let digits = os::arg(2, &mut number);
+    let digits = rt.arg(2, &mut number).unwrap_or(0);
     start::started_by(&word[..length], &number[..digits])
 }
 
 // Ends with the status, where there is a descriptor for it.
-pub fn end(started: Started, status: u64) {
-    if 0 <= started.status {
-        io::print_decimal(started.status, status);
+pub fn end(rt: &impl Files, started: Started, status: u64) {
+    if let Some(path) = start::path(started.status) {
+        let _ = put_status(rt, path, status);
     }
 }
 
+fn put_status(rt: &impl Files, path: &str, status: u64) -> io::Result<()> {
+    let mut file = OpenOptions::new().write(true).open(rt, path)?;
+    io::Write::write_fmt(&mut file, status)
+}
+
 // Whether the program was given arguments of its own.
-pub fn has_arguments(started: Started) -> bool {
-    started.first < os::arg_count()
+pub fn has_arguments(rt: &impl Env, started: Started) -> bool {
+    !matches!(rt.arg(started.first, &mut []), Err(FillError::NotPresent))
 }
 
 // Says on standard error how the program is used, which is the status then.
-pub fn misused(usage: &[u8]) -> u64 {
-    io::write_all(STDERR_FILENO, usage);
+pub fn misused(rt: &impl EprintBytes, usage: &[u8]) -> u64 {
+    let _ = rt.eprint_bytes(usage);
     USAGE
 }
 
 // Says on standard error what failed and the system's word for it, which is the status then.
-pub fn failed(what: &[u8]) -> u64 {
-    os::fail(what);
+pub fn failed(rt: &impl EprintBytes, what: &[u8], error: &io::Error) -> u64 {
+    let _ = stderr::put_failure(rt, what, error);
     SYSTEM
 }

@@ -41,3 +41,17 @@ fn is_descriptor(word: &[u8]) -> bool
     }
     (b'3' <= word[0]) & (word[0] <= b'9')
 }
+
+// Where the descriptor can be opened, of those that can tell where the status goes.
+pub fn path(descriptor: i32) -> Option<&'static str> {
+    match descriptor {
+        3 => Some("/proc/self/fd/3"),
+        4 => Some("/proc/self/fd/4"),
+        5 => Some("/proc/self/fd/5"),
+        6 => Some("/proc/self/fd/6"),
+        7 => Some("/proc/self/fd/7"),
+        8 => Some("/proc/self/fd/8"),
+        9 => Some("/proc/self/fd/9"),
+        _ => None,
+    }
+}

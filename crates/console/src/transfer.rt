@@ -1,18 +1,22 @@
 // Bytes read and written. A call that a signal interrupts is made again.
-ghost use Rattle.io.specs.Counts.{IsPrefixLen};
+ghost use Rattle.std.specs.Prelude.{◌≡◌, IfOk};
+ghost use Rattle.std.specs.Counts.{IsPrefixLen};
+
+use std::io;
+use std::io::{ErrorKind, Read, Write};
 
 // How often a call is made again: a proved loop has to end.
 const TRIES: u64 = 1000;
 
-// Whether all was read, and how many bytes were.
+// Why not all was read, and how many bytes were.
 #[derive(Drop)]
 pub struct Bytes {
-    pub ok: bool,
+    pub error: Option<io::Error>,
     pub count: usize,
 }
 
 // Reads up to the file's end, or as far as there is room.
-pub fn read_all(file: i32, bytes: &mut [u8]) -> Bytes
+pub fn read_all<F: Read>(file: &mut F, bytes: &mut [u8]) -> Bytes
     ensures { IsPrefixLen result.count bytes.new }
 {
     let mut at = 0;
@@ -20,74 +24,80 @@ pub fn read_all(file: i32, bytes: &mut [u8]) -> Bytes
         let more = read(file, &mut bytes[at..]);
         if more.count == 0 {
             return Bytes {
-                ok: more.ok,
+                error: more.error,
                 count: at,
             };
         }
         at += more.count;
     }
     Bytes {
-        ok: true,
+        error: None,
         count: at,
     }
 }
 
 // Reads once, and again where a signal interrupts that: no byte is the file's end.
-pub fn read(file: i32, bytes: &mut [u8]) -> Bytes
+pub fn read<F: Read>(file: &mut F, bytes: &mut [u8]) -> Bytes
     ensures { IsPrefixLen result.count bytes.new }
 {
     let mut tries = TRIES;
-    let mut got = libc::read(file, bytes);
+    let mut got = file.read(bytes);
     while 0 < tries {
-        if !is_interrupted(got) {
+        if !is_interrupted(&got) {
             break;
         }
-        got = libc::read(file, bytes);
+        got = file.read(bytes);
         tries -= 1;
     }
-    Bytes {
-        ok: 0 <= got,
-        count: io::count(got, bytes),
+    match got {
+        Ok(count) => Bytes { error: None, count },
+        Err(error) => Bytes {
+            error: Some(error),
+            count: 0,
+        },
     }
 }
 
 // Writes the bytes up to `end`, or all where there are fewer, and answers whether they are written.
-pub fn write_all(file: i32, bytes: &[u8], end: usize) -> bool {
+pub fn write_all<F: Write>(file: &mut F, bytes: &[u8], end: usize) -> io::Result<()> {
     if end < bytes.len() {
         return write_whole(file, &bytes[0..end]);
     }
     write_whole(file, bytes)
 }
 
-fn write_whole(file: i32, bytes: &[u8]) -> bool {
+fn write_whole<F: Write>(file: &mut F, bytes: &[u8]) -> io::Result<()> {
     let mut at = 0;
     while at < bytes.len() {
-        let put = write(file, &bytes[at..]);
+        let put = write(file, &bytes[at..])?;
         if put == 0 {
-            return false;
+            return Err(io::Error::from(ErrorKind::WriteZero));
         }
         at += put;
     }
-    true
+    Ok(())
 }
 
-// Writes once, and again where a signal interrupts that; answers how many bytes are written, and 0 where that failed.
-fn write(file: i32, bytes: &[u8]) -> usize
-    ensures { IsPrefixLen result bytes.now }
+// Writes once, and again where a signal interrupts that; answers how many bytes are written.
+fn write<F: Write>(file: &mut F, bytes: &[u8]) -> io::Result<usize>
+    ensures { IfOk result (λ n. IsPrefixLen n bytes.now) }
 {
     let mut tries = TRIES;
-    let mut put = libc::write(file, bytes);
+    let mut put = file.write(bytes);
     while 0 < tries {
-        if !is_interrupted(put) {
+        if !is_interrupted(&put) {
             break;
         }
-        put = libc::write(file, bytes);
+        put = file.write(bytes);
         tries -= 1;
     }
-    io::count(put, bytes)
+    put
 }
 
 // Whether a call that answered so was interrupted.
-fn is_interrupted(got: isize) -> bool {
-    (got < 0) & (os::errno() == libc::EINTR)
+fn is_interrupted(got: &io::Result<usize>) -> bool {
+    match got {
+        Ok(_) => false,
+        Err(error) => error.kind() == ErrorKind::Interrupted,
+    }
 }
