@@ -12,6 +12,7 @@ use operand::Reading;
 pub use outcome::Operands;
 
 // The operands of a form in a word and, for X forms, the L word.
+#[tactic(auto, unfolding(crate::specs::Call::operands_of))]
 pub fn operands(form: Form, word: u64, l: u64) -> Operands
     ensures { result ≡ operands_of form word l }
 {
@@ -38,6 +39,7 @@ fn refused(answer: u8) -> Operands
 const WORD: u64 = 1 << 41;
 
 // A word that has more than 41 bits: the form's, or the L word of an X form.
+#[tactic(auto, unfolding(crate::specs::Call::is_bad))]
 fn is_bad(form: Form, word: u64, l: u64) -> bool
     ensures { result ≡ is_bad form word l }
 {

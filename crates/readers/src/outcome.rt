@@ -1,7 +1,7 @@
 // What `operands` gives: the answer and the reading.
 use operand::Reading;
 
-#[derive(Drop)]
+#[derive(Clone, Copy)]
 pub struct Operands {
     pub answer: u8,
     pub reading: Reading,
