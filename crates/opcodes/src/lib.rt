@@ -2,7 +2,7 @@
 // `choice_a` and `choice_b` are the code that is held to them.
 #![tactic(auto)]
 
-#[derive(Drop)]
+#[derive(Clone, Copy)]
 pub enum Opcode {
     No,
     Add,
@@ -125,7 +125,7 @@ pub enum Opcode {
 }
 
 // An opcode and its form's number in the table's family; 0 for none.
-#[derive(Drop)]
+#[derive(Clone, Copy)]
 pub struct Named(pub Opcode, pub u64);
 
 pub const NONE: Named = Named(Opcode::No, 0);
