@@ -4,6 +4,9 @@
 // started it (`./run`) ends with that.
 #![tactic(auto)]
 
+ghost use Rattle.std.specs.Prelude.{◌≡◌};
+ghost use Rattle.std.specs.Counts.{IsPrefixLen};
+
 mod start;
 mod stderr;
 mod transfer;
@@ -30,9 +33,9 @@ pub const LOCKED: u64 = 4;
 // How this program was started.
 pub fn started(rt: &impl Env) -> Started {
     let mut word = [0u8; 8];
-    let length = rt.arg(1, &mut word).unwrap_or(0);
+    let length = arg(rt, 1, &mut word);
     let mut number = [0u8; 1];
-    let digits = rt.arg(2, &mut number).unwrap_or(0);
+    let digits = arg(rt, 2, &mut number);
     start::started_by(&word[..length], &number[..digits])
 }
 
@@ -50,7 +53,29 @@ fn put_status(rt: &impl Files, path: &str, status: u64) -> io::Result<()> {
 
 // Whether the program was given arguments of its own.
 pub fn has_arguments(rt: &impl Env, started: Started) -> bool {
-    !matches!(rt.arg(started.first, &mut []), Err(FillError::NotPresent))
+    has_argument(rt, started.first)
+}
+
+// Whether there is a word at that place among the arguments, where the program's name stands first.
+fn has_argument(rt: &impl Env, place: usize) -> bool {
+    !matches!(rt.arg(place, &mut []), Err(FillError::NotPresent))
+}
+
+// How many arguments there are, the program's name among them.
+pub fn arg_count(rt: &impl Env) -> usize {
+    for place in 0..usize::MAX {
+        if !has_argument(rt, place) {
+            return place;
+        }
+    }
+    usize::MAX
+}
+
+// Puts an argument at the start of `word` and answers its length, or 0 where there is none or it is longer than that.
+pub fn arg(rt: &impl Env, place: usize, word: &mut [u8]) -> usize
+    ensures { IsPrefixLen result word.new }
+{
+    rt.arg(place, word).unwrap_or(0)
 }
 
 // Says on standard error how the program is used, which is the status then.
