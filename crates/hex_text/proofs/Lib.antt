@@ -1,2 +1,3 @@
 pub mod Enough
 pub mod Fronts
+pub mod Turns

@@ -9,7 +9,7 @@ ghost use Rattle.text.specs.Put.{Put};
 use text::put_byte;
 
 // How reading ended: with the text, at other text, or at a byte too many.
-#[derive(Drop)]
+#[derive(Clone, Copy)]
 pub enum Ending {
     Whole,
     BadHex,
@@ -17,14 +17,14 @@ pub enum Ending {
 }
 
 // What stands at a place: a byte with its separator, or the end.
-#[derive(Drop)]
+#[derive(Clone, Copy)]
 pub enum Front {
     Byte(u8),
     Stop(Ending),
 }
 
 // How many bytes were read, and how reading ended.
-#[derive(Drop)]
+#[derive(Clone, Copy)]
 pub struct Decoded {
     pub count: usize,
     pub ending: Ending,
