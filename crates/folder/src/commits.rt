@@ -4,10 +4,12 @@ use crate::files::Text;
 use crate::{files, names};
 use bundle::Halves;
 use console::{DONE, REFUSED, SYSTEM};
-use guest::Guest;
+use guest::{Guest, text_of};
 use lines::part;
 use message::{failed, said};
 use redo::{Change, Found, Line, Parts, State};
+use std::fs::File;
+use std::io;
 use window::Place;
 
 const REDO: [u8; 4] = *b"redo";
@@ -21,7 +23,7 @@ const BUNDLES: u64 = 4096;
 // has no room, or where a bundle that differs isn't in the file's code.
 pub fn put_redo(
     text: &mut [u8],
-    guest: Guest,
+    guest: &Guest,
     extents: &[u64],
     window: u64,
     before: &[u8],
@@ -70,7 +72,7 @@ pub fn halves(code: &[u8], n: u64) -> Halves {
 fn put_changes(
     text: &mut [u8],
     at: usize,
-    guest: Guest,
+    guest: &Guest,
     extents: &[u64],
     window: u64,
     before: &[u8],
@@ -88,7 +90,7 @@ fn put_changes(
 fn put_if_changed(
     text: &mut [u8],
     at: usize,
-    guest: Guest,
+    guest: &Guest,
     extents: &[u64],
     window: u64,
     before: &[u8],
@@ -114,7 +116,7 @@ pub fn address_of(window: u64, n: u64) -> u64 {
 fn put_change(
     text: &mut [u8],
     at: usize,
-    guest: Guest,
+    guest: &Guest,
     extents: &[u64],
     address: u64,
     old: Halves,
@@ -128,127 +130,139 @@ fn put_change(
 }
 
 // Commits what a redo file's text says, and does it.
-pub fn commit(name: &[u8], text: &mut [u8], end: usize) -> u64 {
+pub fn commit(rt: &HostRuntime, name: &[u8], text: &mut [u8], end: usize) -> u64 {
     if text.len() < end {
-        said(name, b"a bundle to be changed isn't in its code");
+        said(rt, name, b"a bundle to be changed isn't in its code");
         return REFUSED;
     }
-    if !can_be_changed(name) {
-        failed(name);
+    if let Err(error) = can_be_changed(rt, name) {
+        failed(rt, name, &error);
         return SYSTEM;
     }
-    if !files::write(name, &REDO_NEW, text, end) {
-        return given_up(name);
+    if let Err(error) = put_new(rt, name, text, end) {
+        return given_up(rt, name, &error);
     }
-    if !names::rename(name, &REDO_NEW, &REDO) {
-        return given_up(name);
+    if let Err(error) = names::sync(rt, name) {
+        return unfinished(rt, name, &error);
     }
-    if !names::sync(name) {
-        return unfinished(name);
-    }
-    finish(name, text)
+    finish(rt, name, text)
+}
+
+// Writes the redo file, which has its name only then.
+fn put_new(rt: &HostRuntime, name: &[u8], text: &[u8], end: usize) -> io::Result<()> {
+    files::write(rt, name, &REDO_NEW, text, end)?;
+    names::rename(rt, name, &REDO_NEW, &REDO)
 }
 
 // Whether FILE can be opened for writing, which is asked before anything is committed.
-fn can_be_changed(name: &[u8]) -> bool {
-    let file = os::open_update(name);
-    if file < 0 {
-        return false;
-    }
-    libc::close(file);
-    true
+fn can_be_changed(rt: &HostRuntime, name: &[u8]) -> io::Result<()> {
+    open_update(rt, name)?;
+    Ok(())
+}
+
+// Opens FILE for reading and writing.
+fn open_update(rt: &HostRuntime, name: &[u8]) -> io::Result<File> {
+    let text = text_of(name)?;
+    File::options().read(true).write(true).open(rt, text)
 }
 
 // Nothing has changed.
-fn given_up(name: &[u8]) -> u64 {
-    failed(name);
-    names::remove(name, &REDO_NEW);
+fn given_up(rt: &HostRuntime, name: &[u8], error: &io::Error) -> u64 {
+    failed(rt, name, error);
+    let _ = names::remove(rt, name, &REDO_NEW);
     SYSTEM
 }
 
-fn unfinished(name: &[u8]) -> u64 {
-    failed(name);
-    said(name, b"committed, not finished: run it again");
+fn unfinished(rt: &HostRuntime, name: &[u8], error: &io::Error) -> u64 {
+    failed(rt, name, error);
+    said(rt, name, b"committed, not finished: run it again");
     SYSTEM
 }
 
 // Finishes what was committed before, and says so.
-pub fn finish_old(name: &[u8], text: &mut [u8]) -> u64 {
-    if !stands(name) {
+pub fn finish_old(rt: &HostRuntime, name: &[u8], text: &mut [u8]) -> u64 {
+    if !stands(rt, name) {
         return DONE;
     }
-    said(name, b"finishing what was committed");
-    finish(name, text)
+    said(rt, name, b"finishing what was committed");
+    finish(rt, name, text)
 }
 
 // Whether a commit isn't finished.
-pub fn stands(name: &[u8]) -> bool {
-    let file = names::open(name, &REDO);
-    if file < 0 {
-        return false;
+pub fn stands(rt: &HostRuntime, name: &[u8]) -> bool {
+    match names::open(rt, name, &REDO) {
+        Ok(_) => true,
+        Err(_) => false,
     }
-    libc::close(file);
-    true
 }
 
 // Does what the redo file says, where there is one. To do it again changes nothing.
-fn finish(name: &[u8], text: &mut [u8]) -> u64 {
-    match files::read(name, &REDO, text) {
+fn finish(rt: &HostRuntime, name: &[u8], text: &mut [u8]) -> u64 {
+    match files::read(rt, name, &REDO, text) {
         Text::Missing => DONE,
         Text::Failed => SYSTEM,
-        Text::Bytes(n) => finish_by(name, text, n),
+        Text::Bytes(n) => finish_by(rt, name, text, n),
     }
 }
 
-fn finish_by(name: &[u8], text: &[u8], count: usize) -> u64 {
+fn finish_by(rt: &HostRuntime, name: &[u8], text: &[u8], count: usize) -> u64 {
     let n = part::within(text, count);
     let whole = &text[0..n];
     let found = redo::look(whole);
     let Found::Redo(parts) = found else {
         said(
+            rt,
             name,
             b"the redo file in its folder is damaged: nothing was changed",
         );
         return REFUSED;
     };
-    let status = change_file(name, whole, parts);
+    let status = change_file(rt, name, whole, parts);
     if status != DONE {
         return status;
     }
-    if !replace_texts(name, whole, parts) {
-        return unfinished(name);
+    match replace_texts(rt, name, whole, parts) {
+        Ok(()) => DONE,
+        Err(error) => unfinished(rt, name, &error),
     }
-    DONE
 }
 
 // The bundles: all are looked at before one is written.
-fn change_file(name: &[u8], text: &[u8], parts: Parts) -> u64 {
-    let file = os::open_update(name);
-    if file < 0 {
-        return unfinished(name);
+fn change_file(rt: &HostRuntime, name: &[u8], text: &[u8], parts: Parts) -> u64 {
+    match open_update(rt, name) {
+        Ok(file) => change_opened(rt, name, &file, text, parts),
+        Err(error) => unfinished(rt, name, &error),
     }
-    let looked = go_through(name, file, text, parts, false);
-    let status = if looked == DONE {
-        write_through(name, file, text, parts)
-    } else {
-        looked
-    };
-    libc::close(file);
-    status
 }
 
-fn write_through(name: &[u8], file: i32, text: &[u8], parts: Parts) -> u64 {
-    let status = go_through(name, file, text, parts, true);
+fn change_opened(rt: &HostRuntime, name: &[u8], file: &File, text: &[u8], parts: Parts) -> u64 {
+    let looked = go_through(rt, name, file, text, parts, false);
+    if looked == DONE {
+        write_through(rt, name, file, text, parts)
+    } else {
+        looked
+    }
+}
+
+fn write_through(rt: &HostRuntime, name: &[u8], file: &File, text: &[u8], parts: Parts) -> u64 {
+    let status = go_through(rt, name, file, text, parts, true);
     if status != DONE {
         return status;
     }
-    if libc::fsync(file) < 0 {
-        return unfinished(name);
+    match file.sync_all() {
+        Ok(()) => DONE,
+        Err(error) => unfinished(rt, name, &error),
     }
-    DONE
 }
 
-fn go_through(name: &[u8], file: i32, text: &[u8], parts: Parts, write: bool) -> u64 {
+fn go_through(
+    rt: &HostRuntime,
+    name: &[u8],
+    file: &File,
+    text: &[u8],
+    parts: Parts,
+    write: bool,
+) -> u64 {
     let mut at = parts.lines;
     let mut left = parts.count;
     while 0 < left {
@@ -256,7 +270,7 @@ fn go_through(name: &[u8], file: i32, text: &[u8], parts: Parts, write: bool) ->
         let Line::Read(change, next) = line else {
             return REFUSED;
         };
-        let status = change_bundle(name, file, change, write);
+        let status = change_bundle(rt, name, file, change, write);
         if status != DONE {
             return status;
         }
@@ -267,36 +281,44 @@ fn go_through(name: &[u8], file: i32, text: &[u8], parts: Parts, write: bool) ->
 }
 
 // A bundle that is the old one, or torn, is written; one that is neither that nor the new one is another's.
-fn change_bundle(name: &[u8], file: i32, change: Change, write: bool) -> u64 {
+fn change_bundle(rt: &HostRuntime, name: &[u8], file: &File, change: Change, write: bool) -> u64 {
     let mut bytes = [0u8; 16];
-    if !guest::read_at(file, &mut bytes, change.place) {
-        return unfinished(name);
+    if let Err(error) = guest::read_at(file, &mut bytes, change.place) {
+        return unfinished(rt, name, &error);
     }
     let now = halves(&bytes, 0);
     let old = change.old;
     let new = change.new;
     match redo::state_of(now, old, new) {
         State::New => DONE,
-        State::Old => write_bundle(name, file, change.place, new, write),
-        State::Torn => write_bundle(name, file, change.place, new, write),
-        State::Other => others(name),
+        State::Old => write_bundle(rt, name, file, change.place, new, write),
+        State::Torn => write_bundle(rt, name, file, change.place, new, write),
+        State::Other => others(rt, name),
     }
 }
 
-fn write_bundle(name: &[u8], file: i32, place: u64, new: Halves, write: bool) -> u64 {
+fn write_bundle(
+    rt: &HostRuntime,
+    name: &[u8],
+    file: &File,
+    place: u64,
+    new: Halves,
+    write: bool,
+) -> u64 {
     if !write {
         return DONE;
     }
     let mut bytes = [0u8; 16];
     bundle::write(&mut bytes, new);
-    if guest::write_at(file, &bytes, place) {
-        return DONE;
+    match guest::write_at(file, &bytes, place) {
+        Ok(()) => DONE,
+        Err(error) => unfinished(rt, name, &error),
     }
-    unfinished(name)
 }
 
-fn others(name: &[u8]) -> u64 {
+fn others(rt: &HostRuntime, name: &[u8]) -> u64 {
     said(
+        rt,
         name,
         b"9 Stale: a bundle is neither as the commit found it nor as it is to be; the redo file stays",
     );
@@ -304,27 +326,24 @@ fn others(name: &[u8]) -> u64 {
 }
 
 // The sheet and the layout, and then no redo file.
-fn replace_texts(name: &[u8], text: &[u8], parts: Parts) -> bool {
+fn replace_texts(rt: &HostRuntime, name: &[u8], text: &[u8], parts: Parts) -> io::Result<()> {
     let end = part::within(text, parts.end);
     let middle = part::within(&text[0..end], parts.layout);
     let first = part::within(&text[0..middle], parts.sheet);
-    if !replace_sheet(name, parts.window, &text[first..middle]) {
-        return false;
-    }
-    if !files::replace(name, b"layout", &text[middle..end]) {
-        return false;
-    }
-    if !names::sync(name) {
-        return false;
-    }
-    if !names::remove(name, &REDO) {
-        return false;
-    }
-    names::sync(name)
+    replace_sheet(rt, name, parts.window, &text[first..middle])?;
+    files::replace(rt, name, b"layout", &text[middle..end])?;
+    names::sync(rt, name)?;
+    names::remove(rt, name, &REDO)?;
+    names::sync(rt, name)
 }
 
-fn replace_sheet(name: &[u8], window: u64, sheet: &[u8]) -> bool {
+fn replace_sheet(rt: &HostRuntime, name: &[u8], window: u64, sheet: &[u8]) -> io::Result<()> {
     let mut leaf = [0u8; 16];
-    let n = io::hex(window, 16, &mut leaf);
-    files::replace(name, &leaf[..n], sheet)
+    put_leaf(&mut leaf, window);
+    files::replace(rt, name, &leaf, sheet)
+}
+
+// The name of a window's sheet: its address in sixteen digits.
+pub fn put_leaf(leaf: &mut [u8], window: u64) {
+    message::put_hex(leaf, 0, window, 16);
 }

@@ -12,18 +12,18 @@ pub use files::Text;
 pub use lock::{Owner, give_back, owner_of, take};
 
 // Reads the layout.
-pub fn read_layout(name: &[u8], bytes: &mut [u8]) -> Text {
-    files::read(name, b"layout", bytes)
+pub fn read_layout(rt: &HostRuntime, name: &[u8], bytes: &mut [u8]) -> Text {
+    files::read(rt, name, b"layout", bytes)
 }
 
 // Reads a window's sheet.
-pub fn read_sheet(name: &[u8], window: u64, bytes: &mut [u8]) -> Text {
+pub fn read_sheet(rt: &HostRuntime, name: &[u8], window: u64, bytes: &mut [u8]) -> Text {
     let mut leaf = [0u8; 16];
-    let n = io::hex(window, 16, &mut leaf);
-    files::read(name, &leaf[..n], bytes)
+    commits::put_leaf(&mut leaf, window);
+    files::read(rt, name, &leaf, bytes)
 }
 
 // Reads the lock.
-pub fn read_lock(name: &[u8], bytes: &mut [u8]) -> Text {
-    files::read(name, b"lock", bytes)
+pub fn read_lock(rt: &HostRuntime, name: &[u8], bytes: &mut [u8]) -> Text {
+    files::read(rt, name, b"lock", bytes)
 }

@@ -1,7 +1,13 @@
 // The files of the folder FILE.patches, by FILE's name and their own.
-use libc::PATH_MAX;
+use guest::text_of;
 use lines::part;
+use std::fs::File;
+use std::io::ErrorKind;
+use std::{fs, io};
 use text::put_text;
+
+// A path has fewer bytes.
+const PATH_MAX: usize = 4096;
 
 fn put_path(path: &mut [u8], name: &[u8], leaf: &[u8]) -> usize {
     let next = put_text(path, 0, name);
@@ -9,81 +15,98 @@ fn put_path(path: &mut [u8], name: &[u8], leaf: &[u8]) -> usize {
     put_text(path, slash, leaf)
 }
 
-pub fn open(name: &[u8], leaf: &[u8]) -> i32 {
+pub fn open(rt: &HostRuntime, name: &[u8], leaf: &[u8]) -> io::Result<File> {
     let mut path = [0u8; PATH_MAX];
     let end = put_path(&mut path, name, leaf);
     let n = part::within(&path, end);
-    os::open_read(&path[0..n])
+    File::open(rt, text_of(&path[0..n])?)
 }
 
 // Opens a file to be written anew.
-pub fn open_anew(name: &[u8], leaf: &[u8]) -> i32 {
+pub fn open_anew(rt: &HostRuntime, name: &[u8], leaf: &[u8]) -> io::Result<File> {
     let mut path = [0u8; PATH_MAX];
     let end = put_path(&mut path, name, leaf);
     let n = part::within(&path, end);
-    os::open_overwrite(&path[0..n])
+    File::create(rt, text_of(&path[0..n])?)
 }
 
 // Makes a file that isn't there yet.
-pub fn create(name: &[u8], leaf: &[u8]) -> i32 {
+pub fn create(rt: &HostRuntime, name: &[u8], leaf: &[u8]) -> io::Result<File> {
     let mut path = [0u8; PATH_MAX];
     let end = put_path(&mut path, name, leaf);
     let n = part::within(&path, end);
-    os::create(&path[0..n])
+    let text = text_of(&path[0..n])?;
+    File::options().write(true).create_new(true).open(rt, text)
 }
 
-// Whether a file is gone then.
-pub fn remove(name: &[u8], leaf: &[u8]) -> bool {
+// Removes a file, where it is there.
+pub fn remove(rt: &HostRuntime, name: &[u8], leaf: &[u8]) -> io::Result<()> {
     let mut path = [0u8; PATH_MAX];
     let end = put_path(&mut path, name, leaf);
     let n = part::within(&path, end);
-    if os::unlink(&path[0..n]) == 0 {
-        return true;
-    }
-    os::errno() == libc::ENOENT
+    unless(
+        fs::remove_file(rt, text_of(&path[0..n])?),
+        ErrorKind::NotFound,
+    )
 }
 
-pub fn rename(name: &[u8], leaf: &[u8], to: &[u8]) -> bool {
+pub fn rename(rt: &HostRuntime, name: &[u8], leaf: &[u8], to: &[u8]) -> io::Result<()> {
     let mut path = [0u8; PATH_MAX];
     let mut path_to = [0u8; PATH_MAX];
     let end = put_path(&mut path, name, leaf);
     let end_to = put_path(&mut path_to, name, to);
     let n = part::within(&path, end);
     let m = part::within(&path_to, end_to);
-    os::rename(&path[0..n], &path_to[0..m]) == 0
+    fs::rename(rt, text_of(&path[0..n])?, text_of(&path_to[0..m])?)
 }
 
-// Makes the folder, where it isn't there, and whether it is there then; its own entry is synced.
-pub fn make(name: &[u8]) -> bool {
+// Makes the folder, where it isn't there; its own entry is synced.
+pub fn make(rt: &HostRuntime, name: &[u8]) -> io::Result<()> {
     let mut path = [0u8; PATH_MAX];
     let end = put_path(&mut path, name, b"");
     let n = part::within(&path, end);
-    if os::mkdir(&path[0..n]) == 0 {
-        return sync_parent(name);
+    match fs::create_dir(rt, text_of(&path[0..n])?) {
+        Ok(()) => sync_parent(rt, name),
+        Err(error) => unless(Err(error), ErrorKind::AlreadyExists),
     }
-    os::errno() == libc::EEXIST
+}
+
+// An error of that kind is none.
+fn unless(done: io::Result<()>, kind: ErrorKind) -> io::Result<()> {
+    match done {
+        Ok(()) => Ok(()),
+        Err(error) => {
+            if error.kind() == kind {
+                Ok(())
+            } else {
+                Err(error)
+            }
+        }
+    }
 }
 
 // Removes the folder, where nothing stands in it.
-pub fn remove_folder(name: &[u8]) {
+pub fn remove_folder(rt: &HostRuntime, name: &[u8]) {
     let mut path = [0u8; PATH_MAX];
     let end = put_path(&mut path, name, b"");
     let n = part::within(&path, end);
-    os::rmdir(&path[0..n]);
+    if let Ok(text) = text_of(&path[0..n]) {
+        let _ = fs::remove_dir(rt, text);
+    }
 }
 
-// Whether the folder's entries are on the disk then.
-pub fn sync(name: &[u8]) -> bool {
-    synced(open(name, b""))
+// Sees to it that the folder's entries are on the disk.
+pub fn sync(rt: &HostRuntime, name: &[u8]) -> io::Result<()> {
+    synced(open(rt, name, b""))
 }
 
 // The same of the folder that FILE stands in.
-fn sync_parent(name: &[u8]) -> bool {
+fn sync_parent(rt: &HostRuntime, name: &[u8]) -> io::Result<()> {
     let n = part::within(name, parent_end(name));
     if n == 0 {
-        return synced(os::open_read(b"."));
+        return synced(File::open(rt, "."));
     }
-    synced(os::open_read(&name[0..n]))
+    synced(File::open(rt, text_of(&name[0..n])?))
 }
 
 // Where the last slash of a name ends, or 0.
@@ -99,11 +122,7 @@ fn parent_end(name: &[u8]) -> usize {
     end
 }
 
-fn synced(folder: i32) -> bool {
-    if folder < 0 {
-        return false;
-    }
-    let ok = libc::fsync(folder) == 0;
-    libc::close(folder);
-    ok
+fn synced(opened: io::Result<File>) -> io::Result<()> {
+    let folder = opened?;
+    folder.sync_all()
 }

@@ -3,13 +3,15 @@ use crate::exact::read_at;
 use crate::extents::{MOST, overlaps, put_extent};
 use elf::{File, Table, Tables};
 use message::{failed, said};
+use std::fs;
+use std::io;
 use window::{Extent, Place};
 
 // What the file is, or that it can't be read.
 #[derive(Drop)]
 pub enum Headers {
     Are(File),
-    Failed,
+    Failed(io::Error),
 }
 
 // How many extents were found, and whether all is well so far; where it isn't, that was said.
@@ -28,33 +30,41 @@ const NONE: Extents = Extents {
 #[derive(Drop)]
 enum Entry {
     Is(Extent),
-    Failed,
+    Failed(io::Error),
 }
 
-pub fn headers_of(file: i32, length: u64) -> Headers {
+pub fn headers_of(file: &fs::File, length: u64) -> Headers {
     if length < elf::HEADER as u64 {
         return Headers::Are(File::Raw);
     }
     let mut head = [0u8; elf::HEADER];
-    if !read_at(file, &mut head, 0) {
-        return Headers::Failed;
+    if let Err(error) = read_at(file, &mut head, 0) {
+        return Headers::Failed(error);
     }
     Headers::Are(elf::header(&head))
 }
 
 // The extents of a linked file's code: its sections, or where it has no section headers its segments.
-pub fn linked(name: &[u8], file: i32, length: u64, tables: Tables, extents: &mut [u64]) -> Extents {
+pub fn linked(
+    rt: &HostRuntime,
+    name: &[u8],
+    file: &fs::File,
+    length: u64,
+    tables: Tables,
+    extents: &mut [u64],
+) -> Extents {
     let sections = tables.sections;
     if sections.count == 0 {
         let segments = tables.segments;
-        return of_table(name, file, length, segments, false, extents);
+        return of_table(rt, name, file, length, segments, false, extents);
     }
-    of_table(name, file, length, sections, true, extents)
+    of_table(rt, name, file, length, sections, true, extents)
 }
 
 fn of_table(
+    rt: &HostRuntime,
     name: &[u8],
-    file: i32,
+    file: &fs::File,
     length: u64,
     table: Table,
     sections: bool,
@@ -63,7 +73,7 @@ fn of_table(
     let mut found = Extents { ok: true, count: 0 };
     let mut k = 0;
     while k < table.count {
-        found = with_entry(name, file, length, table, k, sections, extents, found);
+        found = with_entry(rt, name, file, length, table, k, sections, extents, found);
         k += 1;
     }
     found
@@ -71,8 +81,9 @@ fn of_table(
 
 // The extents with that of header k, where it is code.
 fn with_entry(
+    rt: &HostRuntime,
     name: &[u8],
-    file: i32,
+    file: &fs::File,
     length: u64,
     table: Table,
     k: u64,
@@ -86,7 +97,7 @@ fn with_entry(
     let need = if sections { elf::SECTION } else { elf::SEGMENT };
     let place = elf::entry_of(table, k, need as u64, length);
     let Place::At(at) = place else {
-        said(name, b"a header of the ELF file lies past its end");
+        said(rt, name, b"a header of the ELF file lies past its end");
         return NONE;
     };
     let entry = if sections {
@@ -94,31 +105,36 @@ fn with_entry(
     } else {
         segment_at(file, at)
     };
-    let Entry::Is(extent) = entry else {
-        failed(name);
-        return NONE;
-    };
-    with_extent(name, length, extents, found, extent)
+    match entry {
+        Entry::Is(extent) => with_extent(rt, name, length, extents, found, extent),
+        Entry::Failed(error) => unread(rt, name, &error),
+    }
 }
 
-fn section_at(file: i32, place: u64) -> Entry {
+fn unread(rt: &HostRuntime, name: &[u8], error: &io::Error) -> Extents {
+    failed(rt, name, error);
+    NONE
+}
+
+fn section_at(file: &fs::File, place: u64) -> Entry {
     let mut head = [0u8; elf::SECTION];
-    if read_at(file, &mut head, place) {
-        return Entry::Is(elf::section(&head));
+    match read_at(file, &mut head, place) {
+        Ok(()) => Entry::Is(elf::section(&head)),
+        Err(error) => Entry::Failed(error),
     }
-    Entry::Failed
 }
 
-fn segment_at(file: i32, place: u64) -> Entry {
+fn segment_at(file: &fs::File, place: u64) -> Entry {
     let mut head = [0u8; elf::SEGMENT];
-    if read_at(file, &mut head, place) {
-        return Entry::Is(elf::segment(&head));
+    match read_at(file, &mut head, place) {
+        Ok(()) => Entry::Is(elf::segment(&head)),
+        Err(error) => Entry::Failed(error),
     }
-    Entry::Failed
 }
 
 // The extents with one more, where it is code.
 pub fn with_extent(
+    rt: &HostRuntime,
     name: &[u8],
     length: u64,
     extents: &mut [u64],
@@ -130,17 +146,18 @@ pub fn with_extent(
     }
     if !window::lies_in(extent, length) {
         said(
+            rt,
             name,
             b"a part of its code lies past the end of the file, or past the highest address",
         );
         return NONE;
     }
     if overlaps(extents, found.count, extent) {
-        said(name, b"two parts of its code share bytes or addresses");
+        said(rt, name, b"two parts of its code share bytes or addresses");
         return NONE;
     }
     if MOST <= found.count {
-        said(name, b"its code has more than 64 parts");
+        said(rt, name, b"its code has more than 64 parts");
         return NONE;
     }
     put_extent(extents, found.count, extent);

@@ -1,32 +1,23 @@
-// Whether a name is that of a symbolic link.
-ghost use Rattle.libc.specs.Io.{Ended};
+// A name as the system takes it, and whether it is that of a symbolic link.
+use std::{fs, io};
 
-use libc::PATH_MAX;
+// The system's word for bytes that are no text.
+const EILSEQ: i32 = 84;
 
-const LAST: usize = PATH_MAX - 1;
-
-pub fn is_link(name: &[u8]) -> bool {
-    if LAST < name.len() {
-        return false;
+// A name as text, which a path is here.
+pub fn text_of(name: &[u8]) -> io::Result<&str> {
+    match std::str::from_utf8(name) {
+        Ok(text) => Ok(text),
+        Err(_) => Err(io::Error::from_raw_os_error(EILSEQ)),
     }
-    let mut text = [0u8; 1];
-    let path = ended(name);
-    0 <= libc::readlink(&path, &mut text)
 }
 
-// As much of a name as leaves room for a 0, and then zeros.
-fn ended(name: &[u8]) -> [u8; PATH_MAX]
-    ensures { Ended result }
-{
-    let mut path = io::buffer();
-    let mut i = 0;
-    while i < name.len() {
-        if LAST <= i {
-            break;
-        }
-        path[i] = name[i];
-        i += 1;
+pub fn is_link(rt: &HostRuntime, name: &[u8]) -> bool {
+    let Ok(text) = text_of(name) else {
+        return false;
+    };
+    match fs::symlink_metadata(rt, text) {
+        Ok(found) => found.is_symlink(),
+        Err(_) => false,
     }
-    path[LAST] = 0;
-    path
 }

@@ -12,7 +12,7 @@ use text::Number;
 use window::Place;
 
 // The bundle's address, the slot and the form.
-#[derive(Drop)]
+#[derive(Clone, Copy)]
 pub struct Aim {
     pub address: u64,
     pub slot: u64,
@@ -32,26 +32,26 @@ pub fn place_of(aim: Aim) -> u64 {
 }
 
 // What the words of a command aim at.
-pub fn aim_of(asked: &[u64], name: &[u8], extents: &[u64], guest: Guest) -> Aimed {
+pub fn aim_of(rt: &HostRuntime, asked: &[u64], name: &[u8], extents: &[u64], guest: &Guest) -> Aimed {
     let command = asked::get(asked, asked::COMMAND);
     if command == asked::UNDO || command == asked::FOLD {
-        return at_window(asked, name);
+        return at_window(rt, asked, name);
     }
-    let named = place::form_in(asked::place(asked, asked::SECOND));
+    let named = place::form_in(rt, asked::place(asked, asked::SECOND));
     let words::Named::Is(form) = named else {
-        return Aimed::Not(place::no_form(name));
+        return Aimed::Not(place::no_form(rt, name));
     };
-    at_form(asked, name, extents, guest, form)
+    at_form(rt, asked, name, extents, guest, form)
 }
 
-fn at_form(asked: &[u64], name: &[u8], extents: &[u64], guest: Guest, form: Form) -> Aimed {
-    let word = place::place_in(asked::place(asked, asked::FIRST));
+fn at_form(rt: &HostRuntime, asked: &[u64], name: &[u8], extents: &[u64], guest: &Guest, form: Form) -> Aimed {
+    let word = place::place_in(rt, asked::place(asked, asked::FIRST));
     let words::Place::At(address, slot) = word else {
-        return Aimed::Not(place::unread(name));
+        return Aimed::Not(place::unread(rt, name));
     };
     let found = guest::place_of(guest, extents, address);
     let Place::At(_) = found else {
-        return Aimed::Not(refuse(name, address, answer::EXHAUSTED_INPUT, form));
+        return Aimed::Not(refuse(rt, name, address, answer::EXHAUSTED_INPUT, form));
     };
     Aimed::At(Aim {
         address,
@@ -60,13 +60,13 @@ fn at_form(asked: &[u64], name: &[u8], extents: &[u64], guest: Guest, form: Form
     })
 }
 
-fn at_window(asked: &[u64], name: &[u8]) -> Aimed {
+fn at_window(rt: &HostRuntime, asked: &[u64], name: &[u8]) -> Aimed {
     if !asked::has(asked, asked::FIRST) {
-        return at_only_window(name);
+        return at_only_window(rt, name);
     }
-    match place::place_in(asked::place(asked, asked::FIRST)) {
+    match place::place_in(rt, asked::place(asked, asked::FIRST)) {
         words::Place::At(address, _) => at(address),
-        words::Place::Refused => Aimed::Not(place::unread(name)),
+        words::Place::Refused => Aimed::Not(place::unread(rt, name)),
     }
 }
 
@@ -79,38 +79,38 @@ fn at(address: u64) -> Aimed {
 }
 
 // The one window that has patches.
-fn at_only_window(name: &[u8]) -> Aimed {
+fn at_only_window(rt: &HostRuntime, name: &[u8]) -> Aimed {
     let mut layout = room::sheet();
-    match folder::read_layout(name, &mut layout) {
-        Text::Missing => none_stands(name),
+    match folder::read_layout(rt, name, &mut layout) {
+        Text::Missing => none_stands(rt, name),
         Text::Failed => Aimed::Not(console::SYSTEM),
-        Text::Bytes(n) => only_in(name, &layout, n),
+        Text::Bytes(n) => only_in(rt, name, &layout, n),
     }
 }
 
-fn none_stands(name: &[u8]) -> Aimed {
-    said(name, b"8 Empty: no patch stands in it");
+fn none_stands(rt: &HostRuntime, name: &[u8]) -> Aimed {
+    said(rt, name, b"8 Empty: no patch stands in it");
     Aimed::Not(REFUSED)
 }
 
-fn only_in(name: &[u8], layout: &[u8], end: usize) -> Aimed {
+fn only_in(rt: &HostRuntime, name: &[u8], layout: &[u8], end: usize) -> Aimed {
     let n = part::within(layout, end);
     let found = layout::look(&layout[0..n]);
     let Found::Layout(_, windows, first) = found else {
-        return Aimed::Not(source::no_layout(name));
+        return Aimed::Not(source::no_layout(rt, name));
     };
     if windows == 0 {
-        return none_stands(name);
+        return none_stands(rt, name);
     }
     if 1 < windows {
         said(
-            name,
+        rt, name,
             b"patches stand in several windows: name an ADDRESS in one of them (status lists them)",
         );
         return Aimed::Not(USAGE);
     }
     match layout::window_at(layout, first) {
         Number::Read(window, _) => at(window),
-        Number::Refused => Aimed::Not(source::no_layout(name)),
+        Number::Refused => Aimed::Not(source::no_layout(rt, name)),
     }
 }

@@ -91,12 +91,12 @@ fn set(asked: &mut [u64], k: usize, n: u64) {
 }
 
 // What the arguments from one on ask.
-pub fn read(asked: &mut [u64], first: usize) {
+pub fn read(rt: &HostRuntime, asked: &mut [u64], first: usize) {
     set(asked, COMMAND, NONE);
-    let count = os::arg_count();
+    let count = console::arg_count(rt);
     let mut i = first;
     while i < count {
-        read_argument(asked, i);
+        read_argument(rt, asked, i);
         i += 1;
     }
     if has(asked, VALUED) {
@@ -104,9 +104,9 @@ pub fn read(asked: &mut [u64], first: usize) {
     }
 }
 
-fn read_argument(asked: &mut [u64], i: usize) {
-    let mut word = io::buffer();
-    let length = os::arg(i, &mut word);
+fn read_argument(rt: &HostRuntime, asked: &mut [u64], i: usize) {
+    let mut word = [0u8; 4096];
+    let length = console::arg(rt, i, &mut word);
     put_word(asked, i as u64, &word[..length]);
 }
 

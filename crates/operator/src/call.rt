@@ -15,7 +15,7 @@ pub enum Called {
     Not(u64),
 }
 
-pub fn call(
+pub fn call(rt: &HostRuntime, 
     asked: &[u64],
     name: &[u8],
     code: &mut [u8],
@@ -26,21 +26,21 @@ pub fn call(
     let form = aim.form;
     match asked::get(asked, asked::COMMAND) {
         asked::EDIT => edit(
-            asked,
+        rt, asked,
             name,
             code,
             sheet,
             out,
             aim,
-            place::value_in(asked::place(asked, asked::THIRD), form),
+            place::value_in(rt, asked::place(asked, asked::THIRD), form),
         ),
-        asked::BRANCH => branch(asked, name, code, sheet, out, aim),
-        asked::UNDO => undo(asked, name, code, sheet, out, aim),
-        _ => perform(name, code, sheet, out, aim, Task::Fold),
+        asked::BRANCH => branch(rt, asked, name, code, sheet, out, aim),
+        asked::UNDO => undo(rt, asked, name, code, sheet, out, aim),
+        _ => perform(rt, name, code, sheet, out, aim, Task::Fold),
     }
 }
 
-fn edit(
+fn edit(rt: &HostRuntime, 
     asked: &[u64],
     name: &[u8],
     code: &mut [u8],
@@ -57,7 +57,7 @@ fn edit(
         form,
         value,
     };
-    perform(name, code, sheet, out, aim, Task::Act(act_of(asked, edit)))
+    perform(rt, name, code, sheet, out, aim, Task::Act(act_of(asked, edit)))
 }
 
 fn act_of(asked: &[u64], edit: Edit) -> Act {
@@ -77,7 +77,7 @@ pub fn is_checked(asked: &[u64], form: Form) -> bool {
 }
 
 // The edit for a wanted target. One that can't be reached is no value.
-fn branch(
+fn branch(rt: &HostRuntime, 
     asked: &[u64],
     name: &[u8],
     code: &mut [u8],
@@ -86,21 +86,21 @@ fn branch(
     aim: Aim,
 ) -> Called {
     let form = aim.form;
-    let wanted = place::number_in(asked::place(asked, asked::THIRD));
+    let wanted = place::number_in(rt, asked::place(asked, asked::THIRD));
     let Given::Unsigned(target) = wanted else {
-        return Called::Not(place::no_number(name));
+        return Called::Not(place::no_number(rt, name));
     };
     let spot = window::spot_of(aim.address);
     let now = immediate::target(code, spot.bundle, aim.slot, form, aim.address);
     if now.answer != answer::ACCEPTED {
-        return Called::Not(refuse(name, aim::place_of(aim), now.answer, form));
+        return Called::Not(refuse(rt, name, aim::place_of(aim), now.answer, form));
     }
     let reached = displacement::displacement(form, aim.address, target);
     let value = reached.value;
-    edit(asked, name, code, sheet, out, aim, value)
+    edit(rt, asked, name, code, sheet, out, aim, value)
 }
 
-fn undo(
+fn undo(rt: &HostRuntime, 
     asked: &[u64],
     name: &[u8],
     code: &mut [u8],
@@ -109,19 +109,19 @@ fn undo(
     aim: Aim,
 ) -> Called {
     if !asked::has(asked, asked::ALL) {
-        return perform(name, code, sheet, out, aim, Task::Act(Act::Undo));
+        return perform(rt, name, code, sheet, out, aim, Task::Act(Act::Undo));
     }
     if check::same(sheet, &sheets::EMPTY) {
-        return Called::Not(refuse(name, aim.address, answer::EMPTY, form::NO_FORM));
+        return Called::Not(refuse(rt, name, aim.address, answer::EMPTY, form::NO_FORM));
     }
     let taken = by_sheet::take_out(code, sheet);
     if taken.answer != answer::ACCEPTED {
-        return Called::Not(refuse(name, aim.address, taken.answer, form::NO_FORM));
+        return Called::Not(refuse(rt, name, aim.address, taken.answer, form::NO_FORM));
     }
     Called::Done(0, 0)
 }
 
-fn perform(
+fn perform(rt: &HostRuntime, 
     name: &[u8],
     code: &mut [u8],
     sheet: &[u8],
@@ -132,7 +132,7 @@ fn perform(
     let done = by_sheet::perform(code, sheet, task, out);
     if done.answer != answer::ACCEPTED {
         let form = aim.form;
-        return Called::Not(refuse(name, aim::place_of(aim), done.answer, form));
+        return Called::Not(refuse(rt, name, aim::place_of(aim), done.answer, form));
     }
     if done.count == 0 {
         return Called::Done(0, 0);

@@ -12,81 +12,80 @@ use guest::{Guest, Opened};
 use layout::{Found, Reading};
 use lines::part;
 use message::{failed, said};
+use std::fs::File;
 
-pub fn change(asked: &[u64], name: &[u8], extents: &mut [u64]) -> u64 {
-    let locked = take(name);
+pub fn change(rt: &HostRuntime, asked: &[u64], name: &[u8], extents: &mut [u64]) -> u64 {
+    let locked = take(rt, name);
     if locked != DONE {
         return locked;
     }
-    let status = under_lock(asked, name, extents);
-    folder::give_back(name);
+    let status = under_lock(rt, asked, name, extents);
+    folder::give_back(rt, name);
     status
 }
 
 // Takes the lock of a FILE that is there, and finishes what was committed before: no folder is made for one that isn't.
-pub fn take(name: &[u8]) -> u64 {
-    match guest::open(name) {
-        Opened::File(file, _) => take_of(name, file),
+pub fn take(rt: &HostRuntime, name: &[u8]) -> u64 {
+    match guest::open(rt, name) {
+        Opened::File(file, _) => take_of(rt, name, file),
         Opened::Link => REFUSED,
         Opened::Failed => SYSTEM,
     }
 }
 
-fn take_of(name: &[u8], file: i32) -> u64 {
-    libc::close(file);
-    let locked = folder::take(name);
+fn take_of(rt: &HostRuntime, name: &[u8], file: File) -> u64 {
+    drop(file);
+    let locked = folder::take(rt, name);
     if locked != DONE {
         return locked;
     }
     let mut text = room::text();
-    let finished = folder::finish_old(name, &mut text);
+    let finished = folder::finish_old(rt, name, &mut text);
     if finished != DONE {
-        folder::give_back(name);
+        folder::give_back(rt, name);
     }
     finished
 }
 
-fn under_lock(asked: &[u64], name: &[u8], extents: &mut [u64]) -> u64 {
-    let found = source::source_of(asked, name, extents);
+fn under_lock(rt: &HostRuntime, asked: &[u64], name: &[u8], extents: &mut [u64]) -> u64 {
+    let found = source::source_of(rt, asked, name, extents);
     let Source::Is(guest, reading) = found else {
         return source::status_of(found);
     };
-    let status = match aim::aim_of(asked, name, extents, guest) {
-        Aimed::At(aim) => in_window(asked, name, extents, guest, reading, aim),
+    match aim::aim_of(rt, asked, name, extents, &guest) {
+        Aimed::At(aim) => in_window(rt, asked, name, extents, &guest, reading, aim),
         Aimed::Not(status) => status,
-    };
-    libc::close(guest.file);
-    status
+    }
 }
 
-fn in_window(
+fn in_window(rt: &HostRuntime, 
     asked: &[u64],
     name: &[u8],
     extents: &[u64],
-    guest: Guest,
+    guest: &Guest,
     reading: Reading,
     aim: Aim,
 ) -> u64 {
     let mut code = room::code();
     let mut sheet = room::sheet();
     let spot = window::spot_of(aim.address);
-    if !guest::load(guest, extents, spot.window, &mut code) {
-        failed(name);
+    if let Err(error) = guest::load(guest, extents, spot.window, &mut code) {
+        failed(rt, name, &error);
         return SYSTEM;
     }
-    match sheets::read(name, spot.window, &mut sheet) {
+    match sheets::read(rt, name, spot.window, &mut sheet) {
         Sheet::Bytes(n) => with_sheet(
-            asked, name, extents, guest, reading, aim, &mut code, &sheet, n,
+        rt, asked, name, extents, guest, reading, aim, &mut code, &sheet, n,
         ),
         Sheet::Not(status) => status,
     }
 }
 
-fn with_sheet(
+fn with_sheet(rt: &HostRuntime, 
     asked: &[u64],
     name: &[u8],
     extents: &[u64],
-    guest: Guest,
+    guest: &Guest,
     reading: Reading,
     aim: Aim,
     code: &mut [u8],
@@ -95,25 +94,25 @@ fn with_sheet(
 ) -> u64 {
     let n = part::within(sheet, end);
     let spot = window::spot_of(aim.address);
-    let fitting = fits(name, code, &sheet[0..n], spot.window);
+    let fitting = fits(rt, name, code, &sheet[0..n], spot.window);
     if fitting != DONE {
         return fitting;
     }
     let mut new_sheet = room::sheet();
-    match call::call(asked, name, code, &sheet[0..n], &mut new_sheet, aim) {
+    match call::call(rt, asked, name, code, &sheet[0..n], &mut new_sheet, aim) {
         Called::Done(length, count) => committed(
-            asked, name, extents, guest, reading, aim, code, &new_sheet, length, count,
+        rt, asked, name, extents, guest, reading, aim, code, &new_sheet, length, count,
         ),
         Called::Not(status) => status,
     }
 }
 
 // Commits the window's changes, its sheet and the layout that goes with it, and says what changed.
-fn committed(
+fn committed(rt: &HostRuntime, 
     asked: &[u64],
     name: &[u8],
     extents: &[u64],
-    guest: Guest,
+    guest: &Guest,
     reading: Reading,
     aim: Aim,
     code: &[u8],
@@ -123,16 +122,16 @@ fn committed(
 ) -> u64 {
     let mut before = room::code();
     let spot = window::spot_of(aim.address);
-    if !guest::load(guest, extents, spot.window, &mut before) {
-        failed(name);
+    if let Err(error) = guest::load(guest, extents, spot.window, &mut before) {
+        failed(rt, name, &error);
         return SYSTEM;
     }
     let n = part::within(sheet, length);
     let status = if asked::has(asked, asked::DRY) {
-        dry(name)
+        dry(rt, name)
     } else {
         commit(
-            name,
+        rt, name,
             extents,
             guest,
             reading,
@@ -145,18 +144,18 @@ fn committed(
     if status != DONE {
         return status;
     }
-    changed::tell(asked, &before, code, aim, count)
+    changed::tell(rt, asked, &before, code, aim, count)
 }
 
-fn dry(name: &[u8]) -> u64 {
-    said(name, b"a dry run: nothing was changed");
+fn dry(rt: &HostRuntime, name: &[u8]) -> u64 {
+    said(rt, name, b"a dry run: nothing was changed");
     DONE
 }
 
-fn commit(
+fn commit(rt: &HostRuntime, 
     name: &[u8],
     extents: &[u64],
-    guest: Guest,
+    guest: &Guest,
     reading: Reading,
     window: u64,
     before: &[u8],
@@ -165,9 +164,9 @@ fn commit(
 ) -> u64 {
     let mut layout = room::sheet();
     let mut text = room::text();
-    let length = layout_with(name, reading, window, 0 < sheet.len(), &mut layout);
+    let length = layout_with(rt, name, reading, window, 0 < sheet.len(), &mut layout);
     if length == usize::MAX {
-        return source::no_layout(name);
+        return source::no_layout(rt, name);
     }
     let m = part::within(&layout, length);
     let end = folder::put_redo(
@@ -180,13 +179,13 @@ fn commit(
         sheet,
         &layout[0..m],
     );
-    folder::commit(name, &mut text, end)
+    folder::commit(rt, name, &mut text, end)
 }
 
 // Writes the layout with a window that has a sheet, or has none; one that lists no window is none.
-fn layout_with(name: &[u8], reading: Reading, window: u64, listed: bool, out: &mut [u8]) -> usize {
+fn layout_with(rt: &HostRuntime, name: &[u8], reading: Reading, window: u64, listed: bool, out: &mut [u8]) -> usize {
     let mut old = room::sheet();
-    match folder::read_layout(name, &mut old) {
+    match folder::read_layout(rt, name, &mut old) {
         Text::Bytes(n) => layout_by(&old, n, window, listed, out),
         Text::Missing => first_layout(reading, window, listed, out),
         Text::Failed => usize::MAX,

@@ -6,7 +6,7 @@ use console::{DONE, REFUSED};
 use message::say;
 use text::put_text;
 
-pub fn fits(name: &[u8], code: &[u8], sheet: &[u8], window: u64) -> u64 {
+pub fn fits(rt: &HostRuntime, name: &[u8], code: &[u8], sheet: &[u8], window: u64) -> u64 {
     let mut copy = room::code();
     put_text(&mut copy, 0, code);
     let out = by_sheet::take_out(&mut copy, sheet);
@@ -14,18 +14,18 @@ pub fn fits(name: &[u8], code: &[u8], sheet: &[u8], window: u64) -> u64 {
         return DONE;
     }
     if out.answer != answer::STALE {
-        return refuse(name, window, out.answer, form::NO_FORM);
+        return refuse(rt, name, window, out.answer, form::NO_FORM);
     }
     let wanted = out.wanted;
     let found = out.found;
-    stale(name, folder::address_of(window, out.bundle), wanted, found)
+    stale(rt, name, folder::address_of(window, out.bundle), wanted, found)
 }
 
 // Says what the first record that doesn't fit left there, and what stands there.
-fn stale(name: &[u8], address: u64, wanted: Halves, found: Halves) -> u64 {
+fn stale(rt: &HostRuntime, name: &[u8], address: u64, wanted: Halves, found: Halves) -> u64 {
     let mut line = [0u8; 8192];
     let end = put_stale(&mut line, name, address, wanted, found);
-    say(&line, end);
+    say(rt, &line, end);
     REFUSED
 }
 

@@ -1,7 +1,8 @@
 // How the program is used.
 use crate::asked;
 use console::{DONE, USAGE};
-use libc::{STDERR_FILENO, STDOUT_FILENO};
+use std::io;
+use std::io::Print;
 
 const VERSION: [u8; 15] = *b"glindorsc 0.36\n";
 
@@ -38,54 +39,54 @@ const REPORT: [u8; 85] =
 const TAIL: [u8; 399] =
     *b"\nAn ADDRESS is that of a bundle, plus 0, 1 or 2 for the slot. Numbers are decimal, or hex after 0x, with a minus sign or without.\nFILE is an ELF file for Itanium, or raw bytes: --raw --base ADDRESS --offset N --length N say more.\nPatches are kept beside it, in FILE.patches, and undone by a window of 65,536 bytes.\nExit status: 0 done, 1 refused, 2 usage, 3 the system, 4 locked. --help, --version.\n";
 
-pub fn version() -> u64 {
-    written(io::write_all(STDOUT_FILENO, &VERSION))
+pub fn version(rt: &HostRuntime) -> u64 {
+    written(rt, rt.stdout().write_all(&VERSION))
 }
 
-fn written(ok: bool) -> u64 {
-    if ok {
-        DONE
-    } else {
-        console::failed(b"glindorsc: standard output")
+fn written(rt: &HostRuntime, done: io::Result<()>) -> u64 {
+    match done {
+        Ok(()) => DONE,
+        Err(error) => console::failed(rt, b"glindorsc: standard output", &error),
     }
 }
 
 // Says how a command is used: on standard output where that was asked, and else on standard error.
-pub fn help(command: u64) -> u64 {
-    written(tell(STDOUT_FILENO, command))
+pub fn help(rt: &HostRuntime, command: u64) -> u64 {
+    written(rt, tell(&rt.stdout(), command))
 }
 
-pub fn misused(command: u64) -> u64 {
-    io::write_all(STDERR_FILENO, b"glindorsc: usage:\n");
-    tell(STDERR_FILENO, command);
+pub fn misused(rt: &HostRuntime, command: u64) -> u64 {
+    let out = rt.stderr();
+    let _ = out.write_all(b"glindorsc: usage:\n");
+    let _ = tell(&out, command);
     USAGE
 }
 
-fn tell(file: i32, command: u64) -> bool {
+fn tell(out: &impl Print, command: u64) -> io::Result<()> {
     match command {
-        asked::LIST => io::write_all(file, &LIST),
-        asked::SHOW => io::write_all(file, &SHOW),
-        asked::EDIT => io::write_all(file, &EDIT),
-        asked::BRANCH => io::write_all(file, &BRANCH),
-        asked::UNDO => io::write_all(file, &UNDO),
-        asked::FOLD => io::write_all(file, &FOLD),
-        asked::VERIFY => io::write_all(file, &VERIFY),
-        asked::STATUS => io::write_all(file, &STATUS),
-        asked::REPORT => io::write_all(file, &REPORT),
-        _ => tell_all(file),
+        asked::LIST => out.write_all(&LIST),
+        asked::SHOW => out.write_all(&SHOW),
+        asked::EDIT => out.write_all(&EDIT),
+        asked::BRANCH => out.write_all(&BRANCH),
+        asked::UNDO => out.write_all(&UNDO),
+        asked::FOLD => out.write_all(&FOLD),
+        asked::VERIFY => out.write_all(&VERIFY),
+        asked::STATUS => out.write_all(&STATUS),
+        asked::REPORT => out.write_all(&REPORT),
+        _ => tell_all(out),
     }
 }
 
-fn tell_all(file: i32) -> bool {
-    io::write_all(file, &HEAD)
-        & io::write_all(file, &LIST)
-        & io::write_all(file, &SHOW)
-        & io::write_all(file, &EDIT)
-        & io::write_all(file, &BRANCH)
-        & io::write_all(file, &UNDO)
-        & io::write_all(file, &FOLD)
-        & io::write_all(file, &VERIFY)
-        & io::write_all(file, &STATUS)
-        & io::write_all(file, &REPORT)
-        & io::write_all(file, &TAIL)
+fn tell_all(out: &impl Print) -> io::Result<()> {
+    out.write_all(&HEAD)?;
+    out.write_all(&LIST)?;
+    out.write_all(&SHOW)?;
+    out.write_all(&EDIT)?;
+    out.write_all(&BRANCH)?;
+    out.write_all(&UNDO)?;
+    out.write_all(&FOLD)?;
+    out.write_all(&VERIFY)?;
+    out.write_all(&STATUS)?;
+    out.write_all(&REPORT)?;
+    out.write_all(&TAIL)
 }

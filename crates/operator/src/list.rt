@@ -16,50 +16,48 @@ const BUNDLES: u64 = 4096;
 const FULL: usize = 524000;
 
 // Where a listing has come to: the next address, how many bundles are still to be listed, and the status, which was said where it isn't 0.
-#[derive(Drop)]
+#[derive(Clone, Copy)]
 pub struct Listing {
     pub next: u64,
     pub left: u64,
     pub status: u64,
 }
 
-pub fn list(asked: &[u64], name: &[u8], extents: &mut [u64]) -> u64 {
-    let found = source::source_of(asked, name, extents);
+pub fn list(rt: &HostRuntime, asked: &[u64], name: &[u8], extents: &mut [u64]) -> u64 {
+    let found = source::source_of(rt, asked, name, extents);
     let Source::Is(guest, _) = found else {
         return source::status_of(found);
     };
-    if folder::stands(name) {
+    if folder::stands(rt, name) {
         said(
-            name,
+        rt, name,
             b"a commit isn't finished: what is shown may be half of it, and verify finishes it",
         );
     }
-    let status = list_from(asked, name, extents, guest);
-    libc::close(guest.file);
-    status
+    list_from(rt, asked, name, extents, &guest)
 }
 
-fn list_from(asked: &[u64], name: &[u8], extents: &[u64], guest: Guest) -> u64 {
-    let counted = place::number_or(asked::place(asked, asked::SECOND), u64::MAX);
+fn list_from(rt: &HostRuntime, asked: &[u64], name: &[u8], extents: &[u64], guest: &Guest) -> u64 {
+    let counted = place::number_or(rt, asked::place(asked, asked::SECOND), u64::MAX);
     let Given::Unsigned(left) = counted else {
-        return place::no_number(name);
+        return place::no_number(rt, name);
     };
     if !asked::has(asked, asked::FIRST) {
-        return list_all(name, extents, guest, 0, 0, left);
+        return list_all(rt, name, extents, guest, 0, 0, left);
     }
-    let word = place::place_in(asked::place(asked, asked::FIRST));
+    let word = place::place_in(rt, asked::place(asked, asked::FIRST));
     let words::Place::At(address, _) = word else {
-        return place::unread(name);
+        return place::unread(rt, name);
     };
     let first = extent_of(guest, extents, address);
     if guest.count <= first {
-        return refuse(name, address, answer::EXHAUSTED_INPUT, form::NO_FORM);
+        return refuse(rt, name, address, answer::EXHAUSTED_INPUT, form::NO_FORM);
     }
-    list_all(name, extents, guest, first, address, left)
+    list_all(rt, name, extents, guest, first, address, left)
 }
 
 // Which extent has the bundle at an address, or past the last.
-fn extent_of(guest: Guest, extents: &[u64], address: u64) -> usize {
+fn extent_of(guest: &Guest, extents: &[u64], address: u64) -> usize {
     let mut i = 0;
     while i < guest.count {
         if has(guest::extent_at(extents, i), guest.length, address) {
@@ -78,7 +76,7 @@ fn has(extent: Extent, length: u64, address: u64) -> bool {
 }
 
 // The extents from one on, of which the first is listed from an address on, where it isn't 0.
-fn list_all(name: &[u8], extents: &[u64], guest: Guest, first: usize, from: u64, left: u64) -> u64 {
+fn list_all(rt: &HostRuntime, name: &[u8], extents: &[u64], guest: &Guest, first: usize, from: u64, left: u64) -> u64 {
     let mut at = Listing {
         next: from,
         left,
@@ -86,23 +84,23 @@ fn list_all(name: &[u8], extents: &[u64], guest: Guest, first: usize, from: u64,
     };
     let mut i = first;
     while i < guest.count {
-        at = list_extent(name, extents, guest, guest::extent_at(extents, i), at);
+        at = list_extent(rt, name, extents, guest, guest::extent_at(extents, i), at);
         i += 1;
     }
     at.status
 }
 
-fn list_extent(
+fn list_extent(rt: &HostRuntime, 
     name: &[u8],
     extents: &[u64],
-    guest: Guest,
+    guest: &Guest,
     extent: Extent,
     listing: Listing,
 ) -> Listing {
     let mut at = begun(listing, extent);
     let mut turns = extent.size / 16384 + 2;
     while 0 < turns {
-        at = list_next(name, extents, guest, extent, at);
+        at = list_next(rt, name, extents, guest, extent, at);
         turns -= 1;
     }
     Listing {
@@ -150,22 +148,22 @@ fn goes_on(at: Listing, extent: Extent) -> bool {
 }
 
 // The extent's bundles in the window of the next address, as many as there is room for: a quarter of a window at least.
-fn list_next(name: &[u8], extents: &[u64], guest: Guest, extent: Extent, at: Listing) -> Listing {
+fn list_next(rt: &HostRuntime, name: &[u8], extents: &[u64], guest: &Guest, extent: Extent, at: Listing) -> Listing {
     if !goes_on(at, extent) {
         return at;
     }
     let mut code = room::code();
     let mut marks = room::marks();
     let spot = window::spot_of(at.next);
-    if !guest::load(guest, extents, spot.window, &mut code) {
-        failed(name);
+    if let Err(error) = guest::load(guest, extents, spot.window, &mut code) {
+        failed(rt, name, &error);
         return ended(at, SYSTEM);
     }
-    let status = sheets::mark(name, spot.window, &mut marks);
+    let status = sheets::mark(rt, name, spot.window, &mut marks);
     if status != DONE {
         return ended(at, status);
     }
-    list_window(&code, &marks, extent, at, spot.window, spot.bundle)
+    list_window(rt, &code, &marks, extent, at, spot.window, spot.bundle)
 }
 
 fn ended(at: Listing, status: u64) -> Listing {
@@ -176,7 +174,7 @@ fn ended(at: Listing, status: u64) -> Listing {
     }
 }
 
-fn list_window(
+fn list_window(rt: &HostRuntime, 
     code: &[u8],
     marks: &[u8],
     extent: Extent,
@@ -186,14 +184,14 @@ fn list_window(
 ) -> Listing {
     let mut out = room::text();
     let listed = put_bundles(&mut out, code, marks, extent, at, window, first);
-    if place::printed(&out, listed.end) == DONE {
+    if place::printed(rt, &out, listed.end) == DONE {
         return listed.at;
     }
     ended(at, SYSTEM)
 }
 
 // Where the output and the listing have come to.
-#[derive(Drop)]
+#[derive(Clone, Copy)]
 struct Put {
     end: usize,
     at: Listing,

@@ -23,65 +23,75 @@ mod show;
 mod source;
 
 use guest::NUMBERS;
+use std::fs::File;
+use std::io;
+use std::os::fd::{AsRawFd, IntoRawFd};
 
-fn main() {
-    guard();
-    let started = console::started();
+// Standard error's descriptor, the last of the standard ones.
+const STDERR_FILENO: i32 = 2;
+
+fn main(rt: HostRuntime) {
+    guard(&rt);
+    let started = console::started(&rt);
     let mut asked = [0u64; asked::NUMBERS];
-    asked::read(&mut asked, started.first);
-    console::end(started, status_of(&asked));
+    asked::read(&rt, &mut asked, started.first);
+    let status = status_of(&rt, &asked);
+    console::end(&rt, started, status);
 }
 
 // In the place of a standard descriptor that is closed stands one that can't be written, so that no file of ours gets its number.
-fn guard() {
+fn guard(rt: &HostRuntime) {
     let mut left = 3;
     while 0 < left {
-        left = left_after(os::open_read(b"/dev/null"), left);
+        left = left_after(File::open(rt, "/dev/null"), left);
     }
 }
 
-fn left_after(file: i32, left: u64) -> u64
+fn left_after(opened: io::Result<File>, left: u64) -> u64
     requires { 0 < left }
     ensures { result < left }
 {
-    if file <= libc::STDERR_FILENO {
+    let Ok(file) = opened else {
+        return left - 1;
+    };
+    if file.as_raw_fd() <= STDERR_FILENO {
+        file.into_raw_fd();
         return left - 1;
     }
-    libc::close(file);
     0
 }
 
-fn status_of(asked: &[u64]) -> u64 {
+fn status_of(rt: &HostRuntime, asked: &[u64]) -> u64 {
     let command = asked::get(asked, asked::COMMAND);
     if asked::has(asked, asked::VERSION) {
-        return help::version();
+        return help::version(rt);
     }
     if asked::has(asked, asked::HELP) {
-        return help::help(command);
+        return help::help(rt, command);
     }
     if asked::has(asked, asked::WRONG) {
-        return help::misused(command);
+        return help::misused(rt, command);
     }
     if !asked::is_whole(asked) {
-        return help::misused(command);
+        return help::misused(rt, command);
     }
-    done(asked, command)
+    done(rt, asked, command)
 }
 
-fn done(asked: &[u64], command: u64) -> u64 {
-    let mut word = io::buffer();
-    let length = os::arg(asked::place(asked, asked::FILE), &mut word);
-    done_of(asked, command, &word[..length])
+fn done(rt: &HostRuntime, asked: &[u64], command: u64) -> u64 {
+    let mut word = [0u8; 4096];
+    let length = console::arg(rt, asked::place(asked, asked::FILE), &mut word);
+    done_of(rt, asked, command, &word[..length])
 }
 
-fn done_of(asked: &[u64], command: u64, name: &[u8]) -> u64 {
+fn done_of(rt: &HostRuntime, asked: &[u64], command: u64, name: &[u8]) -> u64 {
     let mut extents = [0u64; NUMBERS];
     match command {
-        asked::LIST => list::list(asked, name, &mut extents),
-        asked::SHOW => show::show(asked, name, &mut extents),
-        asked::VERIFY => look::verify(asked, name, &mut extents),
-        asked::STATUS => look::status(asked, name, &mut extents),
-        asked::REPORT => count::report(asked, &mut extents),
-        _ => change::change(asked, name, &mut extents),
+        asked::LIST => list::list(rt, asked, name, &mut extents),
+        asked::SHOW => show::show(rt, asked, name, &mut extents),
+        asked::VERIFY => look::verify(rt, asked, name, &mut extents),
+        asked::STATUS => look::status(rt, asked, name, &mut extents),
+        asked::REPORT => count::report(rt, asked, &mut extents),
+        _ => change::change(rt, asked, name, &mut extents),
     }
 }

@@ -6,6 +6,7 @@ use elf::File;
 use guest::Headers;
 use layout::Reading;
 use message::{failed, said, say};
+use std::{fs, io};
 use words::Given;
 
 const AS_ELF: Reading = Reading {
@@ -16,23 +17,23 @@ const AS_ELF: Reading = Reading {
 };
 
 // As the layout says, where no option says otherwise.
-pub fn agreed(asked: &[u64], name: &[u8], file: i32, length: u64, reading: Reading) -> Way {
+pub fn agreed(rt: &HostRuntime, asked: &[u64], name: &[u8], file: &fs::File, length: u64, reading: Reading) -> Way {
     if !has_options(asked) {
         return Way::Is(reading);
     }
-    match way_of(asked, name, file, length) {
-        Way::Is(wanted) => same(name, wanted, reading),
+    match way_of(rt, asked, name, file, length) {
+        Way::Is(wanted) => same(rt, name, wanted, reading),
         Way::Not(status) => Way::Not(status),
     }
 }
 
-fn same(name: &[u8], wanted: Reading, reading: Reading) -> Way {
+fn same(rt: &HostRuntime, name: &[u8], wanted: Reading, reading: Reading) -> Way {
     if layout::same_reading(wanted, reading) {
         return Way::Is(reading);
     }
     let mut line = [0u8; 8192];
     let end = put_both(&mut line, name, wanted, reading);
-    say(&line, end);
+    say(rt, &line, end);
     Way::Not(REFUSED)
 }
 
@@ -70,33 +71,33 @@ fn has_numbers(asked: &[u64]) -> bool {
 }
 
 // How the options read the file.
-pub fn way_of(asked: &[u64], name: &[u8], file: i32, length: u64) -> Way {
+pub fn way_of(rt: &HostRuntime, asked: &[u64], name: &[u8], file: &fs::File, length: u64) -> Way {
     if asked::has(asked, asked::RAW) {
-        return raw_way(asked, name, length);
+        return raw_way(rt, asked, name, length);
     }
     match guest::headers_of(file, length) {
-        Headers::Are(kind) => by_kind(asked, name, length, kind),
-        Headers::Failed => unread(name),
+        Headers::Are(kind) => by_kind(rt, asked, name, length, kind),
+        Headers::Failed(error) => unread(rt, name, &error),
     }
 }
 
-fn unread(name: &[u8]) -> Way {
-    failed(name);
+fn unread(rt: &HostRuntime, name: &[u8], error: &io::Error) -> Way {
+    failed(rt, name, error);
     Way::Not(SYSTEM)
 }
 
-fn by_kind(asked: &[u64], name: &[u8], length: u64, kind: File) -> Way {
+fn by_kind(rt: &HostRuntime, asked: &[u64], name: &[u8], length: u64, kind: File) -> Way {
     match kind {
-        File::Raw => raw_way(asked, name, length),
-        File::Refused(why) => Way::Not(refused(name, why)),
-        File::Linked(_) => elf_way(asked, name),
+        File::Raw => raw_way(rt, asked, name, length),
+        File::Refused(why) => Way::Not(refused(rt, name, why)),
+        File::Linked(_) => elf_way(rt, asked, name),
     }
 }
 
-fn elf_way(asked: &[u64], name: &[u8]) -> Way {
+fn elf_way(rt: &HostRuntime, asked: &[u64], name: &[u8]) -> Way {
     if has_numbers(asked) {
         said(
-            name,
+        rt, name,
             b"an ELF file says itself where its code is; --raw reads it as raw bytes",
         );
         return Way::Not(USAGE);
@@ -105,32 +106,32 @@ fn elf_way(asked: &[u64], name: &[u8]) -> Way {
 }
 
 // Why an ELF file isn't taken.
-fn refused(name: &[u8], why: u8) -> u64 {
+fn refused(rt: &HostRuntime, name: &[u8], why: u8) -> u64 {
     match why {
-        elf::NOT_CLASS_64 => said(name, b"an ELF file that isn't of 64 bits"),
-        elf::NOT_LITTLE_ENDIAN => said(name, b"an ELF file that isn't little-endian"),
-        elf::NOT_ITANIUM => said(name, b"an ELF file of another machine than Itanium"),
+        elf::NOT_CLASS_64 => said(rt, name, b"an ELF file that isn't of 64 bits"),
+        elf::NOT_LITTLE_ENDIAN => said(rt, name, b"an ELF file that isn't little-endian"),
+        elf::NOT_ITANIUM => said(rt, name, b"an ELF file of another machine than Itanium"),
         _ => said(
-            name,
+        rt, name,
             b"a relocatable object: the linker writes its numbers; patch the linked file",
         ),
     }
     REFUSED
 }
 
-fn raw_way(asked: &[u64], name: &[u8], length: u64) -> Way {
-    let Given::Unsigned(base) = place::number_or(asked::place(asked, asked::BASE), 0) else {
-        return Way::Not(place::no_number(name));
+fn raw_way(rt: &HostRuntime, asked: &[u64], name: &[u8], length: u64) -> Way {
+    let Given::Unsigned(base) = place::number_or(rt, asked::place(asked, asked::BASE), 0) else {
+        return Way::Not(place::no_number(rt, name));
     };
-    let Given::Unsigned(offset) = place::number_or(asked::place(asked, asked::OFFSET), 0) else {
-        return Way::Not(place::no_number(name));
+    let Given::Unsigned(offset) = place::number_or(rt, asked::place(asked, asked::OFFSET), 0) else {
+        return Way::Not(place::no_number(rt, name));
     };
     let rest = if offset < length { length - offset } else { 0 };
-    let Given::Unsigned(size) = place::number_or(asked::place(asked, asked::LENGTH), rest) else {
-        return Way::Not(place::no_number(name));
+    let Given::Unsigned(size) = place::number_or(rt, asked::place(asked, asked::LENGTH), rest) else {
+        return Way::Not(place::no_number(rt, name));
     };
     if base % 16 != 0 {
-        said(name, b"a base is a multiple of 16");
+        said(rt, name, b"a base is a multiple of 16");
         return Way::Not(USAGE);
     }
     Way::Is(Reading {

@@ -5,10 +5,10 @@ use message::{put_answer, put_takes, say};
 use text::put_text;
 
 // Says it, which is the status then.
-pub fn refuse(name: &[u8], address: u64, answer: u8, form: Form) -> u64 {
+pub fn refuse(rt: &HostRuntime, name: &[u8], address: u64, answer: u8, form: Form) -> u64 {
     let mut line = [0u8; 8192];
     let end = put_refusal(&mut line, name, address, answer, form);
-    say(&line, end);
+    say(rt, &line, end);
     REFUSED
 }
 

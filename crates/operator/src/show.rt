@@ -5,37 +5,35 @@ use crate::source::Source;
 use crate::{aim, place, room, source};
 use guest::Guest;
 
-pub fn show(asked: &[u64], name: &[u8], extents: &mut [u64]) -> u64 {
-    let found = source::source_of(asked, name, extents);
+pub fn show(rt: &HostRuntime, asked: &[u64], name: &[u8], extents: &mut [u64]) -> u64 {
+    let found = source::source_of(rt, asked, name, extents);
     let Source::Is(guest, _) = found else {
         return source::status_of(found);
     };
-    let status = match aim::aim_of(asked, name, extents, guest) {
-        Aimed::At(aim) => show_at(name, extents, guest, aim),
+    match aim::aim_of(rt, asked, name, extents, &guest) {
+        Aimed::At(aim) => show_at(rt, name, extents, &guest, aim),
         Aimed::Not(status) => status,
-    };
-    libc::close(guest.file);
-    status
+    }
 }
 
-fn show_at(name: &[u8], extents: &[u64], guest: Guest, aim: Aim) -> u64 {
+fn show_at(rt: &HostRuntime, name: &[u8], extents: &[u64], guest: &Guest, aim: Aim) -> u64 {
     let mut code = room::code();
     let spot = window::spot_of(aim.address);
-    if !guest::load(guest, extents, spot.window, &mut code) {
-        return console::failed(name);
+    if let Err(error) = guest::load(guest, extents, spot.window, &mut code) {
+        return console::failed(rt, name, &error);
     }
-    show_form(name, &code, spot.bundle, aim)
+    show_form(rt, name, &code, spot.bundle, aim)
 }
 
-fn show_form(name: &[u8], code: &[u8], bundle: u64, aim: Aim) -> u64 {
+fn show_form(rt: &HostRuntime, name: &[u8], code: &[u8], bundle: u64, aim: Aim) -> u64 {
     let form = aim.form;
     let read = immediate::immediate(code, bundle, aim.slot, form);
     if read.answer != answer::ACCEPTED {
-        return refuse(name, aim::place_of(aim), read.answer, form);
+        return refuse(rt, name, aim::place_of(aim), read.answer, form);
     }
     let mut out = [0u8; 256];
     let end = put_shown(&mut out, code, bundle, aim);
-    place::printed(&out, end)
+    place::printed(rt, &out, end)
 }
 
 fn put_shown(out: &mut [u8], code: &[u8], bundle: u64, aim: Aim) -> usize {

@@ -8,6 +8,7 @@ use guest::{Extents, Guest, Headers, Opened};
 use layout::{Found, Reading};
 use lines::part;
 use message::{failed, said};
+use std::{fs, io};
 use window::Extent;
 
 pub const ELF: u64 = 0;
@@ -29,58 +30,58 @@ pub enum Source {
 }
 
 // Opens FILE and finds its code.
-pub fn source_of(asked: &[u64], name: &[u8], extents: &mut [u64]) -> Source {
-    match guest::open(name) {
-        Opened::File(file, length) => found(asked, name, extents, file, length),
+pub fn source_of(rt: &HostRuntime, asked: &[u64], name: &[u8], extents: &mut [u64]) -> Source {
+    match guest::open(rt, name) {
+        Opened::File(file, length) => found(rt, asked, name, extents, file, length),
         Opened::Link => Source::Not(REFUSED),
         Opened::Failed => Source::Not(SYSTEM),
     }
 }
 
-fn found(asked: &[u64], name: &[u8], extents: &mut [u64], file: i32, length: u64) -> Source {
-    match by_layout(asked, name, file, length) {
-        Way::Is(reading) => with_extents(name, extents, file, length, reading),
+fn found(rt: &HostRuntime, asked: &[u64], name: &[u8], extents: &mut [u64], file: fs::File, length: u64) -> Source {
+    match by_layout(rt, asked, name, &file, length) {
+        Way::Is(reading) => with_extents(rt, name, extents, file, length, reading),
         Way::Not(status) => Source::Not(status),
     }
 }
 
 // How the layout says that the file is read, and where there is none the options.
-fn by_layout(asked: &[u64], name: &[u8], file: i32, length: u64) -> Way {
+fn by_layout(rt: &HostRuntime, asked: &[u64], name: &[u8], file: &fs::File, length: u64) -> Way {
     let mut layout = room::sheet();
-    match folder::read_layout(name, &mut layout) {
-        Text::Missing => way_of(asked, name, file, length),
+    match folder::read_layout(rt, name, &mut layout) {
+        Text::Missing => way_of(rt, asked, name, file, length),
         Text::Failed => Way::Not(SYSTEM),
-        Text::Bytes(n) => by_text(asked, name, file, length, &layout, n),
+        Text::Bytes(n) => by_text(rt, asked, name, file, length, &layout, n),
     }
 }
 
-fn by_text(asked: &[u64], name: &[u8], file: i32, length: u64, layout: &[u8], end: usize) -> Way {
+fn by_text(rt: &HostRuntime, asked: &[u64], name: &[u8], file: &fs::File, length: u64, layout: &[u8], end: usize) -> Way {
     let n = part::within(layout, end);
     match layout::look(&layout[0..n]) {
-        Found::Layout(reading, _, _) => agreed(asked, name, file, length, reading),
-        Found::Refused => Way::Not(no_layout(name)),
+        Found::Layout(reading, _, _) => agreed(rt, asked, name, file, length, reading),
+        Found::Refused => Way::Not(no_layout(rt, name)),
     }
 }
 
-pub fn no_layout(name: &[u8]) -> u64 {
-    said(name, b"13 BadSheet: the layout in its folder can't be read");
+pub fn no_layout(rt: &HostRuntime, name: &[u8]) -> u64 {
+    said(rt, name, b"13 BadSheet: the layout in its folder can't be read");
     REFUSED
 }
 
-fn with_extents(
+fn with_extents(rt: &HostRuntime, 
     name: &[u8],
     extents: &mut [u64],
-    file: i32,
+    file: fs::File,
     length: u64,
     reading: Reading,
 ) -> Source {
-    let all = extents_of(name, extents, file, length, reading);
+    let all = extents_of(rt, name, extents, &file, length, reading);
     if !all.ok {
         return Source::Not(REFUSED);
     }
     let count = all.count;
     if count == 0 {
-        said(name, b"no code in it");
+        said(rt, name, b"no code in it");
         return Source::Not(REFUSED);
     }
     Source::Is(
@@ -93,17 +94,17 @@ fn with_extents(
     )
 }
 
-fn extents_of(
+fn extents_of(rt: &HostRuntime, 
     name: &[u8],
     extents: &mut [u64],
-    file: i32,
+    file: &fs::File,
     length: u64,
     reading: Reading,
 ) -> Extents {
     if reading.kind == ELF {
-        return of_elf(name, extents, file, length);
+        return of_elf(rt, name, extents, file, length);
     }
-    of_raw(name, extents, length, reading)
+    of_raw(rt, name, extents, length, reading)
 }
 
 const NO_EXTENTS: Extents = Extents {
@@ -111,7 +112,7 @@ const NO_EXTENTS: Extents = Extents {
     count: 0,
 };
 
-fn of_raw(name: &[u8], extents: &mut [u64], length: u64, reading: Reading) -> Extents {
+fn of_raw(rt: &HostRuntime, name: &[u8], extents: &mut [u64], length: u64, reading: Reading) -> Extents {
     let extent = Extent {
         code: true,
         address: reading.base,
@@ -119,7 +120,7 @@ fn of_raw(name: &[u8], extents: &mut [u64], length: u64, reading: Reading) -> Ex
         size: reading.length,
     };
     guest::with_extent(
-        name,
+        rt, name,
         length,
         extents,
         Extents { ok: true, count: 0 },
@@ -127,27 +128,27 @@ fn of_raw(name: &[u8], extents: &mut [u64], length: u64, reading: Reading) -> Ex
     )
 }
 
-fn of_elf(name: &[u8], extents: &mut [u64], file: i32, length: u64) -> Extents {
+fn of_elf(rt: &HostRuntime, name: &[u8], extents: &mut [u64], file: &fs::File, length: u64) -> Extents {
     match guest::headers_of(file, length) {
-        Headers::Are(kind) => of_kind(name, extents, file, length, kind),
-        Headers::Failed => unread(name),
+        Headers::Are(kind) => of_kind(rt, name, extents, file, length, kind),
+        Headers::Failed(error) => unread(rt, name, &error),
     }
 }
 
-fn unread(name: &[u8]) -> Extents {
-    failed(name);
+fn unread(rt: &HostRuntime, name: &[u8], error: &io::Error) -> Extents {
+    failed(rt, name, error);
     NO_EXTENTS
 }
 
-fn of_kind(name: &[u8], extents: &mut [u64], file: i32, length: u64, kind: File) -> Extents {
+fn of_kind(rt: &HostRuntime, name: &[u8], extents: &mut [u64], file: &fs::File, length: u64, kind: File) -> Extents {
     let File::Linked(tables) = kind else {
         said(
-            name,
+        rt, name,
             b"patches stand in it read as an ELF file, and it is none any more",
         );
         return NO_EXTENTS;
     };
-    guest::linked(name, file, length, tables, extents)
+    guest::linked(rt, name, file, length, tables, extents)
 }
 
 // Why there is no source.
