@@ -3,8 +3,7 @@ use crate::exact::read_at;
 use crate::extents::{MOST, overlaps, put_extent};
 use elf::{File, Table, Tables};
 use message::{failed, said};
-use std::fs;
-use std::io;
+use std::{fs, io};
 use window::{Extent, Place};
 
 // What the file is, or that it can't be read.

@@ -32,7 +32,13 @@ pub fn place_of(aim: Aim) -> u64 {
 }
 
 // What the words of a command aim at.
-pub fn aim_of(rt: &HostRuntime, asked: &[u64], name: &[u8], extents: &[u64], guest: &Guest) -> Aimed {
+pub fn aim_of(
+    rt: &HostRuntime,
+    asked: &[u64],
+    name: &[u8],
+    extents: &[u64],
+    guest: &Guest,
+) -> Aimed {
     let command = asked::get(asked, asked::COMMAND);
     if command == asked::UNDO || command == asked::FOLD {
         return at_window(rt, asked, name);
@@ -44,7 +50,14 @@ pub fn aim_of(rt: &HostRuntime, asked: &[u64], name: &[u8], extents: &[u64], gue
     at_form(rt, asked, name, extents, guest, form)
 }
 
-fn at_form(rt: &HostRuntime, asked: &[u64], name: &[u8], extents: &[u64], guest: &Guest, form: Form) -> Aimed {
+fn at_form(
+    rt: &HostRuntime,
+    asked: &[u64],
+    name: &[u8],
+    extents: &[u64],
+    guest: &Guest,
+    form: Form,
+) -> Aimed {
     let word = place::place_in(rt, asked::place(asked, asked::FIRST));
     let words::Place::At(address, slot) = word else {
         return Aimed::Not(place::unread(rt, name));
@@ -104,7 +117,8 @@ fn only_in(rt: &HostRuntime, name: &[u8], layout: &[u8], end: usize) -> Aimed {
     }
     if 1 < windows {
         said(
-        rt, name,
+            rt,
+            name,
             b"patches stand in several windows: name an ADDRESS in one of them (status lists them)",
         );
         return Aimed::Not(USAGE);

@@ -15,7 +15,8 @@ pub enum Called {
     Not(u64),
 }
 
-pub fn call(rt: &HostRuntime, 
+pub fn call(
+    rt: &HostRuntime,
     asked: &[u64],
     name: &[u8],
     code: &mut [u8],
@@ -26,7 +27,8 @@ pub fn call(rt: &HostRuntime,
     let form = aim.form;
     match asked::get(asked, asked::COMMAND) {
         asked::EDIT => edit(
-        rt, asked,
+            rt,
+            asked,
             name,
             code,
             sheet,
@@ -40,7 +42,8 @@ pub fn call(rt: &HostRuntime,
     }
 }
 
-fn edit(rt: &HostRuntime, 
+fn edit(
+    rt: &HostRuntime,
     asked: &[u64],
     name: &[u8],
     code: &mut [u8],
@@ -57,7 +60,15 @@ fn edit(rt: &HostRuntime,
         form,
         value,
     };
-    perform(rt, name, code, sheet, out, aim, Task::Act(act_of(asked, edit)))
+    perform(
+        rt,
+        name,
+        code,
+        sheet,
+        out,
+        aim,
+        Task::Act(act_of(asked, edit)),
+    )
 }
 
 fn act_of(asked: &[u64], edit: Edit) -> Act {
@@ -77,7 +88,8 @@ pub fn is_checked(asked: &[u64], form: Form) -> bool {
 }
 
 // The edit for a wanted target. One that can't be reached is no value.
-fn branch(rt: &HostRuntime, 
+fn branch(
+    rt: &HostRuntime,
     asked: &[u64],
     name: &[u8],
     code: &mut [u8],
@@ -100,7 +112,8 @@ fn branch(rt: &HostRuntime,
     edit(rt, asked, name, code, sheet, out, aim, value)
 }
 
-fn undo(rt: &HostRuntime, 
+fn undo(
+    rt: &HostRuntime,
     asked: &[u64],
     name: &[u8],
     code: &mut [u8],
@@ -121,7 +134,8 @@ fn undo(rt: &HostRuntime,
     Called::Done(0, 0)
 }
 
-fn perform(rt: &HostRuntime, 
+fn perform(
+    rt: &HostRuntime,
     name: &[u8],
     code: &mut [u8],
     sheet: &[u8],

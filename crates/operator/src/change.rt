@@ -58,7 +58,8 @@ fn under_lock(rt: &HostRuntime, asked: &[u64], name: &[u8], extents: &mut [u64])
     }
 }
 
-fn in_window(rt: &HostRuntime, 
+fn in_window(
+    rt: &HostRuntime,
     asked: &[u64],
     name: &[u8],
     extents: &[u64],
@@ -75,13 +76,14 @@ fn in_window(rt: &HostRuntime,
     }
     match sheets::read(rt, name, spot.window, &mut sheet) {
         Sheet::Bytes(n) => with_sheet(
-        rt, asked, name, extents, guest, reading, aim, &mut code, &sheet, n,
+            rt, asked, name, extents, guest, reading, aim, &mut code, &sheet, n,
         ),
         Sheet::Not(status) => status,
     }
 }
 
-fn with_sheet(rt: &HostRuntime, 
+fn with_sheet(
+    rt: &HostRuntime,
     asked: &[u64],
     name: &[u8],
     extents: &[u64],
@@ -101,14 +103,15 @@ fn with_sheet(rt: &HostRuntime,
     let mut new_sheet = room::sheet();
     match call::call(rt, asked, name, code, &sheet[0..n], &mut new_sheet, aim) {
         Called::Done(length, count) => committed(
-        rt, asked, name, extents, guest, reading, aim, code, &new_sheet, length, count,
+            rt, asked, name, extents, guest, reading, aim, code, &new_sheet, length, count,
         ),
         Called::Not(status) => status,
     }
 }
 
 // Commits the window's changes, its sheet and the layout that goes with it, and says what changed.
-fn committed(rt: &HostRuntime, 
+fn committed(
+    rt: &HostRuntime,
     asked: &[u64],
     name: &[u8],
     extents: &[u64],
@@ -131,7 +134,8 @@ fn committed(rt: &HostRuntime,
         dry(rt, name)
     } else {
         commit(
-        rt, name,
+            rt,
+            name,
             extents,
             guest,
             reading,
@@ -152,7 +156,8 @@ fn dry(rt: &HostRuntime, name: &[u8]) -> u64 {
     DONE
 }
 
-fn commit(rt: &HostRuntime, 
+fn commit(
+    rt: &HostRuntime,
     name: &[u8],
     extents: &[u64],
     guest: &Guest,
@@ -183,7 +188,14 @@ fn commit(rt: &HostRuntime,
 }
 
 // Writes the layout with a window that has a sheet, or has none; one that lists no window is none.
-fn layout_with(rt: &HostRuntime, name: &[u8], reading: Reading, window: u64, listed: bool, out: &mut [u8]) -> usize {
+fn layout_with(
+    rt: &HostRuntime,
+    name: &[u8],
+    reading: Reading,
+    window: u64,
+    listed: bool,
+    out: &mut [u8],
+) -> usize {
     let mut old = room::sheet();
     match folder::read_layout(rt, name, &mut old) {
         Text::Bytes(n) => layout_by(&old, n, window, listed, out),

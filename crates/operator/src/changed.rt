@@ -6,7 +6,14 @@ use bundle::Halves;
 use message::put_address;
 use text::{TAB, put_byte, put_text};
 
-pub fn tell(rt: &HostRuntime, asked: &[u64], before: &[u8], code: &[u8], aim: Aim, count: u64) -> u64 {
+pub fn tell(
+    rt: &HostRuntime,
+    asked: &[u64],
+    before: &[u8],
+    code: &[u8],
+    aim: Aim,
+    count: u64,
+) -> u64 {
     let mut out = room::text();
     let end = put_changes(&mut out, asked, before, code, aim, count);
     place::printed(rt, &out, end)

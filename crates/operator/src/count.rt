@@ -45,13 +45,25 @@ fn told(rt: &HostRuntime, counted: Counted) -> u64 {
 }
 
 // With the file that an argument names, where it isn't an option.
-fn with_argument(rt: &HostRuntime, asked: &[u64], counted: Counted, i: usize, extents: &mut [u64]) -> Counted {
+fn with_argument(
+    rt: &HostRuntime,
+    asked: &[u64],
+    counted: Counted,
+    i: usize,
+    extents: &mut [u64],
+) -> Counted {
     let mut name = [0u8; 4096];
     let length = console::arg(rt, i, &mut name);
     with_word(rt, asked, counted, &name[..length], extents)
 }
 
-fn with_word(rt: &HostRuntime, asked: &[u64], counted: Counted, name: &[u8], extents: &mut [u64]) -> Counted {
+fn with_word(
+    rt: &HostRuntime,
+    asked: &[u64],
+    counted: Counted,
+    name: &[u8],
+    extents: &mut [u64],
+) -> Counted {
     if text::begins(name, b"--") {
         return counted;
     }
@@ -67,7 +79,13 @@ fn with_status(counted: Counted, status: u64) -> Counted {
     Counted { report, status }
 }
 
-fn with_extents(rt: &HostRuntime, name: &[u8], counted: Counted, guest: &Guest, extents: &[u64]) -> Counted {
+fn with_extents(
+    rt: &HostRuntime,
+    name: &[u8],
+    counted: Counted,
+    guest: &Guest,
+    extents: &[u64],
+) -> Counted {
     let mut all = counted;
     let mut i = 0;
     while i < guest.count {
@@ -79,12 +97,26 @@ fn with_extents(rt: &HostRuntime, name: &[u8], counted: Counted, guest: &Guest, 
 }
 
 // The bytes of an extent, as many at a time as an image has.
-fn with_bytes(rt: &HostRuntime, name: &[u8], counted: Counted, file: &File, offset: u64, size: u64) -> Counted {
+fn with_bytes(
+    rt: &HostRuntime,
+    name: &[u8],
+    counted: Counted,
+    file: &File,
+    offset: u64,
+    size: u64,
+) -> Counted {
     let mut all = counted;
     let mut done = 0;
     while done < size {
         let n = least(size - done, SPAN);
-        all = with_image(rt, name, all, file, std::num::wrapping_add_u64(offset, done), n);
+        all = with_image(
+            rt,
+            name,
+            all,
+            file,
+            std::num::wrapping_add_u64(offset, done),
+            n,
+        );
         done += n;
     }
     all
@@ -96,12 +128,20 @@ fn least(a: u64, b: u64) -> u64
     if a < b { a } else { b }
 }
 
-fn with_image(rt: &HostRuntime, name: &[u8], counted: Counted, file: &File, offset: u64, size: u64) -> Counted {
+fn with_image(
+    rt: &HostRuntime,
+    name: &[u8],
+    counted: Counted,
+    file: &File,
+    offset: u64,
+    size: u64,
+) -> Counted {
     let mut code = room::code();
     with_read(rt, name, counted, file, offset, size, &mut code)
 }
 
-fn with_read(rt: &HostRuntime, 
+fn with_read(
+    rt: &HostRuntime,
     name: &[u8],
     counted: Counted,
     file: &File,
@@ -117,7 +157,13 @@ fn with_read(rt: &HostRuntime,
     with_report(rt, name, counted, offset, &code[0..n])
 }
 
-fn with_report(rt: &HostRuntime, name: &[u8], counted: Counted, offset: u64, image: &[u8]) -> Counted {
+fn with_report(
+    rt: &HostRuntime,
+    name: &[u8],
+    counted: Counted,
+    offset: u64,
+    image: &[u8],
+) -> Counted {
     let report = counted.report;
     let sum = tally::add(report, image);
     if sum.answer != answer::ACCEPTED {

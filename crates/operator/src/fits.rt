@@ -18,7 +18,13 @@ pub fn fits(rt: &HostRuntime, name: &[u8], code: &[u8], sheet: &[u8], window: u6
     }
     let wanted = out.wanted;
     let found = out.found;
-    stale(rt, name, folder::address_of(window, out.bundle), wanted, found)
+    stale(
+        rt,
+        name,
+        folder::address_of(window, out.bundle),
+        wanted,
+        found,
+    )
 }
 
 // Says what the first record that doesn't fit left there, and what stands there.

@@ -30,7 +30,8 @@ pub fn list(rt: &HostRuntime, asked: &[u64], name: &[u8], extents: &mut [u64]) -
     };
     if folder::stands(rt, name) {
         said(
-        rt, name,
+            rt,
+            name,
             b"a commit isn't finished: what is shown may be half of it, and verify finishes it",
         );
     }
@@ -76,7 +77,15 @@ fn has(extent: Extent, length: u64, address: u64) -> bool {
 }
 
 // The extents from one on, of which the first is listed from an address on, where it isn't 0.
-fn list_all(rt: &HostRuntime, name: &[u8], extents: &[u64], guest: &Guest, first: usize, from: u64, left: u64) -> u64 {
+fn list_all(
+    rt: &HostRuntime,
+    name: &[u8],
+    extents: &[u64],
+    guest: &Guest,
+    first: usize,
+    from: u64,
+    left: u64,
+) -> u64 {
     let mut at = Listing {
         next: from,
         left,
@@ -90,7 +99,8 @@ fn list_all(rt: &HostRuntime, name: &[u8], extents: &[u64], guest: &Guest, first
     at.status
 }
 
-fn list_extent(rt: &HostRuntime, 
+fn list_extent(
+    rt: &HostRuntime,
     name: &[u8],
     extents: &[u64],
     guest: &Guest,
@@ -148,7 +158,14 @@ fn goes_on(at: Listing, extent: Extent) -> bool {
 }
 
 // The extent's bundles in the window of the next address, as many as there is room for: a quarter of a window at least.
-fn list_next(rt: &HostRuntime, name: &[u8], extents: &[u64], guest: &Guest, extent: Extent, at: Listing) -> Listing {
+fn list_next(
+    rt: &HostRuntime,
+    name: &[u8],
+    extents: &[u64],
+    guest: &Guest,
+    extent: Extent,
+    at: Listing,
+) -> Listing {
     if !goes_on(at, extent) {
         return at;
     }
@@ -174,7 +191,8 @@ fn ended(at: Listing, status: u64) -> Listing {
     }
 }
 
-fn list_window(rt: &HostRuntime, 
+fn list_window(
+    rt: &HostRuntime,
     code: &[u8],
     marks: &[u8],
     extent: Extent,

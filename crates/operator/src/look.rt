@@ -46,17 +46,25 @@ fn put_fits(out: &mut [u8], windows: u64) -> usize {
     text::put_field(out, start, windows, b'\n')
 }
 
-fn verify_all(rt: &HostRuntime, name: &[u8], extents: &[u64], guest: &Guest, layout: &[u8], end: usize) -> u64 {
+fn verify_all(
+    rt: &HostRuntime,
+    name: &[u8],
+    extents: &[u64],
+    guest: &Guest,
+    layout: &[u8],
+    end: usize,
+) -> u64 {
     let n = part::within(layout, end);
     match layout::look(&layout[0..n]) {
         Found::Layout(_, windows, first) => verify_windows(
-        rt, name, extents, guest, layout, windows, first,
+            rt, name, extents, guest, layout, windows, first,
         ),
         Found::Refused => source::no_layout(rt, name),
     }
 }
 
-fn verify_windows(rt: &HostRuntime, 
+fn verify_windows(
+    rt: &HostRuntime,
     name: &[u8],
     extents: &[u64],
     guest: &Guest,
@@ -81,7 +89,13 @@ fn verify_windows(rt: &HostRuntime,
     tell(rt, windows)
 }
 
-fn verify_window(rt: &HostRuntime, name: &[u8], extents: &[u64], guest: &Guest, window: u64) -> u64 {
+fn verify_window(
+    rt: &HostRuntime,
+    name: &[u8],
+    extents: &[u64],
+    guest: &Guest,
+    window: u64,
+) -> u64 {
     let mut code = room::code();
     let mut sheet = room::sheet();
     if let Err(error) = guest::load(guest, extents, window, &mut code) {
@@ -94,7 +108,14 @@ fn verify_window(rt: &HostRuntime, name: &[u8], extents: &[u64], guest: &Guest, 
     }
 }
 
-fn fits_first(rt: &HostRuntime, name: &[u8], code: &[u8], sheet: &[u8], end: usize, window: u64) -> u64 {
+fn fits_first(
+    rt: &HostRuntime,
+    name: &[u8],
+    code: &[u8],
+    sheet: &[u8],
+    end: usize,
+    window: u64,
+) -> u64 {
     let n = part::within(sheet, end);
     fits(rt, name, code, &sheet[0..n], window)
 }
@@ -136,7 +157,14 @@ fn put_layout(rt: &HostRuntime, out: &mut [u8], at: usize, name: &[u8]) -> usize
     }
 }
 
-fn put_listed(rt: &HostRuntime, out: &mut [u8], at: usize, name: &[u8], layout: &[u8], end: usize) -> usize {
+fn put_listed(
+    rt: &HostRuntime,
+    out: &mut [u8],
+    at: usize,
+    name: &[u8],
+    layout: &[u8],
+    end: usize,
+) -> usize {
     let n = part::within(layout, end);
     match layout::look(&layout[0..n]) {
         Found::Layout(_, windows, first) => put_windows(rt, out, at, name, layout, windows, first),
@@ -144,7 +172,8 @@ fn put_listed(rt: &HostRuntime, out: &mut [u8], at: usize, name: &[u8], layout: 
     }
 }
 
-fn put_windows(rt: &HostRuntime, 
+fn put_windows(
+    rt: &HostRuntime,
     out: &mut [u8],
     at: usize,
     name: &[u8],

@@ -40,7 +40,8 @@ pub fn number_or(rt: &HostRuntime, i: usize, other: u64) -> Given {
 
 pub fn unread(rt: &HostRuntime, name: &[u8]) -> u64 {
     said(
-        rt, name,
+        rt,
+        name,
         b"an ADDRESS is that of a bundle, plus 0, 1 or 2 for the slot: decimal, or hex after 0x",
     );
     USAGE
@@ -53,7 +54,8 @@ pub fn no_form(rt: &HostRuntime, name: &[u8]) -> u64 {
 
 pub fn no_number(rt: &HostRuntime, name: &[u8]) -> u64 {
     said(
-        rt, name,
+        rt,
+        name,
         b"--base, --offset, --length, COUNT and TARGET are numbers: decimal, or hex after 0x",
     );
     USAGE

@@ -17,7 +17,14 @@ const AS_ELF: Reading = Reading {
 };
 
 // As the layout says, where no option says otherwise.
-pub fn agreed(rt: &HostRuntime, asked: &[u64], name: &[u8], file: &fs::File, length: u64, reading: Reading) -> Way {
+pub fn agreed(
+    rt: &HostRuntime,
+    asked: &[u64],
+    name: &[u8],
+    file: &fs::File,
+    length: u64,
+    reading: Reading,
+) -> Way {
     if !has_options(asked) {
         return Way::Is(reading);
     }
@@ -97,7 +104,8 @@ fn by_kind(rt: &HostRuntime, asked: &[u64], name: &[u8], length: u64, kind: File
 fn elf_way(rt: &HostRuntime, asked: &[u64], name: &[u8]) -> Way {
     if has_numbers(asked) {
         said(
-        rt, name,
+            rt,
+            name,
             b"an ELF file says itself where its code is; --raw reads it as raw bytes",
         );
         return Way::Not(USAGE);
@@ -112,7 +120,8 @@ fn refused(rt: &HostRuntime, name: &[u8], why: u8) -> u64 {
         elf::NOT_LITTLE_ENDIAN => said(rt, name, b"an ELF file that isn't little-endian"),
         elf::NOT_ITANIUM => said(rt, name, b"an ELF file of another machine than Itanium"),
         _ => said(
-        rt, name,
+            rt,
+            name,
             b"a relocatable object: the linker writes its numbers; patch the linked file",
         ),
     }
@@ -127,7 +136,8 @@ fn raw_way(rt: &HostRuntime, asked: &[u64], name: &[u8], length: u64) -> Way {
         return Way::Not(place::no_number(rt, name));
     };
     let rest = if offset < length { length - offset } else { 0 };
-    let Given::Unsigned(size) = place::number_or(rt, asked::place(asked, asked::LENGTH), rest) else {
+    let Given::Unsigned(size) = place::number_or(rt, asked::place(asked, asked::LENGTH), rest)
+    else {
         return Way::Not(place::no_number(rt, name));
     };
     if base % 16 != 0 {

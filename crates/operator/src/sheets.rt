@@ -52,7 +52,8 @@ fn read_listed(rt: &HostRuntime, name: &[u8], window: u64, sheet: &mut [u8]) -> 
 
 fn not_listed(rt: &HostRuntime, name: &[u8]) -> Sheet {
     said(
-        rt, name,
+        rt,
+        name,
         b"13 BadSheet: a sheet stands in its folder for this window, and the layout doesn't list it",
     );
     Sheet::Not(REFUSED)
@@ -60,7 +61,8 @@ fn not_listed(rt: &HostRuntime, name: &[u8]) -> Sheet {
 
 fn lost(rt: &HostRuntime, name: &[u8]) -> Sheet {
     said(
-        rt, name,
+        rt,
+        name,
         b"13 BadSheet: the layout lists this window, and its sheet is missing",
     );
     Sheet::Not(REFUSED)
@@ -75,7 +77,14 @@ pub fn mark(rt: &HostRuntime, name: &[u8], window: u64, marks: &mut [u8]) -> u64
     }
 }
 
-fn mark_by(rt: &HostRuntime, name: &[u8], window: u64, sheet: &[u8], end: usize, marks: &mut [u8]) -> u64 {
+fn mark_by(
+    rt: &HostRuntime,
+    name: &[u8],
+    window: u64,
+    sheet: &[u8],
+    end: usize,
+    marks: &mut [u8],
+) -> u64 {
     let n = part::within(sheet, end);
     let marked = by_sheet::mark(&sheet[0..n], marks);
     if marked.answer != answer::ACCEPTED {

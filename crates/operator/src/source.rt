@@ -38,7 +38,14 @@ pub fn source_of(rt: &HostRuntime, asked: &[u64], name: &[u8], extents: &mut [u6
     }
 }
 
-fn found(rt: &HostRuntime, asked: &[u64], name: &[u8], extents: &mut [u64], file: fs::File, length: u64) -> Source {
+fn found(
+    rt: &HostRuntime,
+    asked: &[u64],
+    name: &[u8],
+    extents: &mut [u64],
+    file: fs::File,
+    length: u64,
+) -> Source {
     match by_layout(rt, asked, name, &file, length) {
         Way::Is(reading) => with_extents(rt, name, extents, file, length, reading),
         Way::Not(status) => Source::Not(status),
@@ -55,7 +62,15 @@ fn by_layout(rt: &HostRuntime, asked: &[u64], name: &[u8], file: &fs::File, leng
     }
 }
 
-fn by_text(rt: &HostRuntime, asked: &[u64], name: &[u8], file: &fs::File, length: u64, layout: &[u8], end: usize) -> Way {
+fn by_text(
+    rt: &HostRuntime,
+    asked: &[u64],
+    name: &[u8],
+    file: &fs::File,
+    length: u64,
+    layout: &[u8],
+    end: usize,
+) -> Way {
     let n = part::within(layout, end);
     match layout::look(&layout[0..n]) {
         Found::Layout(reading, _, _) => agreed(rt, asked, name, file, length, reading),
@@ -64,11 +79,16 @@ fn by_text(rt: &HostRuntime, asked: &[u64], name: &[u8], file: &fs::File, length
 }
 
 pub fn no_layout(rt: &HostRuntime, name: &[u8]) -> u64 {
-    said(rt, name, b"13 BadSheet: the layout in its folder can't be read");
+    said(
+        rt,
+        name,
+        b"13 BadSheet: the layout in its folder can't be read",
+    );
     REFUSED
 }
 
-fn with_extents(rt: &HostRuntime, 
+fn with_extents(
+    rt: &HostRuntime,
     name: &[u8],
     extents: &mut [u64],
     file: fs::File,
@@ -94,7 +114,8 @@ fn with_extents(rt: &HostRuntime,
     )
 }
 
-fn extents_of(rt: &HostRuntime, 
+fn extents_of(
+    rt: &HostRuntime,
     name: &[u8],
     extents: &mut [u64],
     file: &fs::File,
@@ -112,7 +133,13 @@ const NO_EXTENTS: Extents = Extents {
     count: 0,
 };
 
-fn of_raw(rt: &HostRuntime, name: &[u8], extents: &mut [u64], length: u64, reading: Reading) -> Extents {
+fn of_raw(
+    rt: &HostRuntime,
+    name: &[u8],
+    extents: &mut [u64],
+    length: u64,
+    reading: Reading,
+) -> Extents {
     let extent = Extent {
         code: true,
         address: reading.base,
@@ -120,7 +147,8 @@ fn of_raw(rt: &HostRuntime, name: &[u8], extents: &mut [u64], length: u64, readi
         size: reading.length,
     };
     guest::with_extent(
-        rt, name,
+        rt,
+        name,
         length,
         extents,
         Extents { ok: true, count: 0 },
@@ -128,7 +156,13 @@ fn of_raw(rt: &HostRuntime, name: &[u8], extents: &mut [u64], length: u64, readi
     )
 }
 
-fn of_elf(rt: &HostRuntime, name: &[u8], extents: &mut [u64], file: &fs::File, length: u64) -> Extents {
+fn of_elf(
+    rt: &HostRuntime,
+    name: &[u8],
+    extents: &mut [u64],
+    file: &fs::File,
+    length: u64,
+) -> Extents {
     match guest::headers_of(file, length) {
         Headers::Are(kind) => of_kind(rt, name, extents, file, length, kind),
         Headers::Failed(error) => unread(rt, name, &error),
@@ -140,10 +174,18 @@ fn unread(rt: &HostRuntime, name: &[u8], error: &io::Error) -> Extents {
     NO_EXTENTS
 }
 
-fn of_kind(rt: &HostRuntime, name: &[u8], extents: &mut [u64], file: &fs::File, length: u64, kind: File) -> Extents {
+fn of_kind(
+    rt: &HostRuntime,
+    name: &[u8],
+    extents: &mut [u64],
+    file: &fs::File,
+    length: u64,
+    kind: File,
+) -> Extents {
     let File::Linked(tables) = kind else {
         said(
-        rt, name,
+            rt,
+            name,
             b"patches stand in it read as an ELF file, and it is none any more",
         );
         return NO_EXTENTS;

@@ -1,0 +1,6 @@
+-- The measure of its loop.
+use Rattle.std.proofs.Common.{◌-◌}
+use Rattle.guest.proofs.load.Given as goal
+
+abbrev pub decreases-loop-i : goal.decreases-loop-i
+decreases-loop-i l = l.guest.count - l.i
