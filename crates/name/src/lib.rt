@@ -13,7 +13,7 @@ const DASH: u64 = b'-' as u64;
 const Z: u64 = b'Z' as u64;
 
 // A form and the place after its name, or that there is none.
-#[derive(Drop)]
+#[derive(Clone, Copy)]
 pub enum Name {
     Read(Form, usize),
     Refused,
