@@ -24,7 +24,11 @@ pub fn end(s: &[u8], at: u64, count: u64) -> u64 {
 pub fn first(s: &[u8], from: usize, b: u8) -> usize
     ensures { result ≤ length s.now }
 {
-    bytes::scan::find(s, within(s, from), s.len(), b)
+    let start = within(s, from);
+    match memchr::memchr(b, &s[start..]) {
+        Some(at) => start + at,
+        None => s.len(),
+    }
 }
 
 pub fn fill(s: &mut [u8], b: u8) {

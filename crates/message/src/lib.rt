@@ -1,6 +1,8 @@
 // What an operator is told, as text: addresses and bundles in hex, values, answers by name, the numbers that a form takes.
 #![tactic(auto)]
 
+ghost use Rattle.std.specs.Prelude.{◌<◌};
+
 mod spoken;
 mod takes;
 
@@ -26,8 +28,23 @@ pub fn put_address(out: &mut [u8], at: usize, address: u64) -> usize {
 // A number in hex, with zeros in front up to so many digits.
 pub fn put_hex(out: &mut [u8], at: usize, n: u64, width: usize) -> usize {
     let mut digits = [0u8; 16];
-    let count = io::hex(n, width, &mut digits);
-    put_text(out, at, &digits[..count])
+    hex_text::put_hex(&mut digits, 0, &n.to_be_bytes());
+    put_text(out, at, &digits[leading_zeros(&digits, width)..])
+}
+
+// How many zeros in front aren't shown of a number that has so many digits at least, and one in any case.
+fn leading_zeros(digits: &[u8; 16], width: usize) -> usize
+    ensures { result < 16 }
+{
+    let most = 16 - width.clamp(1, 16);
+    let mut count = 0;
+    while count < most {
+        if digits[count] != b'0' {
+            return count;
+        }
+        count += 1;
+    }
+    count
 }
 
 // A bundle's sixteen bytes in hex, in the order of the file.
@@ -66,5 +83,5 @@ pub fn put_signed(out: &mut [u8], at: usize, pattern: u64) -> usize {
         return put_decimal(out, at, pattern);
     }
     let next = put_byte(out, at, b'-');
-    put_decimal(out, next, std::num::wrapping_sub_u64(0, pattern))
+    put_decimal(out, next, pattern.wrapping_neg())
 }

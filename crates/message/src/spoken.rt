@@ -1,16 +1,17 @@
 // Lines on standard error: the program, a file's name, and what is said of it.
-use libc::STDERR_FILENO;
+use console::EprintBytes;
 use lines::part;
+use std::io;
 use text::put_text;
 
 // Room for a name and what is said of it.
 pub const ROOM: usize = 8192;
 
 // What is said of a file, in words.
-pub fn said(name: &[u8], words: &[u8]) {
+pub fn said(rt: &impl EprintBytes, name: &[u8], words: &[u8]) {
     let mut line = [0u8; ROOM];
     let end = put_said(&mut line, name, words);
-    say(&line, end);
+    say(rt, &line, end);
 }
 
 fn put_said(line: &mut [u8], name: &[u8], words: &[u8]) -> usize {
@@ -26,19 +27,19 @@ fn put_name(line: &mut [u8], name: &[u8]) -> usize {
 }
 
 // What the system says of a file.
-pub fn failed(name: &[u8]) {
+pub fn failed(rt: &impl EprintBytes, name: &[u8], error: &io::Error) {
     let mut line = [0u8; ROOM];
     let end = put_name(&mut line, name);
-    fail(&line, end);
+    fail(rt, &line, end, error);
 }
 
-fn fail(line: &[u8], end: usize) {
+fn fail(rt: &impl EprintBytes, line: &[u8], end: usize, error: &io::Error) {
     let n = part::within(line, end);
-    os::fail(&line[0..n]);
+    console::failed(rt, &line[0..n], error);
 }
 
 // A line that is ready.
-pub fn say(line: &[u8], end: usize) {
+pub fn say(rt: &impl EprintBytes, line: &[u8], end: usize) {
     let n = part::within(line, end);
-    io::write_all(STDERR_FILENO, &line[0..n]);
+    let _ = rt.eprint_bytes(&line[0..n]);
 }
