@@ -10,7 +10,7 @@ ghost use Rattle.parts.specs.inner.Numbers.{part_of, parts_in, Ended};
 use bundle::Halves;
 
 // The place counts from bit 0 of the slot, and from `L` on from bit 0 of the L slot.
-#[derive(Drop)]
+#[derive(Clone, Copy)]
 pub struct Part {
     pub place: u8,
     pub width: u8,
