@@ -31,21 +31,21 @@ const MAGIC: u64 = 0x464c457f;
 const ITANIUM: u64 = 50;
 
 // So many headers of a size, from an offset on.
-#[derive(Drop)]
+#[derive(Clone, Copy)]
 pub struct Table {
     pub offset: u64,
     pub size: u64,
     pub count: u64,
 }
 
-#[derive(Drop)]
+#[derive(Clone, Copy)]
 pub struct Tables {
     pub sections: Table,
     pub segments: Table,
 }
 
 // A file that is no ELF file, one that can't be taken, or where a linked file's headers stand.
-#[derive(Drop)]
+#[derive(Clone, Copy)]
 pub enum File {
     Raw,
     Refused(u8),
