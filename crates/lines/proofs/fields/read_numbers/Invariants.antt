@@ -1,5 +1,5 @@
 -- The numbers keep their room. Assumes nothing.
-use Rattle.std.proofs.Common.{◌-◌, ◌≤◌, ◌≡◌, ℕ, ◌+◌, ◌*◌, ◌<◌, length}
+use Rattle.std.proofs.Common.{◌-◌, ◌≡◌, length}
 use Rattle.lines.proofs.fields.read_numbers.Given as goal
 
 abbrev pub invariant-loop-i : goal.invariant-loop-i

@@ -1,5 +1,5 @@
 -- No writing changes how much room there is. Assumes nothing.
-use Rattle.std.proofs.Common.{length, ◌-◌, ◌≡◌, ℕ, ◌+◌, ◌*◌, ◌<◌, ◌≤◌}
+use Rattle.std.proofs.Common.{length, ◌-◌, ◌≡◌}
 use Rattle.lines.proofs.out.numbers.Given as goal
 
 abbrev pub invariant-loop-i : goal.invariant-loop-i

@@ -1,5 +1,5 @@
 -- A byte more is looked at in each turn. Assumes nothing.
-use Rattle.std.proofs.Common.{length, ◌-◌, ◌≤◌, ◌≡◌, ℕ, ◌+◌, ◌*◌, ◌<◌}
+use Rattle.std.proofs.Common.{length, ◌-◌, ◌≤◌}
 use Rattle.lines.proofs.part.below.Given as goal
 
 abbrev pub invariant-loop-i : goal.invariant-loop-i

@@ -1,5 +1,5 @@
 -- The slice keeps its length. Assumes nothing.
-use Rattle.std.proofs.Common.{length, ◌-◌, ◌≤◌, ◌≡◌, ℕ, ◌+◌, ◌*◌, ◌<◌}
+use Rattle.std.proofs.Common.{length, ◌-◌, ◌≡◌}
 use Rattle.lines.proofs.part.shift.Given as goal
 
 abbrev pub invariant-loop-i : goal.invariant-loop-i

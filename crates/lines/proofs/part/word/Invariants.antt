@@ -1,5 +1,5 @@
 -- Each name ends after it began. Assumes nothing.
-use Rattle.std.proofs.Common.{length, ◌-◌, ◌≤◌, ◌≡◌, ℕ, ◌+◌, ◌*◌, ◌<◌}
+use Rattle.std.proofs.Common.{length, ◌-◌, ◌≤◌}
 use Rattle.lines.proofs.part.word.Given as goal
 
 abbrev pub decreases-loop-from : goal.decreases-loop-from

@@ -1,5 +1,5 @@
 -- A digit more is looked at in each turn. Assumes nothing.
-use Rattle.std.proofs.Common.{◌-◌, ◌≡◌, ℕ, ◌+◌, ◌*◌, ◌<◌, ◌≤◌, length}
+use Rattle.std.proofs.Common.{◌-◌}
 use Rattle.lines.proofs.spelt.count.Given as goal
 
 abbrev pub decreases-loop-i : goal.decreases-loop-i

@@ -1,5 +1,5 @@
 -- The bytes keep their number. Assumes nothing.
-use Rattle.std.proofs.Common.{length, ◌-◌, ◌≡◌, ℕ, ◌+◌, ◌*◌, ◌<◌, ◌≤◌}
+use Rattle.std.proofs.Common.{length, ◌-◌, ◌≡◌}
 use Rattle.lines.proofs.spelt.put.Given as goal
 
 abbrev pub invariant-loop-i : goal.invariant-loop-i
