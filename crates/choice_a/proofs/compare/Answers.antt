@@ -8,9 +8,8 @@ use native.Mathlib.Decide.{ℕ_discrete}
 use native.Mathlib.Omega.{arith}
 use lib.Arith.{lt_of_le-ne}
 use lib.Dec.{ltb}
-use lib.ListN.{drop, get_or}
 use borrow.Author.Rules.{rules}
-use Rattle.needs.proofs.Together.{together}
+use lib.ListN.{drop, get_or}
 use Rattle.bits.specs.Part.{part}
 use Rattle.opcodes.specs.Tables.{a_table, none, short, compare}
 use Rattle.opcodes.specs.declared.Named.{Named}
@@ -19,8 +18,7 @@ use Rattle.opcodes.specs.declared.Opcode.TheVariants.{No}
 use Rattle.table.specs.Entry.{Field, Entry, chosen}
 use Rattle.table.proofs.Known.{Has}
 use Rattle.table.proofs.Narrow.{narrow, narrowed, in-arm}
-use Rattle.choice_a.proofs.compare.Statement.{statement}
-use Rattle.choice_a.proofs.compare.Tie as tie
+use Rattle.choice_a.proofs.compare.Goals as goal
 
 -- a function's values below a bound; two functions that have the same ones are equal at each number below it
 values {ℓ} : {A : Type ℓ} → (ℕ → A) → ℕ → List A
@@ -70,12 +68,8 @@ met word row x2 tb ta c small known =
     agree _ _ 2 c (agree _ _ 2 ta (agree _ _ 2 tb (agree _ _ 4 x2 (agree _ _ 3 row (same word) small) (omega arith)) (omega arith)) (omega arith)) (omega arith)
     ∙ ap short (settle word (compare (12 + row) x2 tb ta c) known a_table none)
 
-returns : tie.Need-returns
+pub returns : goal.returns
 unfolding a_table values opcodes
 returns c =
-    let a = c.before.before.before.before.before.args in
-    rw c.before.compare-form.ensures
-    (met a.word a.row c.before.before.before.before.get.result (part a.word 36 1) c.before.before.before.get2.result c.before.before.get3.result (search rules) (search rules))
-
-pub compare-spec : {M : Type 1} → statement M
-compare-spec = tie.close (together 13 _ tie.spec (search rules) returns)
+    rw c.compare_form-form.ensures
+    (met c.args.word c.args.row c.get-x2.result (part c.args.word 36 1) c.get-ta.result c.get-c.result (search rules) (search rules))
