@@ -17,7 +17,7 @@ pub enum Line {
 
 // The window, how many changes there are and where the first one's line begins; where the sheet begins, where it ends and the layout
 // begins, and where that ends.
-#[derive(Drop)]
+#[derive(Clone, Copy)]
 pub struct Parts {
     pub window: u64,
     pub count: u64,
