@@ -12,7 +12,7 @@ use operand::Operand;
 
 // What a raw number means: itself and so much more; with a sign, so many times itself; the one that it chooses
 // from a list of numbers of 8 bits, the first of which stands lowest, with a sign where the flag is set; or so much less itself.
-#[derive(Drop)]
+#[derive(Clone, Copy)]
 pub enum Meaning {
     None,
     Unsigned(u64),
@@ -82,7 +82,7 @@ pub fn displacement(unit: u64, width: u32, raw: u64) -> u64
 }
 
 // The 64-bit pattern of a value, taken out of its operand, or the refusal of an operand of another kind.
-#[derive(Drop)]
+#[derive(Clone, Copy)]
 pub struct Taken {
     pub answer: u8,
     pub pattern: u64,
@@ -142,7 +142,7 @@ fn take_unsigned(value: Operand) -> Taken
 }
 
 // The raw number of a value, or the refusal of a value that has none.
-#[derive(Drop)]
+#[derive(Clone, Copy)]
 pub struct Raw {
     pub answer: u8,
     pub raw: u64,
