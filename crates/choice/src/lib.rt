@@ -14,7 +14,7 @@ use form::{A, B, Form, I, M};
 use opcodes::{Named, Opcode};
 
 // What `choose` hands back: no opcode and no form where it refuses.
-#[derive(Drop)]
+#[derive(Clone, Copy)]
 pub struct Chosen {
     pub answer: u8,
     pub opcode: Opcode,
