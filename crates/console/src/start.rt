@@ -3,7 +3,7 @@ ghost use Rattle.std.specs.Prelude.{◌≡◌};
 ghost use Rattle.console.specs.Started.{is_descriptor, tells_status, started_by};
 
 // The descriptor that the status is written to, or -1, and which argument is the first of the program's own.
-#[derive(Drop)]
+#[derive(Clone, Copy)]
 pub struct Started {
     pub status: i32,
     pub first: usize,

@@ -2,27 +2,26 @@
 #![tactic(auto)]
 
 use console::Started;
-use libc::{STDIN_FILENO, STDOUT_FILENO};
 
-fn main() {
-    let started = console::started();
-    console::end(started, run(started));
+fn main(rt: HostRuntime) {
+    let started = console::started(&rt);
+    console::end(&rt, started, run(&rt, started));
 }
 
-fn run(started: Started) -> u64 {
-    if console::has_arguments(started) {
-        return console::misused(b"usage: listing <HEX\n");
+fn run(rt: &HostRuntime, started: Started) -> u64 {
+    if console::has_arguments(rt, started) {
+        return console::misused(rt, b"usage: listing <HEX\n");
     }
     let mut text = [0u8; lister::ENOUGH];
     let mut out = [0u8; lister::CAPACITY];
-    let read = console::read_all(STDIN_FILENO, &mut text);
-    if !read.ok {
-        return console::failed(b"listing: standard input");
+    let read = console::read_all(&mut rt.stdin(), &mut text);
+    if let Some(error) = read.error {
+        return console::failed(rt, b"listing: standard input", &error);
     }
     let count = read.count;
     let written = lister::listing(&text[..count], &mut out);
-    if !console::write_all(STDOUT_FILENO, &out, written.length) {
-        return console::failed(b"listing: standard output");
+    if let Err(error) = console::write_all(&mut rt.stdout(), &out, written.length) {
+        return console::failed(rt, b"listing: standard output", &error);
     }
     status_of(&out)
 }

@@ -3,27 +3,25 @@
 
 use console::Started;
 use form::{B, Edit, Form};
-use libc::STDOUT_FILENO;
 use operand::Operand;
 
 // Room for the head of a sheet and a record: no line is longer than 116 bytes.
 const ROOM: usize = 2 * 116;
 
-fn main() {
-    let started = console::started();
-    console::end(started, run(started));
+fn main(rt: HostRuntime) {
+    let started = console::started(&rt);
+    console::end(&rt, started, run(&rt, started));
 }
 
-fn run(started: Started) -> u64 {
-    if console::has_arguments(started) {
-        return console::misused(b"usage: patches\n");
+fn run(rt: &HostRuntime, started: Started) -> u64 {
+    if console::has_arguments(rt, started) {
+        return console::misused(rt, b"usage: patches\n");
     }
     let mut out = [0u8; ROOM];
     let length = sheet_of(example(), &mut out);
-    if console::write_all(STDOUT_FILENO, &out, length) {
-        console::DONE
-    } else {
-        console::failed(b"patches: standard output")
+    match console::write_all(&mut rt.stdout(), &out, length) {
+        Ok(()) => console::DONE,
+        Err(error) => console::failed(rt, b"patches: standard output", &error),
     }
 }
 

@@ -1,39 +1,40 @@
 // What is said of an image that is left out, on standard error: its number among the images, its name, and why. Each answers the exit status
 // then.
 use answer::{ACCEPTED, TOO_LONG};
-use console::{DONE, REFUSED};
-use libc::STDERR_FILENO;
+use console::{DONE, EprintBytes, REFUSED};
 use lines::part;
+use std::io;
 
 // Room for the number, a name and a refusal.
 const ROOM: usize = 4200;
 
 // It can't be opened or read, as the system says.
-pub fn failed(i: u64, name: &[u8]) -> u64 {
+pub fn failed(rt: &impl EprintBytes, i: u64, name: &[u8], error: &io::Error) -> u64 {
     let mut line = [0u8; ROOM];
     let end = put_name(&mut line, i, name);
-    fail(&line, end)
+    fail(rt, &line, end, error)
 }
 
-fn fail(line: &[u8], end: usize) -> u64 {
+fn fail(rt: &impl EprintBytes, line: &[u8], end: usize, error: &io::Error) -> u64 {
     let n = part::within(line, end);
-    console::failed(&line[0..n])
+    console::failed(rt, &line[0..n], error)
 }
 
 // It is refused, where it is: the answer's number and name.
-pub fn refused(i: u64, name: &[u8], answer: u8) -> u64 {
+pub fn refused(rt: &impl EprintBytes, i: u64, name: &[u8], answer: u8) -> u64 {
     if answer == ACCEPTED {
         return DONE;
     }
     let mut line = [0u8; ROOM];
     let end = put_refusal(&mut line, i, name, answer);
-    console::write_all(STDERR_FILENO, &line, end);
+    let n = part::within(&line, end);
+    let _ = rt.eprint_bytes(&line[0..n]);
     REFUSED
 }
 
 // Standard input isn't bytes in hex.
-pub fn bad_hex() -> u64 {
-    io::write_all(STDERR_FILENO, b"report: image 1, -: badhex\n");
+pub fn bad_hex(rt: &impl EprintBytes) -> u64 {
+    let _ = rt.eprint_bytes(b"report: image 1, -: badhex\n");
     REFUSED
 }
 
