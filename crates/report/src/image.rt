@@ -1,13 +1,22 @@
 // An image: the bytes of a file, or as many as tell that it is too long.
 ghost use Rattle.std.specs.Prelude.{◌≡◌, length};
-ghost use Rattle.io.specs.Counts.{IsPrefixLen};
+ghost use Rattle.std.specs.Counts.{IsPrefixLen};
 
 use crate::said;
 use bundle::LONGEST_CODE;
-use console::Bytes;
-use libc::PATH_MAX;
+use console::{Bytes, EprintBytes};
 use lines::part;
+use std::rt::{Env, Files};
+use std::{fs, io, str};
 use tally::{Added, NUMBERS};
+
+// Room for the longest name of a file.
+pub const PATH_MAX: usize = 4096;
+
+// The system's numbers of two errors: a name is too long, and it is no text in UTF-8.
+const TOO_LONG: i32 = 36;
+
+const NO_TEXT: i32 = 84;
 
 // Room for the longest image, and a byte more.
 pub fn room() -> [u8; LONGEST_CODE + 1]
@@ -17,29 +26,43 @@ pub fn room() -> [u8; LONGEST_CODE + 1]
 }
 
 // Puts argument `i`, a file's name, at the start of `name`, and answers its length. One that is too long fills it, and no file is called so.
-pub fn put_name(i: usize, name: &mut [u8; PATH_MAX]) -> usize
+pub fn put_name(rt: &impl Env, i: usize, name: &mut [u8; PATH_MAX]) -> usize
     ensures { IsPrefixLen result name.new }
 {
-    let length = os::arg(i, name);
-    if os::errno() == 0 { length } else { PATH_MAX }
+    rt.arg(i, name).unwrap_or(PATH_MAX)
 }
 
 // Reads image `i`, the file of that name; one that can't be read is named on standard error.
-pub fn read(i: u64, name: &[u8], bytes: &mut [u8]) -> Bytes {
-    let file = os::open_read(name);
-    if file < 0 {
-        said::failed(i, name);
-        return Bytes {
-            ok: false,
-            count: 0,
-        };
+pub fn read(rt: &(impl Files + EprintBytes), i: u64, name: &[u8], bytes: &mut [u8]) -> Bytes {
+    let read = read_file(rt, name, bytes);
+    if let Some(error) = &read.error {
+        said::failed(rt, i, name, error);
     }
-    let read = console::read_all(file, bytes);
-    if !read.ok {
-        said::failed(i, name);
-    }
-    libc::close(file);
     read
+}
+
+fn read_file(rt: &impl Files, name: &[u8], bytes: &mut [u8]) -> Bytes {
+    match open(rt, name) {
+        Ok(mut file) => console::read_all(&mut file, bytes),
+        Err(error) => Bytes {
+            error: Some(error),
+            count: 0,
+        },
+    }
+}
+
+fn open<R: Files>(rt: &R, name: &[u8]) -> io::Result<R::File> {
+    fs::open(rt, text_of(name)?)
+}
+
+fn text_of(name: &[u8]) -> io::Result<&str> {
+    if PATH_MAX <= name.len() {
+        return Err(io::Error::from_raw_os_error(TOO_LONG));
+    }
+    match str::from_utf8(name) {
+        Ok(text) => Ok(text),
+        Err(_) => Err(io::Error::from_raw_os_error(NO_TEXT)),
+    }
 }
 
 // The report with the first bytes added.

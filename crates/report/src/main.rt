@@ -7,7 +7,6 @@ mod said;
 
 use console::{DONE, Started};
 use hex_text::Ending;
-use libc::{STDIN_FILENO, STDOUT_FILENO};
 use tally::NUMBERS;
 
 // What images come to: the report of those that aren't left out, and the exit status.
@@ -17,20 +16,20 @@ struct Sum {
     status: u64,
 }
 
-fn main() {
-    let started = console::started();
-    console::end(started, write(sum_of(started)));
+fn main(rt: HostRuntime) {
+    let started = console::started(&rt);
+    console::end(&rt, started, write(&rt, sum_of(&rt, started)));
 }
 
-fn sum_of(started: Started) -> Sum {
-    if console::has_arguments(started) {
-        return named(started.first, os::arg_count());
+fn sum_of(rt: &HostRuntime, started: Started) -> Sum {
+    if console::has_arguments(rt, started) {
+        return named(rt, started.first, console::arg_count(rt));
     }
-    typed()
+    typed(rt)
 }
 
 // The files that the arguments name from `first` on, added up.
-fn named(first: usize, count: usize) -> Sum {
+fn named(rt: &HostRuntime, first: usize, count: usize) -> Sum {
     let mut sum = Sum {
         report: [0; NUMBERS],
         status: DONE,
@@ -39,20 +38,20 @@ fn named(first: usize, count: usize) -> Sum {
     let mut i = first;
     while i < count {
         image += 1;
-        sum = with_file(sum, image, i);
+        sum = with_file(rt, sum, image, i);
         i += 1;
     }
     sum
 }
 
 // The sum with an image added, the file that argument `i` names, where it can be read and isn't refused.
-fn with_file(sum: Sum, image: u64, i: usize) -> Sum {
-    let mut name = io::buffer();
-    let length = image::put_name(i, &mut name);
+fn with_file(rt: &HostRuntime, sum: Sum, image: u64, i: usize) -> Sum {
+    let mut name = [0u8; image::PATH_MAX];
+    let length = image::put_name(rt, i, &mut name);
     let mut bytes = image::room();
-    let read = image::read(image, &name[..length], &mut bytes);
+    let read = image::read(rt, image, &name[..length], &mut bytes);
     let report = sum.report;
-    if !read.ok {
+    if read.error.is_some() {
         return Sum {
             report,
             status: console::SYSTEM,
@@ -64,21 +63,21 @@ fn with_file(sum: Sum, image: u64, i: usize) -> Sum {
         report,
         status: worse(
             sum.status,
-            said::refused(image, &name[..length], added.answer),
+            said::refused(rt, image, &name[..length], added.answer),
         ),
     }
 }
 
 // The image that standard input gives in hex, as the listing takes it.
-fn typed() -> Sum {
+fn typed(rt: &HostRuntime) -> Sum {
     let mut given = [0u8; lister::ENOUGH];
     let mut bytes = image::room();
     let report = [0u64; NUMBERS];
-    let read = console::read_all(STDIN_FILENO, &mut given);
-    if !read.ok {
+    let read = console::read_all(&mut rt.stdin(), &mut given);
+    if let Some(error) = read.error {
         return Sum {
             report,
-            status: said::failed(1, b"-"),
+            status: said::failed(rt, 1, b"-", &error),
         };
     }
     let count = read.count;
@@ -87,14 +86,14 @@ fn typed() -> Sum {
     if let Ending::BadHex = ending {
         return Sum {
             report,
-            status: said::bad_hex(),
+            status: said::bad_hex(rt),
         };
     }
     let added = image::add(report, &bytes, decoded.count);
     let report = added.report;
     Sum {
         report,
-        status: said::refused(1, b"-", added.answer),
+        status: said::refused(rt, 1, b"-", added.answer),
     }
 }
 
@@ -103,13 +102,12 @@ fn worse(a: u64, b: u64) -> u64 {
     if a < b { b } else { a }
 }
 
-fn write(sum: Sum) -> u64 {
+fn write(rt: &HostRuntime, sum: Sum) -> u64 {
     let report = sum.report;
     let mut out = [0u8; tally::CAPACITY];
     let length = tally::put_report(&mut out, 0, report);
-    if console::write_all(STDOUT_FILENO, &out, length) {
-        sum.status
-    } else {
-        console::failed(b"report: standard output")
+    match console::write_all(&mut rt.stdout(), &out, length) {
+        Ok(()) => sum.status,
+        Err(error) => console::failed(rt, b"report: standard output", &error),
     }
 }
