@@ -63,8 +63,9 @@ fn unopened(rt: &HostRuntime, name: &[u8], error: &io::Error) -> Opened {
 // Reads a window: its code at its place, and zeros where it has none.
 pub fn load(guest: &Guest, extents: &[u64], window: u64, code: &mut [u8]) -> io::Result<()> {
     part::fill(code, 0);
+    let count = guest.count;
     let mut i = 0;
-    while i < guest.count {
+    while i < count {
         load_part(guest, extents, window, code, i)?;
         i += 1;
     }
