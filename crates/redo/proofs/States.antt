@@ -4,7 +4,7 @@ use mathlib.Core.Path.{◌≡◌, refl, sym, ap, ◌∙◌, subst}
 use mathlib.Core.Bool.{Bool, true, false, ◌&&◌, ◌||◌}
 use mathlib.Core.List.{List, [], ◌∷◌, ◌++◌}
 use mathlib.Core.Logic.{◌⊎◌, inl, inr}
-use Prim.Native.Nat.{ℕ, zero, suc, ◌+◌, ◌-◌, ◌/◌, ◌%◌, ◌<◌, ◌^◌}
+use Prim.Native.Nat.{ℕ, zero, suc, ◌-◌, ◌/◌, ◌%◌, ◌<◌, ◌^◌}
 use native.Mathlib.Decide.{ℕ_discrete}
 use native.Mathlib.Omega.{arith}
 use borrow.Author.Tests.{eqb-true, eq-eqb, ne_eqb}
@@ -16,7 +16,6 @@ use Rattle.bundle.specs.Bundle.{whole}
 use Rattle.bundle.specs.declared.half.Halves.{Halves}
 use Rattle.bundle.proofs.Bytes.{bytes-above, length-bytes}
 use Rattle.redo.specs.State.{bytes_of, of_either, state_of, OneOf, NoOtherByte, TornIsKnown}
-use Rattle.redo.specs.declared.state.State.{State}
 use Rattle.redo.specs.declared.state.State.TheVariants.{Old, New, Torn, Other}
 
 -- no byte, and one more

@@ -12,7 +12,7 @@ pub use reader::{Found, Line, Parts, line_at, look};
 pub use state::{State, state_of};
 
 // A changed bundle: its place in the file, in bytes, and what it was and is to be.
-#[derive(Drop)]
+#[derive(Clone, Copy)]
 pub struct Change {
     pub place: u64,
     pub old: Halves,

@@ -9,7 +9,7 @@ use bundle::Halves;
 use text::{Fields, read_fields};
 
 // A change and the place after its line, or that there is none.
-#[derive(Drop)]
+#[derive(Clone, Copy)]
 pub enum Line {
     Read(Change, usize),
     Refused,
@@ -28,14 +28,14 @@ pub struct Parts {
 }
 
 // Where the parts of a redo file stand, or that the text is none.
-#[derive(Drop)]
+#[derive(Clone, Copy)]
 pub enum Found {
     Redo(Parts),
     Refused,
 }
 
 // The place after some lines.
-#[derive(Drop)]
+#[derive(Clone, Copy)]
 pub enum After {
     At(usize),
     Missing,

@@ -6,7 +6,7 @@ ghost use Rattle.redo.specs.State.{bytes_of, of_either, state_of};
 
 use bundle::Halves;
 
-#[derive(Drop)]
+#[derive(Clone, Copy)]
 pub enum State {
     Old,
     New,
