@@ -8,6 +8,7 @@ use bundle::Bundle;
 use form::Form;
 
 // Cuts a bundle. The output becomes the tag, the three units, the three slots and, for each slot, 1 where a stop follows.
+#[tactic(auto, unfolding(crate::specs::Calls::cut_call))]
 #[unsafe(no_mangle)]
 pub extern "C" fn glindorsc_cut(code: &[u8], bundle: u64, out: &mut [u64; 10]) -> u8
     ensures { ◌≡◌ {A = Filled} (record { answer = result; out = out.new }) (cut_call code.now bundle) }
@@ -38,6 +39,7 @@ fn numbers(cut: Bundle) -> [u64; 10]
 }
 
 // Reads the immediate of a form in a slot, as its 64-bit pattern.
+#[tactic(auto, unfolding(crate::specs::Calls::immediate_call))]
 #[unsafe(no_mangle)]
 pub extern "C" fn glindorsc_immediate(
     code: &[u8],
@@ -56,6 +58,7 @@ pub extern "C" fn glindorsc_immediate(
 }
 
 // The target of a form in a slot of the bundle at an address.
+#[tactic(auto, unfolding(crate::specs::Calls::target_call))]
 #[unsafe(no_mangle)]
 pub extern "C" fn glindorsc_target(
     code: &[u8],
