@@ -12,7 +12,7 @@ use parts::L;
 
 // A row, in numbers, so that the compiler has a family's rows in tables: the kind of the meaning and its own number, how many bits the parts
 // have, and the parts, lowest first, 16 bits each, the place below the width; four in `low` and two in `high`. The last have no width.
-#[derive(Drop)]
+#[derive(Clone, Copy)]
 pub struct Packed {
     pub kind: u64,
     pub number: u64,

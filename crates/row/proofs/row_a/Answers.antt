@@ -1,0 +1,35 @@
+-- `row_a` meets its contract: each arm's row is the table's for its number, and a number that no arm names has none.
+use Rattle.std.proofs.Common.{[], ◌∷◌}
+use Rattle.table.proofs.Match.{ones}
+use Rattle.form.specs.Form.{a}
+use Rattle.row.specs.Row.{lines, row_of}
+use Rattle.row.proofs.Named.{not_named}
+use Rattle.row.proofs.row_a.Goals as goal
+
+pub returns-in-2 : goal.returns-in-2
+unfolding row_of
+returns-in-2 c = rw c.in-2.is
+
+pub returns-in-3 : goal.returns-in-3
+unfolding row_of
+returns-in-3 c = rw c.in-3.is
+
+pub returns-in-4 : goal.returns-in-4
+unfolding row_of
+returns-in-4 c = rw c.in-4.is
+
+pub returns-in-5 : goal.returns-in-5
+unfolding row_of
+returns-in-5 c = rw c.in-5.is
+
+pub returns-in-8 : goal.returns-in-8
+unfolding row_of
+returns-in-8 c = rw c.in-8.is
+
+pub returns-in-10 : goal.returns-in-10
+unfolding row_of
+returns-in-10 c = rw c.in-10.is
+
+pub returns-in_default : goal.returns-in_default
+unfolding lines
+returns-in_default c = not_named (ones (10 ∷ 8 ∷ 5 ∷ 4 ∷ 3 ∷ 2 ∷ [])) (a _) tt c.in_default.in_default-own.rest
