@@ -13,7 +13,7 @@ pub use reader::{Found, has, look, window_at};
 pub use text::Number as Line;
 
 // How a file is read: kind 0 is ELF; kind 1 is raw bytes, so many from an offset on, of which the first has the address `base`.
-#[derive(Drop)]
+#[derive(Clone, Copy)]
 pub struct Reading {
     pub kind: u64,
     pub base: u64,

@@ -7,7 +7,7 @@ use crate::Reading;
 use text::{NEWLINE, Number};
 
 // The reading, how many windows there are and where the first one's line begins; or that the text is no layout.
-#[derive(Drop)]
+#[derive(Clone, Copy)]
 pub enum Found {
     Layout(Reading, u64, usize),
     Refused,
