@@ -16,7 +16,7 @@
  * be any number of 64 bits. No pointer may be null, not even one to nothing. Nothing is kept between calls, so they may run at
  * the same time.
  *
- * Link target/staticlib/libglindorsc.a, which `rt staticlib glindorsc` writes; it needs no other library.
+ * Link crates/glindorsc/out/libglindorsc.a, which `rt lib` in crates/glindorsc writes; it needs no other library.
  */
 #ifndef GLINDORSC_H
 #define GLINDORSC_H

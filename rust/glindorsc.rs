@@ -3,7 +3,7 @@
 //! Each answers 0, or the number of the refusal that applies first (`include/glindorsc.h` lists them); where refused, the rest is
 //! zeros, but for the tag of a bundle that is refused by 2. A form is the family letter's byte and its number: `b'M'`, 48.
 //!
-//! Link with `-L target/staticlib`, where `rt staticlib glindorsc` writes the archive.
+//! Link with `-L crates/glindorsc/out`, where `rt lib` in crates/glindorsc writes the archive.
 
 #[link(name = "glindorsc", kind = "static")]
 extern "C" {
