@@ -29,17 +29,21 @@ fn places() -> [Record; kept::MOST_PLACES]
     [NONE; kept::MOST_PLACES]
 }
 
-fn main() {
-    let started = console::started();
-    if console::has_arguments(started) {
-        console::end(started, console::misused(b"usage: probe <LINES\n"));
+fn main(rt: HostRuntime) {
+    let started = console::started(&rt);
+    if console::has_arguments(&rt, started) {
+        console::end(
+            &rt,
+            started,
+            console::misused(&rt, b"usage: probe <LINES\n"),
+        );
         return;
     }
-    console::end(started, run());
+    console::end(&rt, started, run(&rt));
 }
 
 // Answers standard input, and tells the exit status.
-fn run() -> u64 {
+fn run(rt: &HostRuntime) -> u64 {
     let mut text = room();
     let mut code = code_room();
     let mut lent = room();
@@ -48,6 +52,7 @@ fn run() -> u64 {
     let mut out = room();
     let mut records = places();
     session::run(
+        rt,
         &mut text,
         &mut code,
         &mut lent,

@@ -4,9 +4,9 @@ ghost use Rattle.std.specs.Prelude.{◌≤◌, ◌<◌};
 use crate::calls::Call;
 use crate::{calls, command, kept};
 use console::Bytes;
-use libc::{STDIN_FILENO, STDOUT_FILENO};
 use lines::part;
 use record::Record;
+use std::io;
 
 // The longest line that is answered.
 const LONGEST: usize = 400000;
@@ -17,6 +17,7 @@ const FULL: usize = 131072;
 // A proved loop has to end, and nothing says that the input does. So the turns are counted down, from a
 // number that no run uses up.
 pub fn run(
+    rt: &HostRuntime,
     text: &mut [u8],
     code: &mut [u8],
     lent: &mut [u8],
@@ -27,7 +28,7 @@ pub fn run(
 ) {
     let mut turns = u64::MAX;
     while 0 < turns {
-        let call = turn(text, code, lent, given, kept, out);
+        let call = turn(rt, text, code, lent, given, kept, out);
         calls::made(call, code, lent, given, kept, records);
         command::tell(lent, kept, out);
         turns = left(kept, turns);
@@ -48,6 +49,7 @@ fn left(kept: &[u64], turns: u64) -> u64
 
 // Answers the next line that is held, as far as it calls for no records, or reads more of the input.
 fn turn(
+    rt: &HostRuntime,
     text: &mut [u8],
     code: &mut [u8],
     lent: &mut [u8],
@@ -59,13 +61,13 @@ fn turn(
     let from = kept::within(kept, kept::FROM, held);
     let end = part::first(&text[0..held], from, b'\n');
     if end == held || end < from {
-        more(text, held, from, kept, out);
+        more(rt, text, held, from, kept, out);
         return Call::None;
     }
     let to = readable(kept::get(kept, kept::CUT), from, end);
     kept::set(kept, kept::FROM, end as u64 + 1);
     kept::set(kept, kept::CUT, 0);
-    let at = flushed(out, kept::get(kept, kept::AT) as usize, kept);
+    let at = flushed(rt, out, kept::get(kept, kept::AT) as usize, kept);
     command::answer(&text[from..to], code, lent, given, kept, out, at)
 }
 
@@ -82,25 +84,39 @@ fn readable(cut: u64, from: usize, end: usize) -> usize
 }
 
 // Writes the answers, and reads once more where that can be done.
-fn more(text: &mut [u8], held: usize, from: usize, kept: &mut [u64], out: &mut [u8]) {
+fn more(
+    rt: &HostRuntime,
+    text: &mut [u8],
+    held: usize,
+    from: usize,
+    kept: &mut [u64],
+    out: &mut [u8],
+) {
     let at = kept::get(kept, kept::AT) as usize;
-    write(out, at, kept);
+    write(rt, out, at, kept);
     kept::set(kept, kept::AT, 0);
     if kept::get(kept, kept::OVER) == 0 {
-        take(text, held, from, kept, out);
+        take(rt, text, held, from, kept, out);
     }
 }
 
 // Reads once after the bytes that are held and not answered.
-fn take(text: &mut [u8], held: usize, from: usize, kept: &mut [u64], out: &mut [u8]) {
+fn take(
+    rt: &HostRuntime,
+    text: &mut [u8],
+    held: usize,
+    from: usize,
+    kept: &mut [u64],
+    out: &mut [u8],
+) {
     let left = moved(text, held, from, kept);
-    let got = read(text, left);
+    let got = read(rt, text, left);
     kept::set(kept, kept::HELD, got.count as u64);
     kept::set(kept, kept::FROM, 0);
-    if !got.ok {
-        fail(b"probe: standard input", kept);
+    if let Some(error) = got.error {
+        fail(rt, b"probe: standard input", &error, kept);
     } else if got.count == left {
-        last(left, kept, out);
+        last(rt, left, kept, out);
     }
 }
 
@@ -116,41 +132,41 @@ fn moved(text: &mut [u8], held: usize, from: usize, kept: &mut [u64]) -> usize {
 }
 
 // Reads once after the bytes that are held, and counts those that are held then.
-fn read(text: &mut [u8], held: usize) -> Bytes {
+fn read(rt: &HostRuntime, text: &mut [u8], held: usize) -> Bytes {
     let from = part::within(text, held);
-    let got = console::read(STDIN_FILENO, &mut text[from..]);
+    let got = console::read(&mut rt.stdin(), &mut text[from..]);
     Bytes {
-        ok: got.ok,
+        error: got.error,
         count: from + got.count,
     }
 }
 
 // What stands after the last newline is no line.
-fn last(left: usize, kept: &mut [u64], out: &mut [u8]) {
+fn last(rt: &HostRuntime, left: usize, kept: &mut [u64], out: &mut [u8]) {
     kept::set(kept, kept::OVER, 1);
     if kept::get(kept, kept::CUT) != 0 || 0 < left {
         let to = command::ended(out, 0, command::UNREAD);
-        write(out, to, kept);
+        write(rt, out, to, kept);
     }
 }
 
 // Writes the output where it could have no room for another answer, and answers where it stands then.
-fn flushed(out: &[u8], at: usize, kept: &mut [u64]) -> usize {
+fn flushed(rt: &HostRuntime, out: &[u8], at: usize, kept: &mut [u64]) -> usize {
     if at < FULL {
         return at;
     }
-    write(out, at, kept);
+    write(rt, out, at, kept);
     0
 }
 
-fn write(out: &[u8], at: usize, kept: &mut [u64]) {
-    if !console::write_all(STDOUT_FILENO, out, at) {
-        fail(b"probe: standard output", kept);
+fn write(rt: &HostRuntime, out: &[u8], at: usize, kept: &mut [u64]) {
+    if let Err(error) = console::write_all(&mut rt.stdout(), out, at) {
+        fail(rt, b"probe: standard output", &error, kept);
     }
 }
 
 // The system failed, which is said, and the run is over.
-fn fail(what: &[u8], kept: &mut [u64]) {
-    kept::set(kept, kept::STATUS, console::failed(what));
+fn fail(rt: &HostRuntime, what: &[u8], error: &io::Error, kept: &mut [u64]) {
+    kept::set(kept, kept::STATUS, console::failed(rt, what, error));
     kept::set(kept, kept::OVER, 1);
 }
