@@ -3,7 +3,7 @@ use Rattle.std.proofs.Common.{◌≡◌, ℕ, ◌%◌, ◌^◌, ◌<◌, true, f
 use borrow.Author.Tests.{not-false}
 use mir.Facts.{and_yes}
 use Rattle.bits.specs.Part.{bit}
-use Rattle.bits.specs.Parts.{gather, apart, apart_from, meet_not}
+use Rattle.bits.specs.Parts.{gather, apart_from, meet_not}
 use Rattle.bits.proofs.Parts.{gather-scatter, scatter-gather, scatter-scatter, scatter-comm, scatter-lt, part-scatter, scatter-bit}
 use Rattle.bundle.specs.Bundle.{tag_of}
 use Rattle.parts.specs.Placed.{placed, width_of, in_words}

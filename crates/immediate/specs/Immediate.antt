@@ -1,6 +1,6 @@
 -- Immediates of a bundle: read, changed, and the targets that they make. A bundle is its number n; a call on a code is `find`'s refusals and
 -- then those of the bundle. Assumes nothing.
-use Rattle.std.specs.Prelude.{ℕ, ◌+◌, ◌%◌, ◌^◌, Bool, true, false, cond, not, ◌||◌, List, [], ◌∷◌, ◌++◌, ℤ, ◌==◌, nat_lt, slice_index}
+use Rattle.std.specs.Prelude.{ℕ, ◌+◌, ◌%◌, ◌^◌, Bool, cond, not, ◌||◌, List, [], ◌∷◌, ◌++◌, ℤ, ◌==◌, nat_lt, slice_index}
 use Rattle.answer.specs.Answer.{Refusal, first, outcome, accepted, bad_bundle, bad_form, bad_slot, bad_value}
 use Rattle.bits.specs.Parts.{Parts, gather, scatter}
 use Rattle.bundle.specs.Template.{unitless}

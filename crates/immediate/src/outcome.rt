@@ -2,19 +2,19 @@
 use bundle::Halves;
 use operand::Operand;
 
-#[derive(Drop)]
+#[derive(Clone, Copy)]
 pub struct Immediate {
     pub answer: u8,
     pub value: Operand,
 }
 
-#[derive(Drop)]
+#[derive(Clone, Copy)]
 pub struct Target {
     pub answer: u8,
     pub address: u64,
 }
 
-#[derive(Drop)]
+#[derive(Clone, Copy)]
 pub struct Changed {
     pub answer: u8,
     pub bundle: Halves,
