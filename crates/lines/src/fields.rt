@@ -6,10 +6,10 @@ use text::Number;
 // No field ends there.
 const UNREAD: usize = usize::MAX;
 
-#[derive(Drop)]
+#[derive(Clone, Copy)]
 pub struct Six(pub u64, pub u64, pub u64, pub u64, pub u64, pub u64);
 
-#[derive(Drop)]
+#[derive(Clone, Copy)]
 pub struct Numbers {
     // whether they read
     pub ok: bool,

@@ -8,7 +8,7 @@ use script::Ran;
 use text::Written;
 
 // What a line calls for; where a party does, its number comes first.
-#[derive(Drop)]
+#[derive(Clone, Copy)]
 pub enum Call {
     None,
     Journal(Counts, u64),

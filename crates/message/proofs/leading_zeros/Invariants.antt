@@ -1,5 +1,5 @@
 -- It counts up to how many zeros may stand in front. Assumes nothing.
-use Rattle.std.proofs.Common.{◌-◌, ◌<◌, ◌≡◌, ℕ, ◌+◌, ◌*◌, ◌≤◌, length}
+use Rattle.std.proofs.Common.{◌-◌, ◌≤◌}
 use Rattle.message.proofs.leading_zeros.Given as goal
 
 abbrev pub invariant-loop-count : goal.invariant-loop-count

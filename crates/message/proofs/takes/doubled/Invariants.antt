@@ -1,5 +1,4 @@
 -- It counts down. Assumes nothing.
-use Rattle.std.proofs.Common.{◌≡◌, ℕ, ◌+◌, ◌-◌, ◌*◌, ◌<◌, ◌≤◌, length}
 use Rattle.message.proofs.takes.doubled.Given as goal
 
 abbrev pub decreases-loop-left : goal.decreases-loop-left

@@ -1,5 +1,5 @@
 -- It counts down, and no writing changes how much room there is. Assumes nothing.
-use Rattle.std.proofs.Common.{◌≡◌, ℕ, ◌+◌, ◌-◌, ◌*◌, ◌<◌, ◌≤◌, length}
+use Rattle.std.proofs.Common.{◌≡◌, length}
 use Rattle.message.proofs.takes.put_chosen.Given as goal
 
 abbrev pub invariant-loop-left : goal.invariant-loop-left
