@@ -15,7 +15,7 @@ const HIGHEST: u64 = 4095;
 // The slot, form and value are those of the party's edit, the value by its 64-bit pattern; a record of a whole bundle has slot 0,
 // no form and value 0.
 #[repr(C)]
-#[derive(Drop)]
+#[derive(Clone, Copy)]
 pub struct Record {
     pub party: u64,
     pub bundle: u64,
@@ -78,6 +78,7 @@ pub fn is_free(place: Record) -> bool
 }
 
 // Whether a record is one of a whole bundle, or its edit makes its new bundle of its old one.
+#[tactic(auto, unfolding(crate::specs::Record::passes))]
 fn passes(one: Record) -> bool
     ensures { result ≡ passes one }
 {
