@@ -1,6 +1,6 @@
 -- A journal that one or two parties share: the slice is in two parts, and each party has a journal of its own in its part. A call of a party
 -- is one made with that party's journal, once all of the slice is found valid. Its laws are proved in `proofs/Sharing.antt`. Assumes nothing.
-use Rattle.std.specs.Prelude.{ℕ, ◌-◌, ◌<◌, ◌≡◌, Bool, true, false, cond, ◌&&◌, ◌||◌, List, [], T, eqb, ltb, take, drop, replicate}
+use Rattle.std.specs.Prelude.{ℕ, ◌-◌, ◌<◌, ◌≡◌, Bool, true, cond, ◌&&◌, ◌||◌, List, [], T, eqb, ltb, take, drop, replicate}
 use Rattle.answer.specs.Answer.{outcome}
 use Rattle.record.specs.Record.{no_record, fits64}
 use Rattle.record.specs.declared.Record.{Record}

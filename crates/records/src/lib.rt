@@ -18,7 +18,7 @@ const HALF: u64 = 512;
 
 // How many parties share a journal, and how many records of party 0 and of party 1 stand.
 #[repr(C)]
-#[derive(Drop)]
+#[derive(Clone, Copy)]
 pub struct Counts {
     pub parties: u64,
     pub lower: u64,
@@ -26,7 +26,7 @@ pub struct Counts {
 }
 
 // What a journal shows: whether it is valid, how many records stand, and the last of them.
-#[derive(Drop)]
+#[derive(Clone, Copy)]
 pub struct View {
     pub valid: bool,
     pub count: u64,
@@ -34,7 +34,7 @@ pub struct View {
 }
 
 // A party's part of the slice: its first place, how many places it has, and what the journal there shows.
-#[derive(Drop)]
+#[derive(Clone, Copy)]
 pub struct Own {
     pub first: u64,
     pub places: u64,
@@ -42,7 +42,7 @@ pub struct Own {
 }
 
 // A party's first place, how many places it has, and how many of its records stand.
-#[derive(Drop)]
+#[derive(Clone, Copy)]
 struct Share {
     first: u64,
     places: u64,
