@@ -2,7 +2,7 @@
 use mathlib.Core.Path.{◌≡◌, refl, sym, ap, ap₂, ◌∙◌}
 use mathlib.Core.Bool.{cond}
 use mathlib.Core.List.{List, [], ◌∷◌, ◌++◌, map, flat_map, zip_with}
-use Prim.Native.Nat.{ℕ, zero, suc, ◌+◌, ◌*◌, ◌/◌, ◌%◌, ◌^◌, ◌≤◌, ◌<◌}
+use Prim.Native.Nat.{ℕ, suc, ◌+◌, ◌*◌, ◌/◌, ◌%◌, ◌^◌, ◌≤◌, ◌<◌}
 use native.Mathlib.Nat.{mul-one, mul_comm, zero-add}
 use native.Mathlib.Decide.{dec_lt}
 use native.Mathlib.Omega.{arith}
@@ -18,7 +18,7 @@ use Rattle.tally.specs.inner.Share.{shares_of}
 use Rattle.tally.specs.Holds.{reserved_tags, report_number, Counted, Alone}
 use Rattle.tally.proofs.Lists.{count-append, count_most, count-sum, length_to, map-to}
 use Rattle.tally.proofs.Counts.{Tags, by-tag, counted-at, tags-small, stops-few, shares-counted}
-use Rattle.tally.proofs.Counts.{counted}
+use Rattle.tally.proofs.Counts.{counted as counts_and_zeros}
 use Rattle.tally.specs.declared.Shares.{Shares}
 use Rattle.tally.proofs.Sums.{large, large-cons, added-fits, short-added}
 
@@ -127,12 +127,12 @@ alone image h =
     short-added (replicate 36 0) image h ∙ added-fits (replicate 36 0) (report_of image) (rw none (large-report image h)) ∙ ap (λ (l : List ℕ). record { answer = accepted; report = l }) none
 
 -- the four places after the counts
-filled : (tags : List ℕ) (a b c d : ℕ) → set (set (set (set (counted tags) 32 a) 33 b) 34 c) 35 d ≡ counts_of tags ++ (a ∷ b ∷ c ∷ d ∷ [])
+filled : (tags : List ℕ) (a b c d : ℕ) → set (set (set (set (counts_and_zeros tags) 32 a) 33 b) 34 c) 35 d ≡ counts_of tags ++ (a ∷ b ∷ c ∷ d ∷ [])
 unfolding below
 filled tags a b c d = refl
 
 -- how the report is made: the counts, and what they come to after them
-pub report-made : (image counts : List ℕ) (shares : Shares) → counts ≡ counted (tags_of image) → shares ≡ shares_of counts
+pub report-made : (image counts : List ℕ) (shares : Shares) → counts ≡ counts_and_zeros (tags_of image) → shares ≡ shares_of counts
     → set (set (set (set counts 32 (length image / 16)) 33 shares.reserved) 34 shares.stops) 35 (length image % 16) ≡ report_of image
 unfolding report_of
 report-made image counts shares made shared =

@@ -27,7 +27,7 @@ pub const NUMBERS: usize = 36;
 // No report's text is longer.
 pub const CAPACITY: usize = 870;
 
-#[derive(Drop)]
+#[derive(Clone, Copy)]
 pub struct Added {
     pub answer: u8,
     pub report: [u64; NUMBERS],
@@ -118,7 +118,7 @@ fn count(counts: &mut [u64; NUMBERS], image: &[u8], n: usize)
 }
 
 // What bundles add to the reserved ones and the stops.
-#[derive(Drop)]
+#[derive(Clone, Copy)]
 pub struct Shares {
     pub reserved: u64,
     pub stops: u64,
