@@ -1,6 +1,6 @@
 -- Displacements and targets undo each other: a row of a target has values times 16, so the value that a bundle reads is the displacement
 -- which the target adds to the address; and adding a distance that wraps undoes taking it. Assumes nothing.
-use Rattle.std.proofs.Common.{◌≡◌, ℕ, ◌+◌, ◌-◌, ◌%◌, ◌^◌, ◌<◌, false, not, eqb, [], ◌∷◌, sym, refl, ap, ◌∙◌, arith, le-ltb, lt-ltb, eq-eqb, eqb-true}
+use Rattle.std.proofs.Common.{◌≡◌, ℕ, ◌+◌, ◌%◌, ◌^◌, ◌<◌, false, not, eqb, [], ◌∷◌, sym, refl, ap, ◌∙◌, arith, le-ltb, lt-ltb, eq-eqb, eqb-true}
 use native.Mathlib.Decide.{dec_lt}
 use borrow.Author.Tests.{not-false}
 use Rattle.answer.specs.Answer.{accepted, bad_value, first}

@@ -1,7 +1,7 @@
 // What `displacement` hands back.
 use operand::Operand;
 
-#[derive(Drop)]
+#[derive(Clone, Copy)]
 pub struct Displacement {
     pub answer: u8,
     pub value: Operand,
