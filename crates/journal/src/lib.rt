@@ -21,14 +21,14 @@ use record::Record;
 use records::{Counts, Own};
 
 // What a call answers, and how many records of each party stand after it.
-#[derive(Drop)]
+#[derive(Clone, Copy)]
 pub struct Edited {
     pub answer: u8,
     pub counts: Counts,
 }
 
 // The same, and what the party's journal shows then.
-#[derive(Drop)]
+#[derive(Clone, Copy)]
 pub struct Acted {
     pub answer: u8,
     pub counts: Counts,
@@ -36,7 +36,7 @@ pub struct Acted {
 }
 
 // What a party can do.
-#[derive(Drop)]
+#[derive(Clone, Copy)]
 pub enum Act {
     Edit(Edit),
     Checked(Edit),

@@ -15,7 +15,7 @@ use record::{NONE, Record};
 use records::{Own, View};
 
 // The answer, the bundle to write, the record to keep and its place, and how many records stand then.
-#[derive(Drop)]
+#[derive(Clone, Copy)]
 pub struct Plan {
     pub answer: u8,
     pub bundle: u64,
