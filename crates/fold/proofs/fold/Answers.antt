@@ -1,12 +1,9 @@
-mod Lts
-mod Tie
--- `fold` meets its contract: the party's part, lent, is its journal, and what is left of it is put in its place. Assumes nothing.
+-- The party's part, lent, is its journal, and what is left of it is put in its place. Assumes nothing.
 use mathlib.Core.Path.{◌≡◌, sym, ap, ap₂, ◌∙◌}
 use mathlib.Core.Bool.{true, false}
 use mathlib.Core.List.{List, []}
 use Prim.Native.Nat.{ℕ, ◌+◌, ◌-◌, ◌≤◌}
 use native.Mathlib.Omega.{arith}
-use borrow.Author.Rules.{rules}
 use borrow.Author.Tests.{not-true, not-false}
 use borrow.Rule.Slice.PartMut.{mid_of, put_mid}
 use lib.ListN.{length}
@@ -22,8 +19,7 @@ use Rattle.records.proofs.Standing.{journal-places, valid-places, valid-few}
 use Rattle.fold.proofs.Laws.{fewer}
 use Rattle.journal.specs.Edit.{journal_outcome_of}
 use Rattle.fold.specs.Fold.{folded, fold_of, fold_by}
-use Rattle.fold.proofs.fold.Statement.{statement}
-use Rattle.fold.proofs.fold.Proof.Tie as tie
+use Rattle.fold.proofs.fold.Goals as goal
 
 -- what is shown of the party's part
 module _ {c : Counts} {rs : List Record} {party : ℕ} {o : Own} (shows : Shows c rs party o) where
@@ -65,38 +61,14 @@ module _ {c : Counts} {rs : List Record} {party : ℕ} {o : Own} (shows : Shows 
         ∙ ap (with_own (sharing c rs) party) now in
         (λ i. record { answer = accepted; journal = put i }) ∙ rw part.valid
 
-returns : tie.Need-returns
-returns c = refused c.before.before.before.own_of.ensures.0 (not-true _ c.if1.true)
+pub returns-then-not-view : goal.returns-then-not-view
+returns-then-not-view c = refused c.own_of-own.ensures.0 (not-true _ c.if-not-view.true)
 
--- the part that is lent
-lent-part : (c : tie.Else1) → let o = c.before.before.before in let a = o.before.before.args in Lent a.counts a.records.now a.party o.own_of.result
-lent-part c = part c.before.before.before.own_of.ensures.0 (not-false _ c.if1.false)
+pub fold_own-left-requires : goal.fold_own-left-requires
+fold_own-left-requires c =
+    let shows = c.own_of-own.ensures.0 in
+    let v = not-false _ c.if-not-view.false in
+    (own-valid shows v, omega (arith, many shows v, (part shows v).short))
 
-fold-own-requires : tie.Need-fold-own-requires
-fold-own-requires c κs =
-    let e = c.before.before in
-    let shows = e.before.before.before.own_of.ensures.0 in
-    (own-valid shows (not-false _ e.if1.false), omega (arith, many shows (not-false _ e.if1.false), (lent-part e).short))
-
-returns-2 : tie.Need-returns-2
-returns-2 c =
-    let f = c.before.before in
-    let e = f.before.before.before in
-    taken e.before.before.before.own_of.ensures.0 (not-false _ e.if1.false) _ _ _ c.with-count.ensures f.fold-own.ensures
-
-pub fold-spec : {M : Type 1} → statement M
-fold-spec =
-    tie.close
-    (tie.spec
-    (λ c κs. search rules)
-    (λ c. search rules)
-    returns
-    (λ c. omega (arith, (lent-part c.before).short))
-    (λ c. omega (arith, (lent-part c.before).short))
-    (λ c. search rules)
-    (λ c. search rules)
-    (λ c. (lent-part c.before).within)
-    fold-own-requires
-    (λ c κs. search rules)
-    (λ c. search rules)
-    returns-2)
+pub returns : goal.returns
+returns c = taken c.own_of-own.ensures.0 (not-false _ c.if-not-view.false) _ _ _ c.with_count-counts.ensures c.fold_own-left.ensures

@@ -1,6 +1,4 @@
-mod Lts
-mod Tie
--- `fold_own` meets its contract. The loop's invariant: at the places so far stand the records so far, folded, and after them free places; all
+-- What a fold keeps true after each record: at the places so far stand the records so far, folded, and after them free places; all
 -- other places are as they were; and of each bundle the place of its record is kept. Assumes nothing.
 use mathlib.Core.Path.{◌≡◌, refl, sym, ap, ap₂, ◌∙◌, subst}
 use mathlib.Core.Bool.{Bool, true, cond}
@@ -8,9 +6,8 @@ use mathlib.Core.List.{List, [], ◌∷◌, ◌++◌}
 use Prim.Native.Nat.{ℕ, zero, suc, ◌+◌, ◌-◌, ◌≤◌, ◌<◌, min}
 use native.Mathlib.Numerals.{add-one}
 use native.Mathlib.Omega.{arith}
-use borrow.Author.Rules.{rules}
 use lib.Dec.{T, ltb, leb, leb→le}
-use lib.ListN.{length, get_or, set, take, drop, length-set, length-append, length-drop, length-replicate, get_or-replicate}
+use lib.ListN.{length, get_or, set, take, drop, length-set, length-append, length-drop}
 use lib.Seq.{take-suc, length-take-le, get_or-take}
 use mir.Facts.{and_yes}
 use Rattle.record.specs.Record.{no_record, highest, may_stand}
@@ -21,19 +18,17 @@ use Rattle.fold.specs.Fold.{bundles_in, folded_in, folded}
 use Rattle.fold.specs.inner.Places.{first_place, kept_of}
 use Rattle.fold.proofs.Laws.{bundles-length, folded_more, with_bundle, bundles-in, length-in, fewer, is-folded}
 use Rattle.fold.proofs.Places.{Kept, kept_more, place_found, while_folded, next-read, next-freed, next-folded, placed}
-use Rattle.fold.proofs.fold_own.Statement.{statement}
-use Rattle.fold.proofs.fold_own.Proof.Tie as tie
 
 -- what is left of the records so far
-abbrev left-of : List Record → ℕ → List Record
+abbrev pub left-of : List Record → ℕ → List Record
 left-of all place = folded (take place all)
 
-record Folding (count : ℕ) (all records : List Record) (places : List ℕ) (left place : ℕ) : Type 0 where
-  within : place ≤ count
-  is : records ≡ while_folded place (left-of all place) all
-  counts : left ≡ length (left-of all place)
-  long : highest < length places
-  kept : Kept (bundles_in (left-of all place)) places
+pub record Folding (count : ℕ) (all records : List Record) (places : List ℕ) (left place : ℕ) : Type 0 where
+  pub within : place ≤ count
+  pub is : records ≡ while_folded place (left-of all place) all
+  pub counts : left ≡ length (left-of all place)
+  pub long : highest < length places
+  pub kept : Kept (bundles_in (left-of all place)) places
 
 -- a record that may stand is of a bundle of which a place is kept
 bundle-low : (party : ℕ) (rs : List Record) → T (all (may_stand party) rs) → (i : ℕ) → i < length rs → (get_or rs i no_record).bundle ≤ highest
@@ -49,7 +44,7 @@ module _ (party count : ℕ) (all : List Record) (valid : valid_of party (length
   few : (place : ℕ) → place ≤ count → length (left-of all place) ≤ place
   few place h = omega (arith, fewer [] (take place all), length-take-le place all (omega (arith, fits)))
 
-  same-places : {records : List Record} {places : List ℕ} {left place : ℕ} → Folding count all records places left place → length records ≡ length all
+  pub same-places : {records : List Record} {places : List ℕ} {left place : ℕ} → Folding count all records places left place → length records ≡ length all
   same-places {place = place} i =
       ap length i.is
       ∙ omega (arith, length-append (journal_of place (left-of all place)).records (drop place all), journal-places place (left-of all place) (few place i.within), length-drop place all, fits, i.within)
@@ -62,7 +57,7 @@ module _ (party count : ℕ) (all : List Record) (valid : valid_of party (length
     abbrev r : Record
     r = get_or all place no_record
 
-    low : r.bundle ≤ highest
+    pub low : r.bundle ≤ highest
     low =
         let stand = valid-stand party (length all) (lent count all) valid in
         let many = valid-counts party (length all) (lent count all) valid in
@@ -73,13 +68,13 @@ module _ (party count : ℕ) (all : List Record) (valid : valid_of party (length
     more = rw (add-one, take-suc all place no_record (omega (arith, fits))) (folded_more [] (take place all) r)
 
     module _ {records : List Record} {places : List ℕ} {left : ℕ} (i : Folding count all records places left place) where
-      left-few : left ≤ limit
+      pub left-few : left ≤ limit
       left-few = omega (arith, i.counts, few place (omega arith), fits)
 
-      one-is : get_or records place no_record ≡ r
+      pub one-is : get_or records place no_record ≡ r
       one-is = rw i.is (next-read all place (omega (arith, fits)) qs (few place (omega arith)))
 
-      turn : (one kept : Record) (freed after : List Record) (at next : ℕ) (kept-places : List ℕ)
+      pub turn : (one kept : Record) (freed after : List Record) (at next : ℕ) (kept-places : List ℕ)
           → one ≡ get_or records place no_record → freed ≡ set records place no_record → at ≡ min (get_or places one.bundle 0) left → kept-places ≡ set places one.bundle at
           → kept ≡ kept_of (ltb at left) (get_or freed at no_record) one → after ≡ set freed at kept → next ≡ cond (ltb at left) left (left + 1)
           → Folding count all after kept-places next (place + 1)
@@ -116,7 +111,7 @@ module _ (party count : ℕ) (all : List Record) (valid : valid_of party (length
           }
 
   -- when all are folded, free places are left
-  done : {records : List Record} {places : List ℕ} {left : ℕ} → Folding count all records places left count → lent left records ≡ journal_of (length all) (folded (standing (lent count all)))
+  pub done : {records : List Record} {places : List ℕ} {left : ℕ} → Folding count all records places left count → lent left records ≡ journal_of (length all) (folded (standing (lent count all)))
   done i =
       let qs = left-of all count in
       let many : count + (length all - count) ≡ length all = omega (arith, fits) in
@@ -127,91 +122,7 @@ module _ (party count : ℕ) (all : List Record) (valid : valid_of party (length
       ∙ ap (λ (n : ℕ). (journal_of n qs).records) many in
       (λ j. lent ((i.counts ∙ sym (journal-counts (length all) qs)) j) (records-are j)) ∙ ap (λ (rs : List Record). journal_of (length all) (folded rs)) (sym (standing-places (lent count all)))
 
-abbrev invariant-loop : tie.invariant-loop
-invariant-loop party count records₀ places₀ left₀ place₀ records places left place = Folding count records₀ records places left place
-
-abbrev decreases-loop : tie.decreases-loop
-decreases-loop party count records₀ places₀ left₀ place₀ records places left place = count - place
-
 -- before the first record
-begun : (all : List Record) → all ≡ while_folded 0 [] all
+pub begun : (all : List Record) → all ≡ while_folded 0 [] all
 unfolding journal_of
 begun all = refl
-
-loop-holds : tie.Need-loop-init invariant-loop decreases-loop
-loop-holds c =
-    let none = c.no-places.ensures in
-    record {
-      within = omega arith;
-      is = begun _;
-      counts = refl;
-      long = subst (λ (ps : List ℕ). highest < length ps) (sym none) (omega (arith, length-replicate 4096 limit));
-      kept = λ j h. ap (λ (ps : List ℕ). get_or ps j 0) none ∙ get_or-replicate 4096 j limit 0 (omega arith);
-    }
-
-few-left : (l : tie.In-loop invariant-loop decreases-loop) → l.before.loop.left ≤ limit
-few-left l =
-    let s = l.before.before.before in
-    left-few s.args.party s.args.count s.args.records.now s.requires.0 s.requires.1 l.before.loop.place l.loop-test.true l.before.loop.invariant
-
-place-in-requires : tie.Need-place-in-requires invariant-loop decreases-loop
-place-in-requires c κs =
-    let g = c.before.before.before.before in
-    let l = g.before.before in
-    let s = l.before.before.before in
-    let place = l.before.loop.place in
-    let at_most = low s.args.party s.args.count s.args.records.now s.requires.0 s.requires.1 place l.loop-test.true in
-    let one = g.get.ensures ∙ one-is s.args.party s.args.count s.args.records.now s.requires.0 s.requires.1 place l.loop-test.true l.before.loop.invariant in
-    (subst (λ (q : Record). q.bundle ≤ highest) (sym one) at_most, few-left l)
-
-loop-again : tie.Need-loop-preserved invariant-loop decreases-loop
-loop-again c =
-    let p2 = c.before.before in
-    let k = p2.before.before in
-    let pi = k.before.before.before in
-    let p = pi.before.before.before in
-    let g = p.before.before in
-    let l = g.before.before in
-    let s = l.before.before.before in
-    let kept = k.kept.ensures ∙ ap (λ (q : Record). kept_of (ltb pi.place_in.result l.before.loop.left) q g.get.result) k.before.get2.ensures in
-    turn s.args.party s.args.count s.args.records.now s.requires.0 s.requires.1 l.before.loop.place l.loop-test.true l.before.loop.invariant _ _ _ _ _ _ _ g.get.ensures p.put.ensures pi.place_in.ensures.0 pi.place_in.ensures.1 kept p2.put2.ensures c.more.ensures
-
--- where a turn began
-abbrev turn-of : tie.After-more invariant-loop decreases-loop → tie.In-loop invariant-loop decreases-loop
-turn-of c = c.before.before.before.before.before.before.before.before.before.before.before.before.before.before
-
--- the invariant where the loop is left
-module _ (c : tie.After-loop invariant-loop decreases-loop) where
-  abbrev given : tie.Start invariant-loop decreases-loop
-  given = c.before.before.before
-
-  same_length : length c.before.loop.records ≡ length given.args.records.now
-  same_length = same-places given.args.party given.args.count given.args.records.now given.pre.0 given.pre.1 c.before.loop.invariant
-
-returns : tie.Need-returns invariant-loop decreases-loop
-returns c =
-    let l = c.before.loop in
-    let s = given c in
-    let all_done : l.place ≡ s.args.count = omega (arith, l.invariant.within) in
-    done s.args.party s.args.count s.args.records.now s.pre.0 s.pre.1 (subst (Folding s.args.count s.args.records.now l.records l.places l.left) all_done l.invariant)
-
-pub fold-own-spec : {M : Type 1} → statement M
-fold-own-spec =
-    tie.close
-    (tie.spec
-    invariant-loop
-    decreases-loop
-    (λ c κs. search rules)
-    loop-holds
-    (λ c κs. search rules)
-    (λ c κs. search rules)
-    place-in-requires
-    (λ c κs. search rules)
-    (λ c κs. search rules)
-    (λ c κs. search rules)
-    (λ c κs. few-left c.before.before.before.before.before.before.before.before.before.before.before.before.before)
-    (λ c. omega (arith, (turn-of c).loop-test.true, (turn-of c).before.before.before.ranges.count))
-    (λ c. omega (arith, (turn-of c).loop-test.true))
-    loop-again
-    same_length
-    returns)
