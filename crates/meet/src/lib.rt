@@ -14,7 +14,7 @@ use form::Edit;
 use row::{NONE, Packed};
 
 // Whether two edits meet: `false` where the answer is a refusal.
-#[derive(Drop)]
+#[derive(Clone, Copy)]
 pub struct Met {
     pub answer: u8,
     pub meet: bool,
