@@ -1,3 +1,2 @@
 // Document 01's cases, proved over what the crates below promise; nothing runs.
 #![tactic(auto)]
-
