@@ -1,14 +1,10 @@
--- A field grows by the byte below it, and eight bytes are a number below 2 ^ 64; a product is compared by a division; where a header
--- stands, case by case. Assumes nothing.
-use mathlib.Core.Path.{◌≡◌, refl, sym, ◌∙◌}
-use mathlib.Core.Bool.{true}
+-- A field grows by the byte below it, and eight bytes are a number below 2 ^ 64; where a header stands, case by case. Assumes nothing.
+use mathlib.Core.Path.{◌≡◌, refl}
 use mathlib.Core.List.{List}
-use Prim.Native.Nat.{ℕ, suc, ◌+◌, ◌*◌, ◌/◌, ◌≤◌, ◌<◌, ◌^◌}
+use Prim.Native.Nat.{ℕ, suc, ◌+◌, ◌*◌, ◌≤◌, ◌<◌, ◌^◌}
 use native.Mathlib.Decide.{dec_lt}
-use native.Mathlib.Nat.{le-div_iff_mul-le, div-lt_iff_lt-mul}
 use native.Mathlib.Omega.{arith}
 use borrow.Author.Tests.{le-leb, lt-leb, le-ltb, lt-ltb}
-use lib.Dec.{leb}
 use lib.ListN.{length, get_or}
 use lib.Pow.{pow_mono}
 use lib.Seq.{drop-cons}
@@ -35,19 +31,6 @@ more_lt byte value width b v =
 -- a field of fewer than eight bytes has room for one more
 pub room : (value width : ℕ) → width < 8 → value < 2 ^ (8 * width) → value < 2 ^ 56
 room value width w v = let h : 2 ^ (8 * width) ≤ 2 ^ 56 = pow_mono (let f : 8 * width ≤ 56 = omega arith in f) in omega arith
-
--- a product, by a division
-pub product-none : (a b most : ℕ) → b ≡ 0 → true ≡ leb (a * b) most
-product-none a b most z = rw z (sym (le-leb (a * 0) most (omega arith)))
-
-pub product-within : (a b most : ℕ) → 0 < b → leb a (most / b) ≡ leb (a * b) most
-product-within a b most h =
-    elim (dec_lt most (a * b)) [
-      | yes l ↦ lt-leb a (most / b) ((div-lt_iff_lt-mul h).1 l) ∙ sym (lt-leb (a * b) most l)
-      | no l ↦
-          let e : a * b ≤ most = omega arith in
-          le-leb a (most / b) ((le-div_iff_mul-le h).1 e) ∙ sym (le-leb (a * b) most e)
-    ]
 
 -- a header, by where it would stand
 module _ (t : Table) (k need length : ℕ) where

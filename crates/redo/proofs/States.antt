@@ -1,13 +1,12 @@
--- Bundles by their bytes: two are equal where their halves are, sixteen bytes are mixed where both halves are, and where a bundle isn't
--- another's each byte is the old or the new one's. Assumes nothing.
+-- Bundles by their bytes: sixteen bytes are mixed where both halves are, and where a bundle isn't another's each byte is the old or the
+-- new one's. Assumes nothing.
 use mathlib.Core.Path.{◌≡◌, refl, sym, ap, ◌∙◌, subst}
 use mathlib.Core.Bool.{Bool, true, false, ◌&&◌, ◌||◌}
 use mathlib.Core.List.{List, [], ◌∷◌, ◌++◌}
 use mathlib.Core.Logic.{◌⊎◌, inl, inr}
 use Prim.Native.Nat.{ℕ, zero, suc, ◌-◌, ◌/◌, ◌%◌, ◌<◌, ◌^◌}
-use native.Mathlib.Decide.{ℕ_discrete}
 use native.Mathlib.Omega.{arith}
-use borrow.Author.Tests.{eqb-true, eq-eqb, ne_eqb}
+use borrow.Author.Tests.{eqb-true, eq-eqb}
 use lib.Dec.{T, eqb, eqb→eq}
 use lib.ListN.{length, get_or}
 use mir.Facts.{and_yes}
@@ -65,18 +64,6 @@ pub mixed-halves : (now old new : Halves) → now.low < 2 ^ 64 → old.low < 2 ^
     → (of_either (bytes 8 now.low) (bytes 8 old.low) (bytes 8 new.low) && of_either (bytes 8 now.high) (bytes 8 old.high) (bytes 8 new.high)) ≡ of_either (bytes_of now) (bytes_of old) (bytes_of new)
 mixed-halves now old new n o w =
     sym (rw (halves-bytes now n, halves-bytes old o, halves-bytes new w) (mixed-append 8 now.low old.low new.low (bytes 8 now.high) (bytes 8 old.high) (bytes 8 new.high)))
-
--- two bundles by their halves
-module _ (a b : Halves) (l : a.low < 2 ^ 64) (m : b.low < 2 ^ 64) where
-  pub same_not : (a.low ≡ b.low → ⊥) → false ≡ eqb (whole a) (whole b)
-  same_not d = sym (ne_eqb (whole a) (whole b) (λ e. d (omega arith)))
-
-  pub same-high : a.low ≡ b.low → eqb a.high b.high ≡ eqb (whole a) (whole b)
-  same-high e =
-      elim (ℕ_discrete a.high b.high) [
-        | yes h ↦ eq-eqb a.high b.high h ∙ sym (eq-eqb (whole a) (whole b) (omega arith))
-        | no h ↦ ne_eqb a.high b.high h ∙ sym (ne_eqb (whole a) (whole b) (λ w. h (omega arith)))
-      ]
 
 -- one of two tests, and so of numbers
 either : (x y : Bool) → T (x || y) → T x ⊎ T y

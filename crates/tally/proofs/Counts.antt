@@ -1,14 +1,14 @@
 -- The counts of tags: one bundle more is one more at its tag, and whatever each bundle adds by its tag can be summed a tag at a time.
 -- Both by counting a list with one element more. Assumes nothing.
 use mathlib.Core.Path.{◌≡◌, refl, sym, ap, ◌∙◌}
-use mathlib.Core.Bool.{false, cond}
+use mathlib.Core.Bool.{cond}
 use mathlib.Core.List.{List, [], ◌∷◌, ◌++◌, map}
 use Prim.Native.Nat.{ℕ, zero, suc, ◌+◌, ◌*◌, ◌%◌, ◌≤◌, ◌<◌}
 use native.Mathlib.Nat.{add-mul}
 use native.Mathlib.Numerals.{add-one}
 use native.Mathlib.Decide.{ℕ_discrete, dec_lt}
 use native.Mathlib.Omega.{arith}
-use lib.Dec.{eqb, eqb→eq, leb, leb→le, lit<}
+use lib.Dec.{eqb, leb, leb→le, lit<}
 use lib.ListN.{length, get_or, set, replicate, length-set, get_or-append, get_or-eq_default}
 use lib.Seq.{ext_get_or, get_or-set_same, get_or-set_other, set-append_left, drop-cons}
 use borrow.Author.Tests.{eq-eqb, ne_eqb}
@@ -128,13 +128,6 @@ bundle-counted image n counts h e =
     rw (e, add-one n, ← tag-first image n h)
     (counted-more (tags_to image n) (tag_of (number_at image n)) (part-lt (number_at image n) 0 5)
     ∙ ap counted (sym (map_more (λ k. tag_of (number_at image k)) n)))
-
--- a template has three places for a stop
-pub stops-three : (t : ℕ) → t < 32 → cond (get_or (stops_of t) 0 false) 1 0 + cond (get_or (stops_of t) 1 false) 1 0 + cond (get_or (stops_of t) 2 false) 1 0 ≡ stops_at t
-unfolding stops_of
-stops-three t h =
-    eqb→eq _ (stops_at t)
-    (checked (λ u. eqb (cond (get_or (stops_of u) 0 false) 1 0 + cond (get_or (stops_of u) 1 false) 1 0 + cond (get_or (stops_of u) 2 false) 1 0) (stops_at u)) 32 tt t h)
 
 pub stops-few : (t : ℕ) → t < 32 → stops_at t ≤ 3
 unfolding stops_of

@@ -1,6 +1,6 @@
 -- A number's digits stored from its last one on: what is left to write, before what is written, comes to the whole. By the
 -- clauses of `decimal`, a digit at a time. Assumes nothing.
-use mathlib.Core.Path.{◌≡◌, refl, sym, ap, ◌∙◌}
+use mathlib.Core.Path.{◌≡◌, sym, ap, ◌∙◌}
 use mathlib.Core.List.{List, [], ◌∷◌, ◌++◌, append_assoc}
 use Prim.Native.Nat.{ℕ, suc, ◌+◌, ◌-◌, ◌/◌, ◌%◌, ◌≤◌, ◌<◌}
 use native.Mathlib.Numerals.{add-one}
@@ -33,9 +33,6 @@ pub record Filling (before : List ℕ) (at end n : ℕ) (out : List ℕ) (i rest
   pub back : decimal rest ++ drop i out ≡ decimal n ++ drop end before
 
 module _ {before : List ℕ} {at end n : ℕ} where
-  pub filling-none : at + length (decimal n) ≡ end → end ≤ length before → Filling before at end n before end n
-  filling-none e h = record { size = refl; room = h; place = e; front = refl; back = refl }
-
   module _ {out : List ℕ} {i rest : ℕ} (f : Filling before at end n out i rest) where
     pub filling-one : (j d : ℕ) → j + 1 ≡ i → 10 ≤ rest → d ≡ 48 + rest % 10 → Filling before at end n (set out j d) j (rest / 10)
     filling-one j d k h e =
