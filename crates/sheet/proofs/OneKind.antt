@@ -12,7 +12,7 @@ use Rattle.text.specs.Fields.{field_at, fields_at}
 use Rattle.text.specs.declared.number.Number.TheVariants as number
 use Rattle.text.proofs.RoundTrip.{field-none, fields_split}
 use Rattle.sheet.specs.declared.line.Kind.TheVariants.{Full, Old}
-use Rattle.sheet.specs.declared.line.Line.TheVariants.{Read, Refused}
+use Rattle.sheet.specs.declared.line.Line.TheVariants.{Read}
 use Rattle.sheet.specs.Load.{front_ends, ends, read_as, records_at}
 use Rattle.sheet.proofs.Lines.{FullRead, full-read, no_line, line_taken}
 use Rattle.sheet.proofs.Reading.{more}

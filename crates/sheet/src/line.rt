@@ -10,14 +10,14 @@ use name::Name;
 use record::Record;
 use text::{TAB, put_fields, read_fields};
 
-#[derive(Drop)]
+#[derive(Clone, Copy)]
 pub enum Kind {
     Full,
     Old,
 }
 
 // A record and the place after its line, or that there is none.
-#[derive(Drop)]
+#[derive(Clone, Copy)]
 pub enum Line {
     Read(Record, usize),
     Refused,

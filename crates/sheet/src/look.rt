@@ -12,7 +12,7 @@ use records::LIMIT;
 use text::{NEWLINE, Number};
 
 // The answer, and of a sheet the number of its records, the place of the first one's line, and the kind of its lines.
-#[derive(Drop)]
+#[derive(Clone, Copy)]
 pub struct Found {
     pub answer: u8,
     pub count: u64,
@@ -21,7 +21,7 @@ pub struct Found {
 }
 
 // A record, and the place where the next one's line begins.
-#[derive(Drop)]
+#[derive(Clone, Copy)]
 pub struct Next {
     pub one: Record,
     pub at: usize,

@@ -1,11 +1,8 @@
-mod Lts
-mod Tie
--- `sheet::load` meets its contract: what was found is written into the party's part, and nothing where none was. Assumes nothing.
+-- What was found is written into the party's part, and nothing where none was. Assumes nothing.
 use mathlib.Core.Path.{◌≡◌, sym, ap, ◌∙◌}
 use mathlib.Core.List.{List}
 use Prim.Native.Nat.{ℕ, ◌+◌, ◌-◌}
 use native.Mathlib.Omega.{arith}
-use borrow.Author.Rules.{rules}
 use borrow.Author.Tests.{ne_eqb}
 use borrow.Rule.Slice.PartMut.{mid_of, put_mid}
 use lib.ListN.{length}
@@ -23,8 +20,7 @@ use Rattle.sheet.specs.Load.{load_of, load_by}
 use Rattle.sheet.specs.inner.Finds.{FindsFor, Fills}
 use Rattle.sheet.specs.declared.look.Found.{Found}
 use Rattle.sheet.proofs.Inverse.{Taken, load-taken}
-use Rattle.sheet.proofs.load.Statement.{statement}
-use Rattle.sheet.proofs.load.Proof.Tie as tie
+use Rattle.sheet.proofs.load.Goals as goal
 
 -- what is found for the part that is shown
 module _ {c : Counts} {rs : List Record} {party : ℕ} {o : Own} (shows : Shows c rs party o) {text : List ℕ} {f : Found} (finds : FindsFor party o.view.valid o.places text f) where
@@ -62,29 +58,11 @@ module _ {c : Counts} {rs : List Record} {party : ℕ} {o : Own} (shows : Shows 
         ∙ part-put c rs party o shows.is part.served (length qs) (journal_of places qs).records (journal-places places qs taken.few) in
         (λ i. record { answer = yes i; journal = journal-is i }) ∙ rw taken.is
 
-returns : tie.Need-returns
-returns c = let k = c.before in refused k.before.before.own_of.ensures.0 k.look.ensures c.if1.true
+pub slice_bounds-fill-end : goal.slice_bounds-fill-end
+slice_bounds-fill-end c = (part c.own_of-own.ensures.0 c.look-found.ensures c.if-answer-ne-ACCEPTED.false).within
 
--- the part that is lent
-lent-part : (c : tie.Else1) → let o = c.before.before.before in let a = o.before.before.before.args in Lent a.counts a.records.now a.party o.own_of.result
-lent-part c = part c.before.before.before.own_of.ensures.0 c.before.look.ensures c.if1.false
+pub returns-then-answer-ne-ACCEPTED : goal.returns-then-answer-ne-ACCEPTED
+returns-then-answer-ne-ACCEPTED c = refused c.own_of-own.ensures.0 c.look-found.ensures c.if-answer-ne-ACCEPTED.true
 
-returns-2 : tie.Need-returns-2
-returns-2 c =
-    let f = c.before.before in
-    let e = f.before.before.before in
-    filled e.before.before.before.own_of.ensures.0 e.before.look.ensures e.if1.false _ _ c.with-count.ensures f.fill.ensures
-
-pub load_spec : {M : Type 1} → statement M
-load_spec =
-    tie.close
-    (tie.spec
-    (λ c κs. search rules)
-    (λ c κs. search rules)
-    (λ c. search rules)
-    returns
-    (λ c. omega (arith, (lent-part c.before).short)) (λ c. omega (arith, (lent-part c.before).short)) (λ c. search rules) (λ c. search rules) (λ c. (lent-part c.before).within)
-    (λ c κs. search rules)
-    (λ c κs. search rules)
-    (λ c. search rules)
-    returns-2)
+pub returns : goal.returns
+returns c = filled c.own_of-own.ensures.0 c.look-found.ensures c.if-answer-ne-ACCEPTED.false _ _ c.with_count-counts.ensures c.fill.ensures

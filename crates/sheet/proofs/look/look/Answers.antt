@@ -1,11 +1,10 @@
--- `sheet::look::look` meets its contract: its tests are those of loading. Assumes nothing.
+-- Its tests are those of loading. Assumes nothing.
 use mathlib.Core.Path.{◌≡◌, ap, ◌∙◌}
 use mathlib.Core.List.{List}
 use mathlib.Core.Option.{Option, none, some}
 use Prim.Native.Nat.{ℕ, ◌≤◌, ◌<◌}
 use native.Mathlib.Omega.{arith}
-use borrow.Author.Rules.{rules}
-use borrow.Author.Tests.{le-leb, lt-leb, not-true, not-false}
+use borrow.Author.Tests.{le-leb, lt-leb}
 use lib.ListN.{length}
 use Rattle.answer.specs.Answer.{full}
 use Rattle.record.specs.declared.Record.{Record}
@@ -13,8 +12,7 @@ use Rattle.records.specs.Journal.{Journal, limit}
 use Rattle.sheet.specs.Load.{records_in, loaded_with, load_of}
 use Rattle.sheet.specs.inner.Finds.{Finds}
 use Rattle.sheet.specs.declared.look.Found.{Found}
-use Rattle.sheet.proofs.look.look.Statement.{statement}
-use Rattle.sheet.proofs.look.look.Tie as tie
+use Rattle.sheet.proofs.look.look.Goals as goal
 
 -- what was found, and the answer where there are places for the records or not
 module _ (party : ℕ) (text : List ℕ) (f : Found) (places : ℕ) (given : Journal) where
@@ -26,35 +24,30 @@ module _ (party : ℕ) (text : List ℕ) (f : Found) (places : ℕ) (given : Jou
   few none s h = ap (λ (f : Found). f.answer) s
   few (some rs) s h = rw (le-leb (length rs) places (omega (arith, h, s.1.counts))) s.0
 
-returns : tie.Need-returns
+pub returns-then-not-valid : goal.returns-then-not-valid
 unfolding load_of
-returns c =
+returns-then-not-valid c =
     let e = c.none.ensures in
-    let no = not-true c.before.before.before.args.valid c.before.if1.true in
+    let no = c.if-not-valid.true in
     record { answers = λ given v. rw (v ∙ no) (ap (λ (f : Found). f.answer) e); gives = λ rs a q. absurd (omega (arith, a, ap (λ (f : Found). f.answer) e)) }
 
-returns-2 : tie.Need-returns-2
+pub returns-then-places-found : goal.returns-then-places-found
 unfolding load_of
-returns-2 c =
-    let l = c.before.before.before in
-    let a = l.before.before.before.args in
-    let yes = not-false a.valid l.before.if1.false in
-    let e = c.none2.ensures in
+returns-then-places-found c =
+    let a = c.args in
+    let yes = c.if-not-valid.false in
+    let e = c.none-then-places-found.ensures in
     record {
-      answers = λ given v. rw (v ∙ yes) (ap (λ (f : Found). f.answer) e ∙ many a.party a.text.now l.look_in.result a.places given (records_in limit a.party a.text.now) l.look_in.ensures c.before.if2.true);
+      answers = λ given v. rw (v ∙ yes) (ap (λ (f : Found). f.answer) e ∙ many a.party a.text.now c.look_in-found.result a.places given (records_in limit a.party a.text.now) c.look_in-found.ensures c.if-places-found.true);
       gives = λ rs a q. absurd (omega (arith, a, ap (λ (f : Found). f.answer) e));
     }
 
-returns-3 : tie.Need-returns-3
+pub returns : goal.returns
 unfolding load_of
-returns-3 c =
-    let l = c.before.before in
-    let a = l.before.before.before.args in
-    let yes = not-false a.valid l.before.if1.false in
+returns c =
+    let a = c.args in
+    let yes = c.if-not-valid.false in
     record {
-      answers = λ given v. rw (v ∙ yes) (few a.party a.text.now l.look_in.result a.places given (records_in limit a.party a.text.now) l.look_in.ensures c.if2.false);
-      gives = λ rs _ q. (rw q at l.look_in.ensures).1;
+      answers = λ given v. rw (v ∙ yes) (few a.party a.text.now c.look_in-found.result a.places given (records_in limit a.party a.text.now) c.look_in-found.ensures c.if-places-found.false);
+      gives = λ rs _ q. (rw q at c.look_in-found.ensures).1;
     }
-
-pub look_spec : {M : Type 1} → statement M
-look_spec = tie.close (tie.spec (λ c κs. search rules) returns (λ c κs. search rules) (λ c κs. search rules) returns-2 returns-3)
