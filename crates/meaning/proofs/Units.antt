@@ -1,5 +1,5 @@
 -- Numbers of w bits that count units: they stay within 64 bits, and a whole number of units is counted again. Assumes nothing.
-use Rattle.std.proofs.Common.{◌≡◌, ℕ, suc, ◌+◌, ◌-◌, ◌*◌, ◌/◌, ◌%◌, ◌^◌, ◌<◌, ◌≤◌, ◌⊎◌, ap, ◌∙◌, inl, inr, ⊎_elim, le_trans, le_of_lt, mod-lt, mod-eq_of_lt, mul_comm, div-lt_iff_lt-mul, mul-le-mul_left, pow-suc, div-add-mod', le-div_iff_mul-le, mul-add, arith, lit<, pow_pos, w64, SFits, le-ltb, lt-ltb}
+use Rattle.std.proofs.Common.{◌≡◌, ℕ, suc, ◌+◌, ◌-◌, ◌*◌, ◌/◌, ◌%◌, ◌^◌, ◌<◌, ◌≤◌, ◌⊎◌, ap, ◌∙◌, inl, inr, ⊎_elim, le_trans, mod-eq_of_lt, mul_comm, div-lt_iff_lt-mul, mul-le-mul_left, pow-suc, div-add-mod', mul-add, arith, lit<, pow_pos, w64, SFits, le-ltb, lt-ltb}
 use native.Mathlib.Nat.{pow-le-pow_right}
 use native.Mathlib.Decide.{dec_lt}
 use Rattle.bits.proofs.Laws.{above-mod}
@@ -35,9 +35,6 @@ top w raw h l =
 
 -- the top bit takes away what it would add
 module _ (unit w raw : ℕ) (f : SignedFits unit w) (l : raw < 2 ^ w) where
-  pub low_fits : unit * (raw % 2 ^ (w - 1)) ≤ 2 ^ 63
-  low_fits = units-fit unit w (raw % 2 ^ (w - 1)) f (le_of_lt (mod-lt raw (pow_pos (w - 1))))
-
   pub top-fits : unit * (raw - raw % 2 ^ (w - 1)) ≤ 2 ^ 63
   top-fits = units-fit unit w (raw - raw % 2 ^ (w - 1)) f (⊎_elim (λ k. omega arith) (λ k. omega arith) (top w raw f.0 l))
 
@@ -60,9 +57,6 @@ module _ (unit w raw : ℕ) (f : SignedFits unit w) (l : raw < 2 ^ w) where
 -- a number of w bits is seen by its upper part
 pub below_top : (w n : ℕ) → 1 ≤ w → n / 2 ^ (w - 1) < 2 → n < 2 ^ w
 below_top w n h l = let g = (div-lt_iff_lt-mul (pow_pos (w - 1))).0 l in omega (arith, half w h)
-
-pub not-below-top : (w n : ℕ) → 1 ≤ w → 2 ≤ n / 2 ^ (w - 1) → 2 ^ w ≤ n
-not-below-top w n h l = omega (arith, half w h, (le-div_iff_mul-le (pow_pos (w - 1))).0 l)
 
 -- whole units
 pub whole-units : (unit n : ℕ) → n % unit ≡ 0 → unit * (n / unit) ≡ n

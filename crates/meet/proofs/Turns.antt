@@ -1,9 +1,9 @@
--- A turn of a loop over a slot's six parts: part i stands before those that are left, and after six turns none is. Assumes nothing.
+-- A turn of a loop over a slot's six parts: part i stands before those that are left. Assumes nothing.
 use mathlib.Core.Path.{◌≡◌, sym, ap, ◌∙◌}
-use mathlib.Core.List.{List, [], ◌∷◌}
-use Prim.Native.Nat.{ℕ, ◌+◌, ◌≤◌, ◌<◌}
+use mathlib.Core.List.{List, ◌∷◌}
+use Prim.Native.Nat.{ℕ, ◌+◌, ◌<◌}
 use native.Mathlib.Numerals.{add-one}
-use lib.ListN.{length, get_or, drop, drop_of_length-le}
+use lib.ListN.{length, get_or, drop}
 use lib.Seq.{drop-cons}
 use Rattle.bits.specs.Parts.{Parts}
 use Rattle.parts.specs.Placed.{no_part, stands_at, placed}
@@ -20,6 +20,3 @@ left slot ps i = placed slot (drop i ps)
 module _ (slot : ℕ) (ps : List Part) (i : ℕ) where
   pub left-next : i < length ps → left slot ps i ≡ part_at slot ps i ∷ left slot ps (i + 1)
   left-next h = ap (placed slot) (drop-cons ps i no_part h) ∙ ap (λ (k : ℕ). part_at slot ps i ∷ left slot ps k) (sym (add-one i))
-
-  pub left-none : length ps ≤ i → left slot ps i ≡ []
-  left-none h = ap (placed slot) (drop_of_length-le ps h)
