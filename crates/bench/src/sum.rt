@@ -4,7 +4,7 @@ use operand::{Operand, Position, Reading};
 use tally::{Added, NUMBERS};
 
 pub fn plus(sum: u64, n: u64) -> u64 {
-    std::num::wrapping_add_u64(sum, n)
+    sum.wrapping_add(n)
 }
 
 // The number at a place, 0 past the last.

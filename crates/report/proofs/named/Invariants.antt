@@ -1,5 +1,5 @@
 -- It counts up to how many arguments there are. Assumes nothing.
-use Rattle.std.proofs.Common.{◌-◌, ◌≡◌, ℕ, ◌+◌, ◌*◌, ◌<◌, ◌≤◌, length}
+use Rattle.std.proofs.Common.{◌-◌, ◌≤◌}
 use Rattle.report.proofs.named.Given as goal
 
 abbrev pub invariant-loop-i : goal.invariant-loop-i
