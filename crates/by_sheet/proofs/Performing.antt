@@ -2,7 +2,6 @@
 use mathlib.Core.Path.{◌≡◌, sym, ap, ◌∙◌, subst}
 use mathlib.Core.List.{List}
 use Prim.Native.Nat.{ℕ}
-use lib.ListN.{length}
 use Rattle.answer.specs.Answer.{accepted, outcome}
 use Rattle.answer.proofs.Laws.{accepts, refuses}
 use Rattle.record.specs.declared.Record.{Record}

@@ -17,14 +17,14 @@ use records::Counts;
 pub use taking::{TakenOut, take_out};
 
 // What is to be done: an act, or a fold.
-#[derive(Drop)]
+#[derive(Clone, Copy)]
 pub enum Task {
     Act(Act),
     Fold,
 }
 
 // What a call answers, the length of the sheet that it wrote, and how many records stand.
-#[derive(Drop)]
+#[derive(Clone, Copy)]
 pub struct Done {
     pub answer: u8,
     pub length: usize,

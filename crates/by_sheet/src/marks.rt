@@ -6,7 +6,7 @@ use answer::ACCEPTED;
 use record::Record;
 
 // What a call answers, and how many records stand.
-#[derive(Drop)]
+#[derive(Clone, Copy)]
 pub struct Marked {
     pub answer: u8,
     pub count: u64,

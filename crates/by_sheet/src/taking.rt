@@ -9,7 +9,7 @@ use bundle::{Halves, LONGEST_CODE};
 use record::Record;
 
 // What a call answers; and of the first record that doesn't fit its bundle, what the record left there, and what stands there.
-#[derive(Drop)]
+#[derive(Clone, Copy)]
 pub struct TakenOut {
     pub answer: u8,
     pub bundle: u64,
@@ -26,10 +26,10 @@ pub fn take_out(code: &mut [u8], sheet: &[u8]) -> TakenOut
         return with_answer(TOO_LONG);
     }
     let mut copy = [0u8; LONGEST_CODE];
-    bytes::copy(code, &mut copy);
+    copy[..length].copy_from_slice(code);
     let taken = take_out_of(&mut copy[..length], sheet);
     if taken.answer == ACCEPTED {
-        bytes::copy(&copy[..length], code);
+        code.copy_from_slice(&copy[..length]);
     }
     taken
 }
