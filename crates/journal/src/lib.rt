@@ -7,7 +7,7 @@ ghost use Rattle.std.specs.Prelude.{◌≡◌, true};
 ghost use Rattle.answer.specs.Answer.{accepted};
 ghost use Rattle.bundle.specs.Bundle.{find_answer, whole};
 ghost use Rattle.records.specs.Shared.{sharing, served_of};
-ghost use Rattle.records.specs.inner.Shows.{own_view, Shows};
+ghost use Rattle.records.specs.inner.Shows.{own_view, ShowsPart};
 ghost use Rattle.journal.specs.Change.{rewritten};
 ghost use Rattle.journal.specs.Edit.{outcome_of, by_party, edit_by, checked_by, undo_by, act_by};
 ghost use Rattle.journal.specs.inner.Acted.{acted_of, StillShows};
@@ -105,8 +105,8 @@ pub fn act_on(
     own: Own,
     act: Act,
 ) -> Acted
-    requires { Shows counts records.old party own }
-    ensures { (acted_of result records.new code.new ≡ act_by code.old (sharing counts records.old) party act) × Shows result.counts records.new party result.own }
+    requires { ShowsPart counts records.old party own }
+    ensures { (acted_of result records.new code.new ≡ act_by code.old (sharing counts records.old) party act) × ShowsPart result.counts records.new party result.own }
 {
     let plan = plan::plan_of(code, party, own, act);
     let done = carry_out(code, counts, records, party, own, plan);
@@ -140,7 +140,7 @@ fn carry_out(
     own: Own,
     plan: Plan,
 ) -> Edited
-    requires { Shows counts records.old party own × (plan.answer ≡ accepted → (own.view.valid ≡ true) × (find_answer code.old plan.bundle ≡ accepted)) }
+    requires { ShowsPart counts records.old party own × (plan.answer ≡ accepted → (own.view.valid ≡ true) × (find_answer code.old plan.bundle ≡ accepted)) }
     ensures { outcome_of result records.new code.new ≡ by_party (sharing counts records.old) party (carried_out code.old (served_of (sharing counts records.old) party) plan) }
 {
     let answer = plan.answer;

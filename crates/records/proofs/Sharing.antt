@@ -18,7 +18,7 @@ use Rattle.record.specs.Record.{no_record, fits64}
 use Rattle.record.specs.declared.Record.{Record}
 use Rattle.records.specs.Journal.{Journal, limit, lent, all, standing, journal_of, valid_of, view_if, view_of, record_at}
 use Rattle.records.specs.Shared.{Shared, seam, sharing, first_of, places_of, count_of, own_of, with_own, is_opened, fresh, shared_valid, serves, served_of, SharedFits64, OpenedIsFresh, FreshServes, SharingInjective}
-use Rattle.records.specs.inner.Shows.{with_count, own_view, Held, Shows}
+use Rattle.records.specs.inner.Shows.{with_count, own_view, Shows, ShowsPart}
 use Rattle.records.specs.declared.Counts.{Counts}
 use Rattle.records.specs.declared.Own.{Own}
 use Rattle.records.specs.declared.View.{View}
@@ -192,7 +192,7 @@ module _ (c : Counts) (rs : List Record) (party : ℕ) (o : Own) (is : o ≡ own
   pub served-valid : valid_of party (places_of c.parties party) (served_of s party) ≡ true
   served-valid = ap (valid_of party (places_of c.parties party)) (served-own s party served) ∙ own-valid s party it-serves
 
-  pub served-held : SharedFits64 s → Held c rs party
+  pub served-held : SharedFits64 s → T (all fits64 (standing (served_of s party)))
   served-held h = subst (λ (j : Journal). T (all fits64 (standing j))) (sym (served-own s party served)) (own_held c rs party it-serves h)
 
   -- lent, it is the party's journal
@@ -213,8 +213,8 @@ module _ (c : Counts) (rs : List Record) (party : ℕ) (o : Own) (is : o ≡ own
   part-put n ys long = (λ i. sharing (with_count c party n) (put_mid (part-first i) (part-places i) rs ys)) ∙ own_put c rs party it-serves n ys long
 
 -- what a call is shown of its part, said once for all calls
-pub shows : (c : Counts) (rs : List Record) (party : ℕ) (o : Own) → o ≡ own_view (sharing c rs) party → Shows c rs party o
-shows c rs party o is =
+pub shows_part : (c : Counts) (rs : List Record) (party : ℕ) (o : Own) → o ≡ own_view (sharing c rs) party → ShowsPart c rs party o
+shows_part c rs party o is =
     let s = sharing c rs in
     let n = places_of c.parties party in
     let valid = ap (λ (o : Own). o.view.valid) is in
@@ -231,6 +231,28 @@ shows c rs party o is =
             is-lent = part-journal c rs party o is served;
           };
     }
+
+-- and that its numbers are below 2^64
+pub shows : (c : Counts) (rs : List Record) (party : ℕ) (o : Own) → o ≡ own_view (sharing c rs) party → (serves (sharing c rs) party ≡ true → SharedFits64 (sharing c rs)) → Shows c rs party o
+shows c rs party o is held =
+    let of_part = shows_part c rs party o is in
+    record {
+      is = is;
+      valid-is = of_part.valid-is;
+      part = λ v.
+          let p = of_part.part v in
+          record {
+            served = p.served;
+            valid = p.valid;
+            held = served-held c rs party o is p.served (held p.served);
+            within = p.within;
+            short = p.short;
+            is-lent = p.is-lent;
+          };
+    }
+
+pub part-shown : (c : Counts) (rs : List Record) (party : ℕ) (o : Own) → Shows c rs party o → ShowsPart c rs party o
+part-shown c rs party o s = shows_part c rs party o s.is
 
 -- free places
 pub opened-is-fresh : OpenedIsFresh

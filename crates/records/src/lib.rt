@@ -6,7 +6,7 @@ ghost use Rattle.std.specs.Prelude.{◌≡◌, true, false, ◌-◌, ◌<◌, T,
 ghost use Rattle.record.specs.Record.{no_record, is_free, may_stand, fits64};
 ghost use Rattle.records.specs.Journal.{limit, lent, all, standing, valid_of, view_if};
 ghost use Rattle.records.specs.Shared.{sharing, seam, is_opened, serves, opened_for, SharedFits64};
-ghost use Rattle.records.specs.inner.Shows.{share_of, with_count, own_view, Held, Shows};
+ghost use Rattle.records.specs.inner.Shows.{share_of, with_count, own_view, Shows};
 
 use record::{NONE, Record};
 
@@ -246,7 +246,7 @@ fn nothing_shown() -> View
 
 // A party's part of the slice; it shows nothing where all of the slice isn't valid, or the party isn't one of those that share it.
 pub fn own_of(counts: Counts, records: &[Record], party: u64) -> Own
-    ensures { Shows counts records.now party result × (result.view.valid ≡ true → Held counts records.now party) }
+    ensures { Shows counts records.now party result }
 {
     if !is_served(counts, records, party) {
         let share = share_of(counts, party);

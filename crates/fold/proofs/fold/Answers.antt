@@ -62,13 +62,13 @@ module _ {c : Counts} {rs : List Record} {party : ℕ} {o : Own} (shows : Shows 
         (λ i. record { answer = accepted; journal = put i }) ∙ rw part.valid
 
 pub returns-then-not-view : goal.returns-then-not-view
-returns-then-not-view c = refused c.own_of-own.ensures.0 (not-true _ c.if-not-view.true)
+returns-then-not-view c = refused c.own_of-own.ensures (not-true _ c.if-not-view.true)
 
 pub fold_own-left-requires : goal.fold_own-left-requires
 fold_own-left-requires c =
-    let shows = c.own_of-own.ensures.0 in
+    let shows = c.own_of-own.ensures in
     let v = not-false _ c.if-not-view.false in
     (own-valid shows v, omega (arith, many shows v, (part shows v).short))
 
 pub returns : goal.returns
-returns c = taken c.own_of-own.ensures.0 (not-false _ c.if-not-view.false) _ _ _ c.with_count-counts.ensures c.fold_own-left.ensures
+returns c = taken c.own_of-own.ensures (not-false _ c.if-not-view.false) _ _ _ c.with_count-counts.ensures c.fold_own-left.ensures

@@ -11,7 +11,7 @@ use Rattle.records.specs.Shared.{Shared, sharing, serves, served_of}
 use Rattle.records.specs.inner.Shows.{own_view}
 use Rattle.records.specs.declared.Counts.{Counts}
 use Rattle.records.specs.declared.Own.{Own}
-use Rattle.records.proofs.Sharing.{shows}
+use Rattle.records.proofs.Sharing.{shows_part}
 use Rattle.journal.specs.Edit.{SharedOutcome, by_party, act_by}
 use Rattle.journal.specs.inner.Acted.{StillShows}
 use Rattle.journal.specs.inner.Plan.{plan_of, carried_out}
@@ -62,5 +62,5 @@ returns c =
     let a = c.args in
     let bytes : Bytes a.code.now = λ i. search rules in (
       done a.code.now a.counts a.records.now a.party a.own a.act bytes c.requires.is c.plan_of-plan.result c.plan_of-plan.ensures _ c.carry_out-done.ensures,
-      shows _ _ _ _ c.own_after-own.ensures,
+      shows_part _ _ _ _ c.own_after-own.ensures,
     )

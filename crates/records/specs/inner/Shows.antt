@@ -18,19 +18,29 @@ own_view s party =
 pub record Lent (c : Counts) (rs : List Record) (party : ℕ) (o : Own) : Type 0 where
   pub served : serves (sharing c rs) party ≡ true
   pub valid : valid_of party (places_of c.parties party) (served_of (sharing c rs) party) ≡ true
+  pub held : T (all fits64 (standing (served_of (sharing c rs) party)))
   pub within : o.first + o.places ≤ length rs
   pub short : o.first + o.places ≤ limit
   pub is-lent : lent o.view.count (mid_of o.first (o.first + o.places - o.first) rs) ≡ served_of (sharing c rs) party
-
--- the records that stand in it are of the code
-abbrev pub Held : Counts → List Record → ℕ → Type 0
-Held c rs party = T (all fits64 (standing (served_of (sharing c rs) party)))
 
 -- what a call is shown of its party's part
 pub record Shows (c : Counts) (rs : List Record) (party : ℕ) (o : Own) : Type 0 where
   pub is : o ≡ own_view (sharing c rs) party
   pub valid-is : o.view.valid ≡ valid_of party (places_of c.parties party) (served_of (sharing c rs) party)
   pub part : o.view.valid ≡ true → Lent c rs party o
+
+-- both without what is said of the numbers that stand there
+pub record PartLent (c : Counts) (rs : List Record) (party : ℕ) (o : Own) : Type 0 where
+  pub served : serves (sharing c rs) party ≡ true
+  pub valid : valid_of party (places_of c.parties party) (served_of (sharing c rs) party) ≡ true
+  pub within : o.first + o.places ≤ length rs
+  pub short : o.first + o.places ≤ limit
+  pub is-lent : lent o.view.count (mid_of o.first (o.first + o.places - o.first) rs) ≡ served_of (sharing c rs) party
+
+pub record ShowsPart (c : Counts) (rs : List Record) (party : ℕ) (o : Own) : Type 0 where
+  pub is : o ≡ own_view (sharing c rs) party
+  pub valid-is : o.view.valid ≡ valid_of party (places_of c.parties party) (served_of (sharing c rs) party)
+  pub part : o.view.valid ≡ true → PartLent c rs party o
 
 -- where a party's part begins, how many places it has, and how many of its records stand
 abbrev pub share_of : Counts → ℕ → Share

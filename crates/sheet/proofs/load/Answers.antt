@@ -59,10 +59,10 @@ module _ {c : Counts} {rs : List Record} {party : ℕ} {o : Own} (shows : Shows 
         (λ i. record { answer = yes i; journal = journal-is i }) ∙ rw taken.is
 
 pub slice_bounds-fill-end : goal.slice_bounds-fill-end
-slice_bounds-fill-end c = (part c.own_of-own.ensures.0 c.look-found.ensures c.if-answer-ne-ACCEPTED.false).within
+slice_bounds-fill-end c = (part c.own_of-own.ensures c.look-found.ensures c.if-answer-ne-ACCEPTED.false).within
 
 pub returns-then-answer-ne-ACCEPTED : goal.returns-then-answer-ne-ACCEPTED
-returns-then-answer-ne-ACCEPTED c = refused c.own_of-own.ensures.0 c.look-found.ensures c.if-answer-ne-ACCEPTED.true
+returns-then-answer-ne-ACCEPTED c = refused c.own_of-own.ensures c.look-found.ensures c.if-answer-ne-ACCEPTED.true
 
 pub returns : goal.returns
-returns c = filled c.own_of-own.ensures.0 c.look-found.ensures c.if-answer-ne-ACCEPTED.false _ _ c.with_count-counts.ensures c.fill.ensures
+returns c = filled c.own_of-own.ensures c.look-found.ensures c.if-answer-ne-ACCEPTED.false _ _ c.with_count-counts.ensures c.fill.ensures

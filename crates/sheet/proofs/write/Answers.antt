@@ -8,7 +8,7 @@ use lib.ListN.{length}
 use Rattle.record.specs.declared.Record.{Record}
 use Rattle.records.specs.Journal.{Journal, standing}
 use Rattle.records.specs.Shared.{sharing, places_of, served_of}
-use Rattle.records.specs.inner.Shows.{Lent, Held}
+use Rattle.records.specs.inner.Shows.{Lent}
 use Rattle.records.specs.declared.Counts.{Counts}
 use Rattle.records.specs.declared.Own.{Own}
 use Rattle.records.proofs.Sharing.{places-within}
@@ -19,22 +19,22 @@ use Rattle.sheet.proofs.Writing.{wrote-valid, wrote-invalid}
 use Rattle.sheet.proofs.write.Goals as goal
 
 pub returns-then-not-view : goal.returns-then-not-view
-returns-then-not-view c = wrote-invalid c.own_of-own.ensures.0 _ sheet_of (not-true _ c.if-not-view.true)
+returns-then-not-view c = wrote-invalid c.own_of-own.ensures _ sheet_of (not-true _ c.if-not-view.true)
 
 -- the party's journal has places for its records, and its sheet isn't too long
-fits : {c : Counts} {rs : List Record} {party : ℕ} {o : Own} → Lent c rs party o → Held c rs party → (j : Journal) → j ≡ served_of (sharing c rs) party → (j.count ≤ length j.records) × (length (sheet_of j) ≤ capacity)
-fits {c} {rs} {party} s held j e =
+fits : {c : Counts} {rs : List Record} {party : ℕ} {o : Own} → Lent c rs party o → (j : Journal) → j ≡ served_of (sharing c rs) party → (j.count ≤ length j.records) × (length (sheet_of j) ≤ capacity)
+fits {c} {rs} {party} s j e =
     let places = places_of c.parties party in
     rw e (
       omega (arith, valid-counts party places _ s.valid, valid-few party places _ s.valid, valid-places party places _ s.valid),
-      sheet-most party places _ (places-within c.parties party) (record { valid = s.valid; held = held; told = all_told (standing _) }),
+      sheet-most party places _ (places-within c.parties party) (record { valid = s.valid; held = s.held; told = all_told (standing _) }),
     )
 
 pub write_own-requires : goal.write_own-requires
 write_own-requires c =
     let v = not-false _ c.if-not-view.false in
-    let s = c.own_of-own.ensures.0.part v in
-    fits s (c.own_of-own.ensures.1 v) _ s.is-lent
+    let s = c.own_of-own.ensures.part v in
+    fits s _ s.is-lent
 
 pub returns : goal.returns
-returns c = c.write_own.ensures ∙ wrote-valid c.own_of-own.ensures.0 _ sheet_of (not-false _ c.if-not-view.false)
+returns c = c.write_own.ensures ∙ wrote-valid c.own_of-own.ensures _ sheet_of (not-false _ c.if-not-view.false)
