@@ -1,3 +1,4 @@
+pub mod Between
 pub mod Lines
 pub mod Turns
 pub mod Unique

@@ -1,20 +1,37 @@
 -- The lines of a text: the first ends with the first newline, or with the text. Assumes nothing.
-use Rattle.std.proofs.Common.{◌≡◌, ℕ, zero, suc, ◌+◌, ◌-◌, ◌<◌, ◌≤◌, Bool, true, false, cond, eqb, List, [], ◌∷◌, length, take, drop, refl, ap, ◌∙◌, arith, length-append, length-drop, length-take, drop-drop}
-use Rattle.bytes.specs.Bytes.{index_of, index_after}
+use Rattle.std.proofs.Common.{◌≡◌, ℕ, zero, suc, ◌+◌, ◌-◌, ◌<◌, ◌≤◌, Bool, true, false, cond, eqb, List, [], ◌∷◌, length, get_or, take, drop, refl, ap, ◌∙◌, arith, length-append, length-drop, length-take, drop-drop}
 use Rattle.text.specs.Ascii.{newline, starts_with}
 use Rattle.text.proofs.RoundTrip.{starts_is}
 use Rattle.script.specs.Line.{in_first, lines_of}
-use Rattle.script.specs.inner.Going.{line_at}
+use Rattle.script.specs.inner.Going.{index_of, line_at}
+
+-- where a byte was found, and where it wasn't
+pub index-found : (b : ℕ) (t : List ℕ) (k : ℕ) → k < length t → eqb (get_or t k 0) b ≡ true → ((i : ℕ) → 0 ≤ i → i < k → eqb (get_or t i 0) b ≡ true → ⊥) → index_of b t ≡ k
+index-found b [] k h e n = absurd (omega arith)
+index-found b (c ∷ t) zero h e n = ap (λ (x : Bool). cond x 0 (suc (index_of b t))) e
+index-found b (c ∷ t) (suc k) h e n =
+    (elim (eqb c b) as (λ x. eqb c b ≡ x → cond x 0 (suc (index_of b t)) ≡ suc k) [
+      | true ↦ λ q. absurd (n 0 (omega arith) (omega arith) q)
+      | false ↦ λ q. ap suc (index-found b t k (omega arith) e (λ i l m. n (suc i) (omega arith) (omega arith)))
+    ]) refl
+
+pub index-none : (b : ℕ) (t : List ℕ) → ((i : ℕ) → 0 ≤ i → i < length t → eqb (get_or t i 0) b ≡ true → ⊥) → index_of b t ≡ length t
+index-none b [] n = refl
+index-none b (c ∷ t) n =
+    (elim (eqb c b) as (λ x. eqb c b ≡ x → cond x 0 (suc (index_of b t)) ≡ suc (length t)) [
+      | true ↦ λ q. absurd (n 0 (omega arith) (omega arith) q)
+      | false ↦ λ q. ap suc (index-none b t (λ i l m. n (suc i) (omega arith) (omega arith)))
+    ]) refl
 
 -- the first line, and the others
 first-line : (c : ℕ) (t : List ℕ) → let k = suc (index_of newline (c ∷ t)) in lines_of (c ∷ t) ≡ take k (c ∷ t) ∷ lines_of (drop k (c ∷ t))
-unfolding lines_of index_of index_after
+unfolding lines_of
 first-line c [] =
-    elim (eqb c newline) as (λ b. let k = suc (index_after b zero) in cond b ((c ∷ []) ∷ []) ((c ∷ []) ∷ []) ≡ take k (c ∷ []) ∷ lines_of (drop k (c ∷ []))) [ true ↦ refl | false ↦ refl ]
+    elim (eqb c newline) as (λ b. let k = suc (cond b 0 (suc zero)) in cond b ((c ∷ []) ∷ []) ((c ∷ []) ∷ []) ≡ take k (c ∷ []) ∷ lines_of (drop k (c ∷ []))) [ true ↦ refl | false ↦ refl ]
 first-line c (d ∷ u) = go (eqb c newline) (first-line d u)
   where
     go : (b : Bool) → let n = suc (index_of newline (d ∷ u)) in lines_of (d ∷ u) ≡ take n (d ∷ u) ∷ lines_of (drop n (d ∷ u)) →
-        let k = suc (index_after b (index_of newline (d ∷ u))) in cond b ((c ∷ []) ∷ lines_of (d ∷ u)) (in_first c (lines_of (d ∷ u))) ≡ take k (c ∷ d ∷ u) ∷ lines_of (drop k (c ∷ d ∷ u))
+        let k = suc (cond b 0 (suc (index_of newline (d ∷ u)))) in cond b ((c ∷ []) ∷ lines_of (d ∷ u)) (in_first c (lines_of (d ∷ u))) ≡ take k (c ∷ d ∷ u) ∷ lines_of (drop k (c ∷ d ∷ u))
     go true e = refl
     go false e = ap (in_first c) e
 

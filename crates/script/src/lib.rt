@@ -23,7 +23,7 @@ const LONGEST_LINE: usize = 29;
 
 // What a part of a script leaves: the counts, the number expected, whether it stopped, how many bytes of the text are done, and how many are
 // written.
-#[derive(Drop)]
+#[derive(Clone, Copy)]
 pub struct Ran {
     pub counts: Counts,
     pub next: u64,
@@ -33,7 +33,7 @@ pub struct Ran {
 }
 
 // The same between two lines, and what the party's journal shows.
-#[derive(Drop)]
+#[derive(Clone, Copy)]
 struct State {
     counts: Counts,
     own: Own,

@@ -13,14 +13,14 @@ use operand::Operand;
 use text::{NEWLINE, Number, TAB};
 
 // What a line asks for, or that it stops the script.
-#[derive(Drop)]
+#[derive(Clone, Copy)]
 pub enum Asked {
     Does(Act),
     Nothing,
 }
 
 // What the line at a place of a text asks, and the place after it.
-#[derive(Drop)]
+#[derive(Clone, Copy)]
 pub struct Turn {
     pub asked: Asked,
     pub end: usize,
@@ -40,8 +40,10 @@ fn end_of(text: &[u8], at: usize) -> usize
     requires { at < length text.now }
     ensures { result ≡ at + length (line_at text.now at) }
 {
-    let last = bytes::scan::find(text, at, text.len(), NEWLINE);
-    if last < text.len() { last + 1 } else { last }
+    match memchr::memchr(NEWLINE, &text[at..]) {
+        Some(last) => at + last + 1,
+        None => text.len(),
+    }
 }
 
 // What a line asks while that number is expected.

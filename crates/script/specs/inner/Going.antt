@@ -1,6 +1,5 @@
 -- How a script is gone through: what is kept from line to line beside the slices, and where a line of the text is. Assumes nothing.
-use Rattle.std.specs.Prelude.{◌≡◌, ℕ, suc, ◌+◌, ◌%◌, ◌^◌, ◌≤◌, true, false, List, length, take, drop}
-use Rattle.bytes.specs.Bytes.{index_of}
+use Rattle.std.specs.Prelude.{◌≡◌, ℕ, suc, ◌+◌, ◌%◌, ◌^◌, ◌≤◌, true, false, cond, List, [], ◌∷◌, length, take, drop, ◌==◌}
 use Rattle.record.specs.declared.Record.{Record}
 use Rattle.records.specs.Shared.{sharing}
 use Rattle.records.specs.inner.Shows.{Shows}
@@ -8,6 +7,11 @@ use Rattle.journal.specs.declared.Acted.{Acted}
 use Rattle.text.specs.Ascii.{newline}
 use Rattle.script.specs.Script.{SoFar}
 use Rattle.script.specs.declared.State.{State}
+
+-- where a byte first stands in a text, and the text's length where it doesn't
+abbrev pub index_of : ℕ → List ℕ → ℕ
+index_of b [] = 0
+index_of b (c ∷ text) = cond (c == b) 0 (suc (index_of b text))
 
 -- the line of a text at a place
 abbrev pub line_at : List ℕ → ℕ → List ℕ

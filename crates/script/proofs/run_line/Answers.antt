@@ -1,0 +1,20 @@
+-- The line stops the script, or its act is done. Assumes nothing.
+use Rattle.std.proofs.Common.{◌^◌, ◌<◌, length, sym, ◌∙◌, rules}
+use Rattle.script.proofs.Turns.{stopped-right, gone-right}
+use Rattle.script.proofs.run_line.Goals as goal
+
+pub returns-in_default : goal.returns-in_default
+returns-in_default c =
+    let a = c.args in
+    let next-fits : a.state.next < 2 ^ 64 = search rules in
+    let short : length a.out.now < 2 ^ 64 = search rules in
+    stopped-right a.party a.state a.records.now a.code.now a.out.now _ c.requires.0 c.requires.1 c.requires.3 next-fits short _ _
+    (sym c.turn_at-turn.ensures.0 ∙ c.in_default.is) c.stop.ensures.0 c.stop.ensures.1
+
+pub returns : goal.returns
+returns c =
+    let a = c.args in
+    let next-fits : a.state.next < 2 ^ 64 = search rules in
+    let short : length a.out.now < 2 ^ 64 = search rules in
+    gone-right a.party a.state a.records.now a.code.now a.out.now _ c.requires.0 c.requires.1 c.requires.3 next-fits short _ _ _ _ _ _ _
+    (sym c.turn_at-turn.ensures.0 ∙ c.in-Does.is) c.act_on-acted.ensures.0 c.act_on-acted.ensures.1 c.turn_at-turn.ensures.1 c.go_on.ensures.0 c.go_on.ensures.1
