@@ -11,7 +11,7 @@ use native.Mathlib.Omega.{arith}
 use borrow.Author.Tests.{le-ltb, eq-eqb, ne_eqb, not-false}
 use lib.Dec.{T, ltb}
 use lib.ListN.{length, length-append}
-use Rattle.answer.specs.Answer.{Refusal, accepted, full, first}
+use Rattle.answer.specs.Answer.{Refusal, accepted, full}
 use Rattle.answer.proofs.Laws.{first_on}
 use Rattle.bits.specs.Parts.{Parts, scatter, meet_not}
 use Rattle.bundle.specs.Bundle.{number_at, tag_of, find_refusals, find_answer}

@@ -1,7 +1,7 @@
 -- New edits of retired forms end: each has a row, by a computed test of the nine, so 3 is no answer, and the list of refusals ends at 15.
 -- Records of them stay: a record's test asks nothing else than before. Assumes nothing.
 use mathlib.Core.Path.{◌≡◌, ◌∙◌}
-use mathlib.Core.Bool.{Bool, true, false, not}
+use mathlib.Core.Bool.{true, false, not}
 use mathlib.Core.List.{List, [], ◌∷◌, ◌++◌}
 use Prim.Native.Nat.{ℕ}
 use native.Mathlib.Omega.{arith}
