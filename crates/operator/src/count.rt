@@ -87,8 +87,9 @@ fn with_extents(
     extents: &[u64],
 ) -> Counted {
     let mut all = counted;
+    let count = guest.count;
     let mut i = 0;
-    while i < guest.count {
+    while i < count {
         let extent = guest::extent_at(extents, i);
         all = with_bytes(rt, name, all, &guest.file, extent.offset, extent.size);
         i += 1;

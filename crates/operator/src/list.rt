@@ -91,8 +91,9 @@ fn list_all(
         left,
         status: DONE,
     };
+    let count = guest.count;
     let mut i = first;
-    while i < guest.count {
+    while i < count {
         at = list_extent(rt, name, extents, guest, guest::extent_at(extents, i), at);
         i += 1;
     }
