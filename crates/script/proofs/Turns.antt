@@ -7,7 +7,7 @@ use Rattle.records.specs.Journal.{Journal, limit, view_of, valid_of, view_if, re
 use Rattle.records.specs.Shared.{Shared, sharing, places_of, served_of}
 use Rattle.records.specs.declared.Own.{Own}
 use Rattle.records.specs.declared.View.{View}
-use Rattle.records.specs.inner.Shows.{Shows}
+use Rattle.records.specs.inner.Shows.{ShowsPart}
 use Rattle.records.proofs.Sharing.{places-within}
 use Rattle.records.proofs.Standing.{view-shown, view-counts, valid-counts, valid-few}
 use Rattle.journal.specs.Edit.{SharedOutcome, act_by}
@@ -88,7 +88,7 @@ module _ (party : ℕ) (t : State) (records : List Record) (code out : List ℕ)
   abbrev s : SoFar
   s = so_far t records code out
 
-  shown-count : {c : _} {rs : List Record} {o : Own} → Shows c rs party o → o.view.count ≡ standing_of (sharing c rs) party
+  shown-count : {c : _} {rs : List Record} {o : Own} → ShowsPart c rs party o → o.view.count ≡ standing_of (sharing c rs) party
   shown-count h = ap (λ (o : Own). o.view.count) h.is
 
   -- it stops the script
@@ -101,7 +101,7 @@ module _ (party : ℕ) (t : State) (records : List Record) (code out : List ℕ)
       omega (arith, answer-length t.next bad_script t.own.view.count next_fits (omega arith) few) in
       let ends = put-end p fits short in
       let written = put_front p fits short ∙ ap (λ (n : ℕ). take t.length out ++ answer_line t.next bad_script n) (shown-count k.shows) in (
-        record { shows = subst (λ (u : State). Shows u.counts records party u.own) (sym is) k.shows; within = omega (arith, put-length p) },
+        record { shows = subst (λ (u : State). ShowsPart u.counts records party u.own) (sym is) k.shows; within = omega (arith, put-length p) },
         record { more = omega arith; rest = put_rest p fits short },
         (λ i. so_far (is i) records code out')
             ∙ (λ i. record { journal = s.journal; code = code; next = t.next; stopped = true; done = t.done; written = written i })
@@ -110,7 +110,7 @@ module _ (party : ℕ) (t : State) (records : List Record) (code out : List ℕ)
 
   -- or it is done
   pub gone-right : (act : Act) (a : Acted) (records' : List Record) (code' : List ℕ) (r : State) (end : ℕ) (out' : List ℕ)
-      → asked_in t.next l ≡ Does act → acted_of a records' code' ≡ act_by code (sharing t.counts records) party act → Shows a.counts records' party a.own
+      → asked_in t.next l ≡ Does act → acted_of a records' code' ≡ act_by code (sharing t.counts records) party act → ShowsPart a.counts records' party a.own
       → end ≡ t.done + length l → r ≡ gone_with t a end r.length
       → Put out t.length (answer_line t.next a.answer a.own.view.count) out' r.length
       → Keeps party r records' out' × Goes t r out out' × (so_far r records' code' out' ≡ line_by party s l)
@@ -122,7 +122,7 @@ module _ (party : ℕ) (t : State) (records : List Record) (code out : List ℕ)
       omega (arith, answer-length t.next a.answer a.own.view.count next_fits small few) in
       let end_is = put-end p fits short in
       let written = put_front p fits short ∙ ap (λ (n : ℕ). take t.length out ++ answer_line t.next a.answer n) (shown-count shows) in (
-        record { shows = subst (λ (u : State). Shows u.counts records' party u.own) (sym is) shows; within = omega (arith, put-length p) },
+        record { shows = subst (λ (u : State). ShowsPart u.counts records' party u.own) (sym is) shows; within = omega (arith, put-length p) },
         record { more = omega arith; rest = put_rest p fits short },
         (λ i. so_far (is i) records' code' out')
             ∙ (λ i. record { journal = sharing a.counts records'; code = code'; next = (t.next + 1) % 2 ^ 64; stopped = false; done = ends i; written = written i })

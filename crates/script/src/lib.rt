@@ -5,7 +5,7 @@ mod line;
 
 ghost use Rattle.std.specs.Prelude.{◌≡◌, ◌+◌, ◌<◌, ◌≤◌, Bool, false, not, ◌&&◌, length, nat_le, nat_lt};
 ghost use Rattle.records.specs.Shared.{sharing};
-ghost use Rattle.records.specs.inner.Shows.{Shows};
+ghost use Rattle.records.specs.inner.Shows.{ShowsPart};
 ghost use Rattle.text.specs.Put.{Put};
 ghost use Rattle.script.specs.Script.{answer_line, bad_script, longest_line, line_by, ran_of, script_by};
 ghost use Rattle.script.specs.inner.Going.{line_at, so_far, stopped_with, gone_with, Keeps, Goes};

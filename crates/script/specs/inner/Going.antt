@@ -2,7 +2,7 @@
 use Rattle.std.specs.Prelude.{◌≡◌, ℕ, suc, ◌+◌, ◌%◌, ◌^◌, ◌≤◌, true, false, cond, List, [], ◌∷◌, length, take, drop, ◌==◌}
 use Rattle.record.specs.declared.Record.{Record}
 use Rattle.records.specs.Shared.{sharing}
-use Rattle.records.specs.inner.Shows.{Shows}
+use Rattle.records.specs.inner.Shows.{ShowsPart}
 use Rattle.journal.specs.declared.Acted.{Acted}
 use Rattle.text.specs.Ascii.{newline}
 use Rattle.script.specs.Script.{SoFar}
@@ -31,7 +31,7 @@ gone_with t a end length = record { counts = a.counts; own = a.own; next = (t.ne
 
 -- what is kept shows the party's journal, and what is written lies in the output
 pub record Keeps (party : ℕ) (t : State) (records : List Record) (out : List ℕ) : Type 0 where
-  pub shows : Shows t.counts records party t.own
+  pub shows : ShowsPart t.counts records party t.own
   pub within : t.length ≤ length out
 
 -- after a line more: past what is written the output is as it was
