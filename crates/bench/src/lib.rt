@@ -2,6 +2,6 @@
 // to the other side's.
 #![tactic(auto)]
 
-mod reading;
+mod asking;
 mod sum;
 mod writing;

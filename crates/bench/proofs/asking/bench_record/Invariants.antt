@@ -1,6 +1,6 @@
 -- The bundles are counted up to the code's last. Assumes nothing.
 use Rattle.std.proofs.Common.{◌-◌, ◌≤◌}
-use Rattle.bench.proofs.reading.bench_cut.Given as goal
+use Rattle.bench.proofs.asking.bench_record.Given as goal
 
 abbrev pub invariant-loop-n : goal.invariant-loop-n
 invariant-loop-n l = l.n ≤ l.count

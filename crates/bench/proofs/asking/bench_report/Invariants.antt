@@ -1,6 +1,6 @@
 -- The turns are counted down. Assumes nothing.
 use Rattle.std.proofs.Common.{◌≤◌}
-use Rattle.bench.proofs.reading.bench_report.Given as goal
+use Rattle.bench.proofs.asking.bench_report.Given as goal
 
 abbrev pub invariant-loop-left : goal.invariant-loop-left
 invariant-loop-left l = l.left ≤ l.times

@@ -1,6 +1,6 @@
 -- The words are counted up to the last, and the opcodes' slice keeps its length. Assumes nothing.
 use Rattle.std.proofs.Common.{length, ◌-◌, ◌≡◌, ◌≤◌}
-use Rattle.bench.proofs.reading.bench_choose.Given as goal
+use Rattle.bench.proofs.asking.bench_choose.Given as goal
 
 abbrev pub invariant-loop-i : goal.invariant-loop-i
 invariant-loop-i l = (length l.opcodes ≡ length l.initial.opcodes) × (l.i ≤ length l.words)

@@ -1,6 +1,6 @@
 -- The words are counted up to the last. Assumes nothing.
 use Rattle.std.proofs.Common.{length, ◌-◌, ◌≤◌}
-use Rattle.bench.proofs.reading.bench_operands.Given as goal
+use Rattle.bench.proofs.asking.bench_operands.Given as goal
 
 abbrev pub invariant-loop-i : goal.invariant-loop-i
 invariant-loop-i l = l.i ≤ length l.words
