@@ -37,7 +37,6 @@ def quick(folder, *words, before=(), **more):
     told, tells = os.pipe()
     os.dup2(tells, STATUS)
     os.close(tells)
-    os.fchmod(STATUS, 0o666)  # the program opens it by name, and may be another user's
     done = subprocess.run([*before, *built(), "--status", str(STATUS), *map(str, words)], cwd=folder, stdin=subprocess.DEVNULL, capture_output=True,
                           check=False, pass_fds=(STATUS,), **more)
     os.close(STATUS)

@@ -1,7 +1,7 @@
 // What a program does with its arguments, its input and output, and its exit status.
 //
-// A program has no exit status of its own: it writes it to a descriptor that its first two arguments name, as `--status 3`, and whoever
-// started it (`./run`) ends with that.
+// A program writes its status to a descriptor that its first two arguments name, as `--status 3`, and whoever started it (`./run`) ends with
+// that. The program itself ends with the status only where it can't be written there.
 #![tactic(auto)]
 
 ghost use Rattle.std.specs.Prelude.{◌≡◌};
@@ -15,6 +15,7 @@ pub use start::Started;
 use std::env::FillError;
 use std::fs::OpenOptions;
 use std::io;
+use std::process::ExitCode;
 use std::rt::{Env, Files};
 pub use stderr::EprintBytes;
 pub use transfer::{Bytes, read, read_all, write_all};
@@ -39,10 +40,14 @@ pub fn started(rt: &impl Env) -> Started {
     start::started_by(&word[..length], &number[..digits])
 }
 
-// Ends with the status, where there is a descriptor for it.
-pub fn end(rt: &impl Files, started: Started, status: u64) {
-    if let Some(path) = start::path(started.status) {
-        let _ = put_status(rt, path, status);
+// Writes the status, where there is a descriptor for it, and answers what the program ends with.
+pub fn end(rt: &impl Files, started: Started, status: u64) -> ExitCode {
+    let Some(path) = start::path(started.status) else {
+        return ExitCode::SUCCESS;
+    };
+    match put_status(rt, path, status) {
+        Ok(()) => ExitCode::SUCCESS,
+        Err(_) => ExitCode::from((status % 256) as u8),
     }
 }
 

@@ -2,10 +2,11 @@
 #![tactic(auto)]
 
 use console::Started;
+use std::process::ExitCode;
 
-fn main(rt: HostRuntime) {
+fn main(rt: HostRuntime) -> ExitCode {
     let started = console::started(&rt);
-    console::end(&rt, started, run(&rt, started));
+    console::end(&rt, started, run(&rt, started))
 }
 
 fn run(rt: &HostRuntime, started: Started) -> u64 {

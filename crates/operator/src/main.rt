@@ -26,17 +26,18 @@ use guest::NUMBERS;
 use std::fs::File;
 use std::io;
 use std::os::fd::{AsRawFd, IntoRawFd};
+use std::process::ExitCode;
 
 // Standard error's descriptor, the last of the standard ones.
 const STDERR_FILENO: i32 = 2;
 
-fn main(rt: HostRuntime) {
+fn main(rt: HostRuntime) -> ExitCode {
     guard(&rt);
     let started = console::started(&rt);
     let mut asked = [0u64; asked::NUMBERS];
     asked::read(&rt, &mut asked, started.first);
     let status = status_of(&rt, &asked);
-    console::end(&rt, started, status);
+    console::end(&rt, started, status)
 }
 
 // In the place of a standard descriptor that is closed stands one that can't be written, so that no file of ours gets its number.

@@ -4,13 +4,14 @@
 use console::Started;
 use form::{B, Edit, Form};
 use operand::Operand;
+use std::process::ExitCode;
 
 // Room for the head of a sheet and a record: no line is longer than 116 bytes.
 const ROOM: usize = 2 * 116;
 
-fn main(rt: HostRuntime) {
+fn main(rt: HostRuntime) -> ExitCode {
     let started = console::started(&rt);
-    console::end(&rt, started, run(&rt, started));
+    console::end(&rt, started, run(&rt, started))
 }
 
 fn run(rt: &HostRuntime, started: Started) -> u64 {

@@ -9,6 +9,7 @@ mod kept;
 mod session;
 
 use record::{NONE, Record};
+use std::process::ExitCode;
 
 // Room for the longest line or answer, and more.
 fn room() -> [u8; 524288]
@@ -29,17 +30,16 @@ fn places() -> [Record; kept::MOST_PLACES]
     [NONE; kept::MOST_PLACES]
 }
 
-fn main(rt: HostRuntime) {
+fn main(rt: HostRuntime) -> ExitCode {
     let started = console::started(&rt);
     if console::has_arguments(&rt, started) {
-        console::end(
+        return console::end(
             &rt,
             started,
             console::misused(&rt, b"usage: probe <LINES\n"),
         );
-        return;
     }
-    console::end(&rt, started, run(&rt));
+    console::end(&rt, started, run(&rt))
 }
 
 // Answers standard input, and tells the exit status.

@@ -7,6 +7,7 @@ mod said;
 
 use console::{DONE, Started};
 use hex_text::Ending;
+use std::process::ExitCode;
 use tally::NUMBERS;
 
 // What images come to: the report of those that aren't left out, and the exit status.
@@ -16,9 +17,9 @@ struct Sum {
     status: u64,
 }
 
-fn main(rt: HostRuntime) {
+fn main(rt: HostRuntime) -> ExitCode {
     let started = console::started(&rt);
-    console::end(&rt, started, write(&rt, sum_of(&rt, started)));
+    console::end(&rt, started, write(&rt, sum_of(&rt, started)))
 }
 
 fn sum_of(rt: &HostRuntime, started: Started) -> Sum {
