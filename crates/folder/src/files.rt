@@ -6,7 +6,7 @@ use std::io;
 use std::io::ErrorKind;
 
 // How many bytes were read; that there is no such file; or that it can't be read, which was said.
-#[derive(Drop)]
+#[derive(Clone, Copy)]
 pub enum Text {
     Bytes(usize),
     Missing,

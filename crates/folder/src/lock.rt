@@ -23,7 +23,7 @@ const TRIES: u64 = 1000;
 const UNSAID: u64 = 500;
 
 // Whose a lock is: nobody's, that of a process that is gone, or another's; or it says nothing yet.
-#[derive(Drop)]
+#[derive(Clone, Copy)]
 pub enum Owner {
     Nobody,
     Gone,

@@ -14,7 +14,7 @@ pub enum Headers {
 }
 
 // How many extents were found, and whether all is well so far; where it isn't, that was said.
-#[derive(Drop)]
+#[derive(Clone, Copy)]
 pub struct Extents {
     pub ok: bool,
     pub count: usize,

@@ -17,19 +17,19 @@ const UNSIGNED: u64 = 7;
 const HALF: u64 = 1 << 63;
 
 // A name's place and the number after it, of a signed one its 64-bit pattern.
-#[derive(Drop)]
+#[derive(Clone, Copy)]
 pub struct Text {
     pub place: u64,
     pub number: u64,
 }
 
-#[derive(Drop)]
+#[derive(Clone, Copy)]
 pub enum Parsed {
     Of(Operand),
     Bad,
 }
 
-#[derive(Drop)]
+#[derive(Clone, Copy)]
 pub enum Whole {
     Of(u64),
     Bad,

@@ -1,5 +1,5 @@
 // Bytes as text: two lower-case hexadecimal digits each, and `-` where there are none.
-#[derive(Drop)]
+#[derive(Clone, Copy)]
 pub enum Spelt {
     Of(u64),
     Bad,

@@ -20,7 +20,7 @@ pub struct Aim {
 }
 
 // What is aimed at, or why nothing is, which was said: a status that isn't 0.
-#[derive(Drop)]
+#[derive(Clone, Copy)]
 pub enum Aimed {
     At(Aim),
     Not(u64),

@@ -9,7 +9,7 @@ use operand::Operand;
 use words::Given;
 
 // How long the window's new sheet is and how many records stand, or why not, which was said: a status that isn't 0.
-#[derive(Drop)]
+#[derive(Clone, Copy)]
 pub enum Called {
     Done(usize, u64),
     Not(u64),

@@ -12,7 +12,7 @@ use std::fs::File;
 use tally::NUMBERS;
 
 // The report so far, and the last status of a file that isn't 0.
-#[derive(Drop)]
+#[derive(Clone, Copy)]
 pub struct Counted {
     pub report: [u64; NUMBERS],
     pub status: u64,

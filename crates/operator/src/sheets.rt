@@ -10,7 +10,7 @@ use message::said;
 pub const EMPTY: [u8; 10] = *b"patches\t0\n";
 
 // How long the sheet is that was read, or why it wasn't, which was said: a status that isn't 0.
-#[derive(Drop)]
+#[derive(Clone, Copy)]
 pub enum Sheet {
     Bytes(usize),
     Not(u64),

@@ -16,7 +16,7 @@ pub const ELF: u64 = 0;
 pub const RAW: u64 = 1;
 
 // How a file is read, or why it isn't, which was said: a status that isn't 0.
-#[derive(Drop)]
+#[derive(Clone, Copy)]
 pub enum Way {
     Is(Reading),
     Not(u64),

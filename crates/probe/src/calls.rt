@@ -23,7 +23,7 @@ pub enum Call {
 }
 
 // What a call gave.
-#[derive(Drop)]
+#[derive(Clone, Copy)]
 pub enum Given {
     Nothing,
     Journal(Counts, u64),

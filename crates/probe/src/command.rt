@@ -32,7 +32,7 @@ use lines::{fields, out, part};
 pub use recorded::show_place;
 
 // A line that was read: its command, the numbers after it, and where they end.
-#[derive(Drop)]
+#[derive(Clone, Copy)]
 struct Line {
     command: u64,
     of: Six,

@@ -11,7 +11,7 @@ use std::process::ExitCode;
 use tally::NUMBERS;
 
 // What images come to: the report of those that aren't left out, and the exit status.
-#[derive(Drop)]
+#[derive(Clone, Copy)]
 struct Sum {
     report: [u64; NUMBERS],
     status: u64,

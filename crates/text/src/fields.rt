@@ -11,7 +11,7 @@ pub const TAB: u8 = b'\t';
 pub const NEWLINE: u8 = b'\n';
 
 // Whether fields were read; the place after them, the numbers, and zeros after those.
-#[derive(Drop)]
+#[derive(Clone, Copy)]
 pub struct Fields {
     pub read: bool,
     pub next: usize,

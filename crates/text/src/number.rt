@@ -7,7 +7,7 @@ ghost use Rattle.text.specs.Number.{number_of};
 const TENTH: u64 = u64::MAX / 10;
 
 // A number and the place after it, or that there is none.
-#[derive(Drop)]
+#[derive(Clone, Copy)]
 pub enum Number {
     Read(u64, usize),
     Refused,

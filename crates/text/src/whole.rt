@@ -6,7 +6,7 @@ use crate::put::put_text;
 use answer::{ACCEPTED, NO_ROOM};
 
 // What such a call answers: the length of the text, and 0 where it is refused.
-#[derive(Drop)]
+#[derive(Clone, Copy)]
 pub struct Written {
     pub answer: u8,
     pub length: usize,
