@@ -1,5 +1,5 @@
 -- The places are counted down, and the slice keeps its length. Assumes nothing.
-use Rattle.std.proofs.Common.{◌≡◌, ℕ, ◌+◌, ◌-◌, ◌*◌, ◌<◌, ◌≤◌, length}
+use Rattle.std.proofs.Common.{◌≡◌, ◌≤◌, length}
 use Rattle.probe.proofs.calls.clear.Given as goal
 
 abbrev pub invariant-loop-left : goal.invariant-loop-left

@@ -1,5 +1,5 @@
 -- As many places as there are, and the output keeps its length. Assumes nothing.
-use Rattle.std.proofs.Common.{length, ◌-◌, ◌≡◌, ℕ, ◌+◌, ◌*◌, ◌<◌, ◌≤◌}
+use Rattle.std.proofs.Common.{length, ◌-◌, ◌≡◌, ◌≤◌}
 use Rattle.probe.proofs.calls.show.Given as goal
 
 abbrev pub invariant-loop-place : goal.invariant-loop-place

@@ -1,5 +1,5 @@
 -- As many numbers as a report has. Assumes nothing.
-use Rattle.std.proofs.Common.{◌-◌, ◌≤◌, ◌≡◌, ℕ, ◌+◌, ◌*◌, ◌<◌, length}
+use Rattle.std.proofs.Common.{◌-◌, ◌≤◌}
 use Rattle.probe.proofs.kept.report.Given as goal
 
 abbrev pub invariant-loop-i : goal.invariant-loop-i

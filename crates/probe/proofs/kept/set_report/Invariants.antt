@@ -1,5 +1,5 @@
 -- As many numbers as a report has, and the slice keeps its length. Assumes nothing.
-use Rattle.std.proofs.Common.{◌-◌, ◌≤◌, ◌≡◌, ℕ, ◌+◌, ◌*◌, ◌<◌, length}
+use Rattle.std.proofs.Common.{◌-◌, ◌≤◌, ◌≡◌, length}
 use Rattle.probe.proofs.kept.set_report.Given as goal
 
 abbrev pub invariant-loop-i : goal.invariant-loop-i

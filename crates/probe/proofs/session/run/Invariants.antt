@@ -1,5 +1,5 @@
 -- The turns that are left fall, and the lent slices keep their lengths. Assumes nothing.
-use Rattle.std.proofs.Common.{◌≤◌, ◌<◌, ◌≡◌, ℕ, ◌+◌, ◌-◌, ◌*◌, length}
+use Rattle.std.proofs.Common.{◌<◌, ◌≡◌, length}
 use Rattle.probe.proofs.session.run.Given as goal
 
 abbrev pub invariant-loop-turns : goal.invariant-loop-turns

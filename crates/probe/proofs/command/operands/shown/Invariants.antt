@@ -1,5 +1,5 @@
 -- Five operands, and the buffer keeps its length. Assumes nothing.
-use Rattle.std.proofs.Common.{◌-◌, ◌≡◌, ℕ, ◌+◌, ◌*◌, ◌<◌, ◌≤◌, length}
+use Rattle.std.proofs.Common.{◌-◌, ◌≡◌, ◌≤◌, length}
 use Rattle.probe.proofs.command.operands.shown.Given as goal
 
 abbrev pub invariant-loop-i : goal.invariant-loop-i

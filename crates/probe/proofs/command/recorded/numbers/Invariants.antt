@@ -1,5 +1,5 @@
 -- As many numbers as there are, and the buffer keeps its length. Assumes nothing.
-use Rattle.std.proofs.Common.{length, ◌-◌, ◌≡◌, ℕ, ◌+◌, ◌*◌, ◌<◌, ◌≤◌}
+use Rattle.std.proofs.Common.{length, ◌-◌, ◌≡◌, ◌≤◌}
 use Rattle.probe.proofs.command.recorded.numbers.Given as goal
 
 abbrev pub invariant-loop-i : goal.invariant-loop-i

@@ -1,5 +1,5 @@
 -- No more bytes are counted than were looked at. Assumes nothing.
-use Rattle.std.proofs.Common.{◌-◌, ◌+◌, ◌≤◌, ◌<◌, ◌^◌, ◌≡◌, ℕ, ◌*◌, length}
+use Rattle.std.proofs.Common.{◌-◌, ◌≤◌, length}
 use Rattle.probe.proofs.command.sheets.blanks.Given as goal
 
 abbrev pub invariant-loop-i : goal.invariant-loop-i

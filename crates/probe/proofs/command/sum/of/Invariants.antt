@@ -1,5 +1,5 @@
 -- The number stays below the prime. Assumes nothing.
-use Rattle.std.proofs.Common.{length, ◌-◌, ◌<◌, ◌≡◌, ℕ, ◌+◌, ◌*◌, ◌≤◌}
+use Rattle.std.proofs.Common.{length, ◌-◌, ◌<◌, ◌≤◌}
 use Rattle.probe.proofs.command.sum.of.Given as goal
 
 abbrev pub invariant-loop-i : goal.invariant-loop-i
