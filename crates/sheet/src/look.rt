@@ -76,7 +76,7 @@ fn look_as(party: u64, text: &[u8], kind: Kind) -> Found
     }
     let mut at = first;
     let mut place = 0;
-    while place < count {
+    'lines: while place < count {
         let line = line::read_line(party, text, at, kind);
         let Line::Read(_, next) = line else {
             return none(BAD_SHEET);

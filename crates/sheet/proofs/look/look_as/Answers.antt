@@ -29,8 +29,8 @@ all_left party text kind count first head few =
     let all : count - 0 ≡ count = omega arith in
     rw (head, le-leb count limit few, all)
 
-pub loop-place-init : goal.loop-place-init
-loop-place-init c =
+pub lines-init : goal.lines-init
+lines-init c =
     record {
       within = omega arith;
       records = [];
@@ -43,13 +43,13 @@ loop-place-init c =
 pub returns-in_default-line : goal.returns-in_default-line
 unfolding records_at
 returns-in_default-line c =
-    let l = c.loop-place in
-    rw (l.invariant.gives, left l.place _ c.loop-place-test.true, sym c.read_line-line.ensures ∙ c.in_default-line.is) c.none-in_default-line.ensures
+    let l = c.lines in
+    rw (l.invariant.gives, left l.place _ c.lines-test.true, sym c.read_line-line.ensures ∙ c.in_default-line.is) c.none-in_default-line.ensures
 
-pub loop-place-preserved : goal.loop-place-preserved
+pub lines-preserved : goal.lines-preserved
 unfolding records_at
-loop-place-preserved c =
-    let l = c.loop-place in
+lines-preserved c =
+    let l = c.lines in
     let a = c.args in
     let one = c.in-Read-line.field-0 in
     let qs = l.invariant.records in
@@ -58,24 +58,24 @@ loop-place-preserved c =
       within = omega arith;
       records = qs ++ (one ∷ []);
       long = rw length-append (omega (arith, l.invariant.long));
-      gives = l.invariant.gives ∙ rw (left l.place _ c.loop-place-test.true, sym c.read_line-line.ensures ∙ c.in-Read-line.is) (more-joined qs one others);
+      gives = l.invariant.gives ∙ rw (left l.place _ c.lines-test.true, sym c.read_line-line.ensures ∙ c.in-Read-line.is) (more-joined qs one others);
     }
 
 pub returns-then-at-text : goal.returns-then-at-text
 unfolding records_at
 returns-then-at-text c =
-    let l = c.loop-place in
-    rw (l.invariant.gives, done l.place _ c.loop-place-test.false, ne_eqb l.at _ c.if-at-text.true) c.none-then-at-text.ensures
+    let l = c.lines in
+    rw (l.invariant.gives, done l.place _ c.lines-test.false, ne_eqb l.at _ c.if-at-text.true) c.none-then-at-text.ensures
 
 pub returns : goal.returns
 unfolding records_at
 returns c =
-    let l = c.loop-place in
-    let whole = rw (done l.place _ c.loop-place-test.false, eq-eqb l.at _ c.if-at-text.false) at l.invariant.gives in
+    let l = c.lines in
+    let whole = rw (done l.place _ c.lines-test.false, eq-eqb l.at _ c.if-at-text.false) at l.invariant.gives in
     rw whole (
       refl,
       record {
-        counts = rw length-append (omega (arith, l.invariant.long, l.invariant.within, c.loop-place-test.false));
+        counts = rw length-append (omega (arith, l.invariant.long, l.invariant.within, c.lines-test.false));
         lines =
             sym (all_left c.args.party c.args.text.now c.args.kind c.in-Read.count c.in-Read.first (sym c.read_head-head.ensures ∙ c.in-Read.is) c.if-count-gt-LIMIT.false)
             ∙ whole;

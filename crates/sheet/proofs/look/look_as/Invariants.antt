@@ -3,8 +3,8 @@ use Prim.Native.Nat.{◌-◌}
 use Rattle.sheet.proofs.Seen.{Seen}
 use Rattle.sheet.proofs.look.look_as.Given as goal
 
-abbrev pub invariant-loop-place : goal.invariant-loop-place
-invariant-loop-place l = Seen l.party l.text l.kind l.count l.at l.place
+abbrev pub invariant-lines : goal.invariant-lines
+invariant-lines l = Seen l.party l.text l.kind l.count l.at l.place
 
-abbrev pub decreases-loop-place : goal.decreases-loop-place
-decreases-loop-place l = l.count - l.place
+abbrev pub decreases-lines : goal.decreases-lines
+decreases-lines l = l.count - l.place
