@@ -31,6 +31,9 @@ pub const SYSTEM: u64 = 3;
 
 pub const LOCKED: u64 = 4;
 
+// What a shell tells of a program that writes where nobody reads: 128 and the number of the signal that ended it. No status is written then.
+pub const UNREAD: u64 = 141;
+
 // How this program was started.
 pub fn started(rt: &impl Env) -> Started {
     let mut word = [0u8; 8];
@@ -42,6 +45,9 @@ pub fn started(rt: &impl Env) -> Started {
 
 // Writes the status, where there is a descriptor for it, and answers what the program ends with.
 pub fn end(rt: &impl Files, started: Started, status: u64) -> ExitCode {
+    if status == UNREAD {
+        return ExitCode::from(141);
+    }
     let Some(path) = start::path(started.status) else {
         return ExitCode::SUCCESS;
     };
@@ -89,8 +95,11 @@ pub fn misused(rt: &impl EprintBytes, usage: &[u8]) -> u64 {
     USAGE
 }
 
-// Says on standard error what failed and the system's word for it, which is the status then.
+// Says on standard error what failed and the system's word for it, which is the status then; where nobody reads, nothing is said.
 pub fn failed(rt: &impl EprintBytes, what: &[u8], error: &io::Error) -> u64 {
+    if matches!(error.kind(), io::ErrorKind::BrokenPipe) {
+        return UNREAD;
+    }
     let _ = stderr::put_failure(rt, what, error);
     SYSTEM
 }
