@@ -1,4 +1,3 @@
 pub mod Among
 pub mod Lettered
-pub mod Named
 pub mod Rows

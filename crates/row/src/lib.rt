@@ -361,6 +361,7 @@ pub fn packed_target_of(form: Form) -> Packed
     packed
 }
 
+#[tactic(auto, unfolding(crate::specs::Row::row_of, crate::specs::Row::lines))]
 fn row_a(number: u64) -> Packed
     ensures { Packs result (row_of (a number)) }
 {
@@ -375,6 +376,7 @@ fn row_a(number: u64) -> Packed
     }
 }
 
+#[tactic(auto, unfolding(crate::specs::Row::row_of, crate::specs::Row::lines))]
 fn row_b(number: u64) -> Packed
     ensures { Packs result (row_of (b number)) }
 {
@@ -387,6 +389,7 @@ fn row_b(number: u64) -> Packed
     }
 }
 
+#[tactic(auto, unfolding(crate::specs::Row::row_of, crate::specs::Row::lines))]
 fn row_f(number: u64) -> Packed
     ensures { Packs result (row_of (f number)) }
 {
@@ -398,6 +401,7 @@ fn row_f(number: u64) -> Packed
     }
 }
 
+#[tactic(auto, unfolding(crate::specs::Row::row_of, crate::specs::Row::lines))]
 fn row_i(number: u64) -> Packed
     ensures { Packs result (row_of (i number)) }
 {
@@ -419,6 +423,7 @@ fn row_i(number: u64) -> Packed
     }
 }
 
+#[tactic(auto, unfolding(crate::specs::Row::row_of, crate::specs::Row::lines))]
 fn row_m(number: u64) -> Packed
     ensures { Packs result (row_of (m number)) }
 {
@@ -441,6 +446,7 @@ fn row_m(number: u64) -> Packed
     }
 }
 
+#[tactic(auto, unfolding(crate::specs::Row::row_of, crate::specs::Row::lines))]
 fn row_x(number: u64) -> Packed
     ensures { Packs result (row_of (x number)) }
 {

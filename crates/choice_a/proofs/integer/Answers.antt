@@ -1,30 +1,25 @@
 -- `integer` meets its contract: an arm's value is what the table has left there. Assumes nothing.
-use Rattle.std.proofs.Common.{rules, ◌≡◌, ℕ, T, [], ◌∷◌, ap}
-use Rattle.bits.specs.Part.{part}
+use Rattle.std.proofs.Common.{rules, [], ◌∷◌, ap}
 use Rattle.opcodes.specs.Tables.{a_table, none, short, opcode}
-use Rattle.table.specs.Entry.{holds, chosen}
-use Rattle.table.proofs.Narrow.{left, in-arm, in_rest}
+use Rattle.opcodes.proofs.Arms.{arm}
+use Rattle.table.proofs.Narrow.{in_rest}
 use Rattle.choice_a.proofs.integer.Goals as goal
-
-arm : (word : ℕ) → T (holds (opcode 8 ∷ []) word) → (n : ℕ) → n ≡ part word 33 4 → {k : ℕ} → n ≡ k
-    → short (left (opcode 8 ∷ []) (33, 4, k) a_table word none) ≡ short (chosen a_table word none)
-arm word known n is q = ap short (in-arm word (opcode 8 ∷ []) known 33 4 n is a_table none q)
 
 pub returns-in-4 : goal.returns-in-4
 unfolding a_table
-returns-in-4 c = arm c.args.word c.requires c.get-key.result c.get-key.ensures c.in-4.is
+returns-in-4 c = arm a_table (opcode 8 ∷ []) 33 4 c.args.word c.requires c.get-key.result c.get-key.ensures c.in-4.is
 
 pub returns-in-6 : goal.returns-in-6
 unfolding a_table
-returns-in-6 c = arm c.args.word c.requires c.get-key.result c.get-key.ensures c.in-6.is
+returns-in-6 c = arm a_table (opcode 8 ∷ []) 33 4 c.args.word c.requires c.get-key.result c.get-key.ensures c.in-6.is
 
 pub returns-in-12 : goal.returns-in-12
 unfolding a_table
-returns-in-12 c = arm c.args.word c.requires c.get-key.result c.get-key.ensures c.in-12.is
+returns-in-12 c = arm a_table (opcode 8 ∷ []) 33 4 c.args.word c.requires c.get-key.result c.get-key.ensures c.in-12.is
 
 pub returns-in-14 : goal.returns-in-14
 unfolding a_table
-returns-in-14 c = arm c.args.word c.requires c.get-key.result c.get-key.ensures c.in-14.is
+returns-in-14 c = arm a_table (opcode 8 ∷ []) 33 4 c.args.word c.requires c.get-key.result c.get-key.ensures c.in-14.is
 
 pub returns-in_default : goal.returns-in_default
 unfolding a_table

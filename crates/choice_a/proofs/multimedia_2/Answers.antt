@@ -1,98 +1,93 @@
 -- `multimedia_2` meets its contract: an arm's value is what the table has left there. Assumes nothing.
-use Rattle.std.proofs.Common.{rules, ◌≡◌, ℕ, T, [], ◌∷◌, ap}
-use Rattle.bits.specs.Part.{part}
+use Rattle.std.proofs.Common.{rules, [], ◌∷◌, ap}
 use Rattle.opcodes.specs.Tables.{a_table, none, short, multimedia}
-use Rattle.table.specs.Entry.{holds, chosen}
-use Rattle.table.proofs.Narrow.{left, in-arm, in_rest}
+use Rattle.opcodes.proofs.Arms.{arm}
+use Rattle.table.proofs.Narrow.{in_rest}
 use Rattle.choice_a.proofs.multimedia_2.Goals as goal
-
-arm : (word : ℕ) → T (holds (multimedia 0 1 []) word) → (n : ℕ) → n ≡ part word 27 6 → {k : ℕ} → n ≡ k
-    → short (left (multimedia 0 1 []) (27, 6, k) a_table word none) ≡ short (chosen a_table word none)
-arm word known n is q = ap short (in-arm word (multimedia 0 1 []) known 27 6 n is a_table none q)
 
 pub returns-in-0 : goal.returns-in-0
 unfolding a_table
-returns-in-0 c = arm c.args.word c.requires c.get-key.result c.get-key.ensures c.in-0.is
+returns-in-0 c = arm a_table (multimedia 0 1 []) 27 6 c.args.word c.requires c.get-key.result c.get-key.ensures c.in-0.is
 
 pub returns-in-1 : goal.returns-in-1
 unfolding a_table
-returns-in-1 c = arm c.args.word c.requires c.get-key.result c.get-key.ensures c.in-1.is
+returns-in-1 c = arm a_table (multimedia 0 1 []) 27 6 c.args.word c.requires c.get-key.result c.get-key.ensures c.in-1.is
 
 pub returns-in-2 : goal.returns-in-2
 unfolding a_table
-returns-in-2 c = arm c.args.word c.requires c.get-key.result c.get-key.ensures c.in-2.is
+returns-in-2 c = arm a_table (multimedia 0 1 []) 27 6 c.args.word c.requires c.get-key.result c.get-key.ensures c.in-2.is
 
 pub returns-in-3 : goal.returns-in-3
 unfolding a_table
-returns-in-3 c = arm c.args.word c.requires c.get-key.result c.get-key.ensures c.in-3.is
+returns-in-3 c = arm a_table (multimedia 0 1 []) 27 6 c.args.word c.requires c.get-key.result c.get-key.ensures c.in-3.is
 
 pub returns-in-4 : goal.returns-in-4
 unfolding a_table
-returns-in-4 c = arm c.args.word c.requires c.get-key.result c.get-key.ensures c.in-4.is
+returns-in-4 c = arm a_table (multimedia 0 1 []) 27 6 c.args.word c.requires c.get-key.result c.get-key.ensures c.in-4.is
 
 pub returns-in-5 : goal.returns-in-5
 unfolding a_table
-returns-in-5 c = arm c.args.word c.requires c.get-key.result c.get-key.ensures c.in-5.is
+returns-in-5 c = arm a_table (multimedia 0 1 []) 27 6 c.args.word c.requires c.get-key.result c.get-key.ensures c.in-5.is
 
 pub returns-in-6 : goal.returns-in-6
 unfolding a_table
-returns-in-6 c = arm c.args.word c.requires c.get-key.result c.get-key.ensures c.in-6.is
+returns-in-6 c = arm a_table (multimedia 0 1 []) 27 6 c.args.word c.requires c.get-key.result c.get-key.ensures c.in-6.is
 
 pub returns-in-7 : goal.returns-in-7
 unfolding a_table
-returns-in-7 c = arm c.args.word c.requires c.get-key.result c.get-key.ensures c.in-7.is
+returns-in-7 c = arm a_table (multimedia 0 1 []) 27 6 c.args.word c.requires c.get-key.result c.get-key.ensures c.in-7.is
 
 pub returns-in-10 : goal.returns-in-10
 unfolding a_table
-returns-in-10 c = arm c.args.word c.requires c.get-key.result c.get-key.ensures c.in-10.is
+returns-in-10 c = arm a_table (multimedia 0 1 []) 27 6 c.args.word c.requires c.get-key.result c.get-key.ensures c.in-10.is
 
 pub returns-in-11 : goal.returns-in-11
 unfolding a_table
-returns-in-11 c = arm c.args.word c.requires c.get-key.result c.get-key.ensures c.in-11.is
+returns-in-11 c = arm a_table (multimedia 0 1 []) 27 6 c.args.word c.requires c.get-key.result c.get-key.ensures c.in-11.is
 
 pub returns-in-14 : goal.returns-in-14
 unfolding a_table
-returns-in-14 c = arm c.args.word c.requires c.get-key.result c.get-key.ensures c.in-14.is
+returns-in-14 c = arm a_table (multimedia 0 1 []) 27 6 c.args.word c.requires c.get-key.result c.get-key.ensures c.in-14.is
 
 pub returns-in-16 : goal.returns-in-16
 unfolding a_table
-returns-in-16 c = arm c.args.word c.requires c.get-key.result c.get-key.ensures c.in-16.is
+returns-in-16 c = arm a_table (multimedia 0 1 []) 27 6 c.args.word c.requires c.get-key.result c.get-key.ensures c.in-16.is
 
 pub returns-in-17 : goal.returns-in-17
 unfolding a_table
-returns-in-17 c = arm c.args.word c.requires c.get-key.result c.get-key.ensures c.in-17.is
+returns-in-17 c = arm a_table (multimedia 0 1 []) 27 6 c.args.word c.requires c.get-key.result c.get-key.ensures c.in-17.is
 
 pub returns-in-18 : goal.returns-in-18
 unfolding a_table
-returns-in-18 c = arm c.args.word c.requires c.get-key.result c.get-key.ensures c.in-18.is
+returns-in-18 c = arm a_table (multimedia 0 1 []) 27 6 c.args.word c.requires c.get-key.result c.get-key.ensures c.in-18.is
 
 pub returns-in-19 : goal.returns-in-19
 unfolding a_table
-returns-in-19 c = arm c.args.word c.requires c.get-key.result c.get-key.ensures c.in-19.is
+returns-in-19 c = arm a_table (multimedia 0 1 []) 27 6 c.args.word c.requires c.get-key.result c.get-key.ensures c.in-19.is
 
 pub returns-in-24 : goal.returns-in-24
 unfolding a_table
-returns-in-24 c = arm c.args.word c.requires c.get-key.result c.get-key.ensures c.in-24.is
+returns-in-24 c = arm a_table (multimedia 0 1 []) 27 6 c.args.word c.requires c.get-key.result c.get-key.ensures c.in-24.is
 
 pub returns-in-25 : goal.returns-in-25
 unfolding a_table
-returns-in-25 c = arm c.args.word c.requires c.get-key.result c.get-key.ensures c.in-25.is
+returns-in-25 c = arm a_table (multimedia 0 1 []) 27 6 c.args.word c.requires c.get-key.result c.get-key.ensures c.in-25.is
 
 pub returns-in-26 : goal.returns-in-26
 unfolding a_table
-returns-in-26 c = arm c.args.word c.requires c.get-key.result c.get-key.ensures c.in-26.is
+returns-in-26 c = arm a_table (multimedia 0 1 []) 27 6 c.args.word c.requires c.get-key.result c.get-key.ensures c.in-26.is
 
 pub returns-in-27 : goal.returns-in-27
 unfolding a_table
-returns-in-27 c = arm c.args.word c.requires c.get-key.result c.get-key.ensures c.in-27.is
+returns-in-27 c = arm a_table (multimedia 0 1 []) 27 6 c.args.word c.requires c.get-key.result c.get-key.ensures c.in-27.is
 
 pub returns-in-36 : goal.returns-in-36
 unfolding a_table
-returns-in-36 c = arm c.args.word c.requires c.get-key.result c.get-key.ensures c.in-36.is
+returns-in-36 c = arm a_table (multimedia 0 1 []) 27 6 c.args.word c.requires c.get-key.result c.get-key.ensures c.in-36.is
 
 pub returns-in-37 : goal.returns-in-37
 unfolding a_table
-returns-in-37 c = arm c.args.word c.requires c.get-key.result c.get-key.ensures c.in-37.is
+returns-in-37 c = arm a_table (multimedia 0 1 []) 27 6 c.args.word c.requires c.get-key.result c.get-key.ensures c.in-37.is
 
 pub returns-in_default : goal.returns-in_default
 unfolding a_table

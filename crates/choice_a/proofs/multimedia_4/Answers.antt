@@ -1,30 +1,25 @@
 -- `multimedia_4` meets its contract: an arm's value is what the table has left there. Assumes nothing.
-use Rattle.std.proofs.Common.{rules, ◌≡◌, ℕ, T, [], ◌∷◌, ap}
-use Rattle.bits.specs.Part.{part}
+use Rattle.std.proofs.Common.{rules, [], ◌∷◌, ap}
 use Rattle.opcodes.specs.Tables.{a_table, none, short, multimedia}
-use Rattle.table.specs.Entry.{holds, chosen}
-use Rattle.table.proofs.Narrow.{left, in-arm, in_rest}
+use Rattle.opcodes.proofs.Arms.{arm}
+use Rattle.table.proofs.Narrow.{in_rest}
 use Rattle.choice_a.proofs.multimedia_4.Goals as goal
-
-arm : (word : ℕ) → T (holds (multimedia 1 0 []) word) → (n : ℕ) → n ≡ part word 27 6 → {k : ℕ} → n ≡ k
-    → short (left (multimedia 1 0 []) (27, 6, k) a_table word none) ≡ short (chosen a_table word none)
-arm word known n is q = ap short (in-arm word (multimedia 1 0 []) known 27 6 n is a_table none q)
 
 pub returns-in-0 : goal.returns-in-0
 unfolding a_table
-returns-in-0 c = arm c.args.word c.requires c.get-key.result c.get-key.ensures c.in-0.is
+returns-in-0 c = arm a_table (multimedia 1 0 []) 27 6 c.args.word c.requires c.get-key.result c.get-key.ensures c.in-0.is
 
 pub returns-in-4 : goal.returns-in-4
 unfolding a_table
-returns-in-4 c = arm c.args.word c.requires c.get-key.result c.get-key.ensures c.in-4.is
+returns-in-4 c = arm a_table (multimedia 1 0 []) 27 6 c.args.word c.requires c.get-key.result c.get-key.ensures c.in-4.is
 
 pub returns-in-36 : goal.returns-in-36
 unfolding a_table
-returns-in-36 c = arm c.args.word c.requires c.get-key.result c.get-key.ensures c.in-36.is
+returns-in-36 c = arm a_table (multimedia 1 0 []) 27 6 c.args.word c.requires c.get-key.result c.get-key.ensures c.in-36.is
 
 pub returns-in-37 : goal.returns-in-37
 unfolding a_table
-returns-in-37 c = arm c.args.word c.requires c.get-key.result c.get-key.ensures c.in-37.is
+returns-in-37 c = arm a_table (multimedia 1 0 []) 27 6 c.args.word c.requires c.get-key.result c.get-key.ensures c.in-37.is
 
 pub returns-in_default : goal.returns-in_default
 unfolding a_table

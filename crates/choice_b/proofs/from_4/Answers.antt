@@ -1,22 +1,17 @@
 -- `from_4` meets its contract: an arm's value is what the table has left there. Assumes nothing.
-use Rattle.std.proofs.Common.{rules, ◌≡◌, ℕ, T, [], ◌∷◌, ap}
-use Rattle.bits.specs.Part.{part}
+use Rattle.std.proofs.Common.{rules, [], ◌∷◌, ap}
 use Rattle.opcodes.specs.Tables.{b_table, none, short}
-use Rattle.table.specs.Entry.{holds, chosen}
-use Rattle.table.proofs.Narrow.{left, in-arm, in_rest}
+use Rattle.opcodes.proofs.Arms.{arm}
+use Rattle.table.proofs.Narrow.{in_rest}
 use Rattle.choice_b.proofs.from_4.Goals as goal
-
-arm : (word : ℕ) → T (holds ((39, 2, 1) ∷ []) word) → (n : ℕ) → n ≡ part word 37 4 → {k : ℕ} → n ≡ k
-    → short (left ((39, 2, 1) ∷ []) (37, 4, k) b_table word none) ≡ short (chosen b_table word none)
-arm word known n is q = ap short (in-arm word ((39, 2, 1) ∷ []) known 37 4 n is b_table none q)
 
 pub returns-in-5 : goal.returns-in-5
 unfolding b_table
-returns-in-5 c = arm c.args.word c.requires c.get-key.result c.get-key.ensures c.in-5.is
+returns-in-5 c = arm b_table ((39, 2, 1) ∷ []) 37 4 c.args.word c.requires c.get-key.result c.get-key.ensures c.in-5.is
 
 pub returns-in-7 : goal.returns-in-7
 unfolding b_table
-returns-in-7 c = arm c.args.word c.requires c.get-key.result c.get-key.ensures c.in-7.is
+returns-in-7 c = arm b_table ((39, 2, 1) ∷ []) 37 4 c.args.word c.requires c.get-key.result c.get-key.ensures c.in-7.is
 
 pub returns-in_default : goal.returns-in_default
 unfolding b_table

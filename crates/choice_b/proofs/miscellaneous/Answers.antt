@@ -1,54 +1,49 @@
 -- `miscellaneous` meets its contract: an arm's value is what the table has left there. Assumes nothing.
-use Rattle.std.proofs.Common.{rules, ◌≡◌, ℕ, T, [], ◌∷◌, ap}
-use Rattle.bits.specs.Part.{part}
+use Rattle.std.proofs.Common.{rules, [], ◌∷◌, ap}
 use Rattle.opcodes.specs.Tables.{b_table, none, short, opcode}
-use Rattle.table.specs.Entry.{holds, chosen}
-use Rattle.table.proofs.Narrow.{left, in-arm, in_rest}
+use Rattle.opcodes.proofs.Arms.{arm}
+use Rattle.table.proofs.Narrow.{in_rest}
 use Rattle.choice_b.proofs.miscellaneous.Goals as goal
-
-arm : (word : ℕ) → T (holds (opcode 0 ∷ []) word) → (n : ℕ) → n ≡ part word 27 6 → {k : ℕ} → n ≡ k
-    → short (left (opcode 0 ∷ []) (27, 6, k) b_table word none) ≡ short (chosen b_table word none)
-arm word known n is q = ap short (in-arm word (opcode 0 ∷ []) known 27 6 n is b_table none q)
 
 pub returns-in-0 : goal.returns-in-0
 unfolding b_table
-returns-in-0 c = arm c.args.word c.requires c.get-key.result c.get-key.ensures c.in-0.is
+returns-in-0 c = arm b_table (opcode 0 ∷ []) 27 6 c.args.word c.requires c.get-key.result c.get-key.ensures c.in-0.is
 
 pub returns-in-2 : goal.returns-in-2
 unfolding b_table
-returns-in-2 c = arm c.args.word c.requires c.get-key.result c.get-key.ensures c.in-2.is
+returns-in-2 c = arm b_table (opcode 0 ∷ []) 27 6 c.args.word c.requires c.get-key.result c.get-key.ensures c.in-2.is
 
 pub returns-in-4 : goal.returns-in-4
 unfolding b_table
-returns-in-4 c = arm c.args.word c.requires c.get-key.result c.get-key.ensures c.in-4.is
+returns-in-4 c = arm b_table (opcode 0 ∷ []) 27 6 c.args.word c.requires c.get-key.result c.get-key.ensures c.in-4.is
 
 pub returns-in-5 : goal.returns-in-5
 unfolding b_table
-returns-in-5 c = arm c.args.word c.requires c.get-key.result c.get-key.ensures c.in-5.is
+returns-in-5 c = arm b_table (opcode 0 ∷ []) 27 6 c.args.word c.requires c.get-key.result c.get-key.ensures c.in-5.is
 
 pub returns-in-8 : goal.returns-in-8
 unfolding b_table
-returns-in-8 c = arm c.args.word c.requires c.get-key.result c.get-key.ensures c.in-8.is
+returns-in-8 c = arm b_table (opcode 0 ∷ []) 27 6 c.args.word c.requires c.get-key.result c.get-key.ensures c.in-8.is
 
 pub returns-in-12 : goal.returns-in-12
 unfolding b_table
-returns-in-12 c = arm c.args.word c.requires c.get-key.result c.get-key.ensures c.in-12.is
+returns-in-12 c = arm b_table (opcode 0 ∷ []) 27 6 c.args.word c.requires c.get-key.result c.get-key.ensures c.in-12.is
 
 pub returns-in-13 : goal.returns-in-13
 unfolding b_table
-returns-in-13 c = arm c.args.word c.requires c.get-key.result c.get-key.ensures c.in-13.is
+returns-in-13 c = arm b_table (opcode 0 ∷ []) 27 6 c.args.word c.requires c.get-key.result c.get-key.ensures c.in-13.is
 
 pub returns-in-16 : goal.returns-in-16
 unfolding b_table
-returns-in-16 c = arm c.args.word c.requires c.get-key.result c.get-key.ensures c.in-16.is
+returns-in-16 c = arm b_table (opcode 0 ∷ []) 27 6 c.args.word c.requires c.get-key.result c.get-key.ensures c.in-16.is
 
 pub returns-in-24 : goal.returns-in-24
 unfolding b_table
-returns-in-24 c = arm c.args.word c.requires c.get-key.result c.get-key.ensures c.in-24.is
+returns-in-24 c = arm b_table (opcode 0 ∷ []) 27 6 c.args.word c.requires c.get-key.result c.get-key.ensures c.in-24.is
 
 pub returns-in-25 : goal.returns-in-25
 unfolding b_table
-returns-in-25 c = arm c.args.word c.requires c.get-key.result c.get-key.ensures c.in-25.is
+returns-in-25 c = arm b_table (opcode 0 ∷ []) 27 6 c.args.word c.requires c.get-key.result c.get-key.ensures c.in-25.is
 
 pub returns-in_default : goal.returns-in_default
 unfolding b_table
