@@ -1,34 +1,43 @@
-// What a call answers: 0 where it accepts, and the number of the refusal, by 01 and 02, where it does not.
+// Why a call refuses, and the number that it answers then, by 01 and 02: 0 where it accepts.
 #![tactic(auto)]
 
-pub const ACCEPTED: u8 = 0;
+ghost use Rattle.std.specs.Prelude.{◌≡◌};
+ghost use Rattle.answer.specs.Answer.{number_of, answer_of};
 
-pub const EXHAUSTED_INPUT: u8 = 1;
+#[derive(Clone, Copy, PartialEq, Eq)]
+pub enum Refusal {
+    ExhaustedInput = 1,
+    BadBundle,
+    BadForm,
+    BadWord,
+    BadSlot,
+    BadValue,
+    Full,
+    Empty,
+    Stale,
+    TooLong,
+    BadJournal,
+    NoRoom,
+    BadSheet,
+    BadOpcode,
+    Retired,
+    BadScript,
+}
 
-pub const BAD_BUNDLE: u8 = 2;
+impl Refusal {
+    pub fn number(self) -> u8
+        ensures { result ≡ number_of self }
+    {
+        self as u8
+    }
+}
 
-pub const BAD_FORM: u8 = 3;
-
-pub const BAD_WORD: u8 = 4;
-
-pub const BAD_SLOT: u8 = 5;
-
-pub const BAD_VALUE: u8 = 6;
-
-pub const FULL: u8 = 7;
-
-pub const EMPTY: u8 = 8;
-
-pub const STALE: u8 = 9;
-
-pub const TOO_LONG: u8 = 10;
-
-pub const BAD_JOURNAL: u8 = 11;
-
-pub const NO_ROOM: u8 = 12;
-
-pub const BAD_SHEET: u8 = 13;
-
-pub const BAD_OPCODE: u8 = 14;
-
-pub const RETIRED: u8 = 15;
+// What a call answers that came to this.
+pub fn answer_of<T>(of: &Result<T, Refusal>) -> u8
+    ensures { result ≡ answer_of of.now }
+{
+    match of {
+        Ok(_) => 0,
+        Err(refusal) => refusal.number(),
+    }
+}

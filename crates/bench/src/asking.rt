@@ -1,19 +1,19 @@
 // Calls that read: `cut`, `operands`, `choose`, `immediate`, a record's test, the listing and the report.
 use crate::sum;
 use crate::sum::plus;
+use answer::answer_of;
 use form::Form;
+use opcodes::Opcode;
+use operand::Operand;
 use record::Record;
-use tally::{Added, NUMBERS};
+use tally::NUMBERS;
 
 // Every bundle of a code, cut.
 #[unsafe(no_mangle)]
 pub extern "C" fn bench_cut(code: &[u8]) -> u64 {
-    let count = code.len() / 16;
     let mut sum = 0;
-    let mut n = 0;
-    while n < count {
-        sum = plus(sum, sum::of_bundle(bundle::cut(code, n as u64)));
-        n += 1;
+    for n in 0..code.len() / 16 {
+        sum = plus(sum, sum::of_cut(bundle::cut(code, n as u64)));
     }
     sum
 }
@@ -22,31 +22,30 @@ pub extern "C" fn bench_cut(code: &[u8]) -> u64 {
 #[unsafe(no_mangle)]
 pub extern "C" fn bench_operands(family: u64, numbers: &[u64], words: &[u64], ls: &[u64]) -> u64 {
     let mut sum = 0;
-    let mut i = 0;
-    while i < words.len() {
+    for (i, word) in words.iter().enumerate() {
         let form = Form {
             family,
             number: sum::at(numbers, i),
         };
-        let read = readers::operands(form, words[i], sum::at(ls, i));
-        let reading = read.reading;
-        sum = plus(sum, sum::of_reading(reading));
-        i += 1;
+        if let Ok(reading) = readers::operands(form, *word, sum::at(ls, i)) {
+            sum = plus(sum, sum::of_reading(reading));
+        }
     }
     sum
 }
 
-// Opcode and form of a unit's words. The opcodes are put out, each by its place.
+// Opcode and form of a unit's words. The opcodes are put out, each by its place among them.
 #[unsafe(no_mangle)]
 pub extern "C" fn bench_choose(unit: u64, words: &[u64], opcodes: &mut [u64]) -> u64 {
     let mut sum = 0;
-    let mut i = 0;
-    while i < words.len() {
-        let chosen = choice::choose(unit, words[i]);
-        let opcode = chosen.opcode;
-        sum::put(opcodes, i, opcode_name::place(opcode));
-        sum = plus(sum, plus(chosen.answer as u64, chosen.form.number));
-        i += 1;
+    for (i, word) in words.iter().enumerate() {
+        let chosen = choice::choose(unit, *word);
+        let (opcode, number) = match chosen {
+            Ok(named) => (named.opcode, named.form.number),
+            Err(_) => (Opcode::No, 0),
+        };
+        sum::put(opcodes, i, opcode as u64);
+        sum = plus(sum, plus(u64::from(answer_of(&chosen)), number));
     }
     sum
 }
@@ -55,14 +54,10 @@ pub extern "C" fn bench_choose(unit: u64, words: &[u64], opcodes: &mut [u64]) ->
 #[unsafe(no_mangle)]
 pub extern "C" fn bench_immediate(code: &[u8], slot: u64, family: u64, number: u64) -> u64 {
     let form = Form { family, number };
-    let count = code.len() / 16;
     let mut sum = 0;
-    let mut n = 0;
-    while n < count {
-        let read = immediate::immediate(code, n as u64, slot, form);
-        let value = read.value;
+    for n in 0..code.len() / 16 {
+        let value = immediate::immediate(code, n as u64, slot, form).unwrap_or(Operand::None);
         sum = plus(sum, sum::of_operand(value));
-        n += 1;
     }
     sum
 }
@@ -78,25 +73,18 @@ pub extern "C" fn bench_record(
     values: &[u64],
 ) -> u64 {
     let form = Form { family, number };
-    let count = code.len() / 16;
     let mut sum = 0;
-    let mut n = 0;
-    while n < count {
-        let before = bundle::load(code, n as u64);
-        let after = bundle::load(other, n as u64);
-        let old = before.halves;
-        let new = after.halves;
+    for n in 0..code.len() / 16 {
         let one = Record {
             party: 0,
             bundle: n as u64,
             slot,
             form,
             value: sum::at(values, n),
-            old,
-            new,
+            old: sum::halves(code, n as u64),
+            new: sum::halves(other, n as u64),
         };
-        sum = plus(sum, record::may_stand(0, one) as u64);
-        n += 1;
+        sum = plus(sum, u64::from(record::may_stand(0, one)));
     }
     sum
 }
@@ -104,22 +92,16 @@ pub extern "C" fn bench_record(
 // The listing of a text.
 #[unsafe(no_mangle)]
 pub extern "C" fn bench_listing(text: &[u8], out: &mut [u8]) -> u64 {
-    let written = lister::listing(text, out);
-    written.length as u64
+    lister::listing(text, out).unwrap_or(0) as u64
 }
 
 // The report of an image, added up so many times.
 #[unsafe(no_mangle)]
 pub extern "C" fn bench_report(image: &[u8], times: u64) -> u64 {
-    let mut last = Added {
-        answer: 0,
-        report: [0; NUMBERS],
-    };
-    let mut left = times;
-    while 0 < left {
-        let report = last.report;
-        last = tally::add(report, image);
-        left -= 1;
+    let mut report = [0; NUMBERS];
+    let mut answer = 0;
+    for _ in 0..times {
+        answer = answer_of(&tally::add(&mut report, image));
     }
-    sum::of_report(last)
+    sum::of_report(answer, &report)
 }

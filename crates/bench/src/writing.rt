@@ -1,6 +1,7 @@
-// Calls that write: immediates, `edit` and `undo`, `fold`, and sheets.
+// Calls that write: immediates, `edit` and `undo`, `fold`, and sheets. A journal's counts come one by one, by the C interface.
 use crate::sum;
-use crate::sum::plus;
+use crate::sum::{NO_HALVES, plus};
+use answer::answer_of;
 use form::{B, Edit, Form};
 use operand::Operand;
 use record::Record;
@@ -11,7 +12,7 @@ fn value_of(signed: u64, pattern: u64) -> Operand {
     if signed == 0 {
         return Operand::ImmU64(pattern);
     }
-    let integer = operand::integer(pattern);
+    let integer = pattern.cast_signed();
     Operand::ImmI64(integer)
 }
 
@@ -26,10 +27,8 @@ pub extern "C" fn bench_write(
     values: &[u64],
 ) -> u64 {
     let form = Form { family, number };
-    let count = code.len() / 16;
     let mut sum = 0;
-    let mut n = 0;
-    while n < count {
+    for n in 0..code.len() / 16 {
         let value = value_of(signed, sum::at(values, n));
         let edit = Edit {
             bundle: n as u64,
@@ -37,12 +36,9 @@ pub extern "C" fn bench_write(
             form,
             value,
         };
-        let loaded = bundle::load(code, n as u64);
-        let changed = immediate::change(loaded.halves, edit);
-        let new = changed.bundle;
-        bundle::write(&mut code[16 * n..16 * n + 16], new);
-        sum = plus(sum, changed.answer as u64);
-        n += 1;
+        let changed = immediate::change(sum::halves(code, n as u64), edit);
+        bundle::write(&mut code[16 * n..16 * n + 16], changed.unwrap_or(NO_HALVES));
+        sum = plus(sum, u64::from(answer_of(&changed)));
     }
     sum
 }
@@ -79,13 +75,13 @@ pub extern "C" fn bench_edit(
         upper,
     };
     let mut sum = 0;
-    let mut left = times;
-    while 0 < left {
+    for _ in 0..times {
         let edited = journal::edit(code, counts, records, party, branch(63, 32));
-        let undone = journal::undo(code, edited.counts, records, party);
-        counts = undone.counts;
-        sum = plus(sum, plus(edited.answer as u64, undone.answer as u64));
-        left -= 1;
+        counts = edited.unwrap_or(counts);
+        let undone = journal::undo(code, counts, records, party);
+        counts = undone.unwrap_or(counts);
+        sum = plus(sum, u64::from(answer_of(&edited)));
+        sum = plus(sum, u64::from(answer_of(&undone)));
     }
     sum
 }
@@ -105,7 +101,8 @@ pub extern "C" fn bench_fold(
         upper,
     };
     let folded = fold::fold(counts, records, party);
-    plus(folded.answer as u64, folded.counts.lower)
+    let answer = u64::from(answer_of(&folded));
+    plus(answer, folded.unwrap_or(counts).lower)
 }
 
 // The sheet of a party's journal, written so many times.
@@ -125,11 +122,9 @@ pub extern "C" fn bench_sheet(
         upper,
     };
     let mut sum = 0;
-    let mut left = times;
-    while 0 < left {
+    for _ in 0..times {
         let written = sheet::write(counts, records, party, out);
-        sum = plus(sum, written.length as u64);
-        left -= 1;
+        sum = plus(sum, written.unwrap_or(0) as u64);
     }
     sum
 }
@@ -151,12 +146,10 @@ pub extern "C" fn bench_load(
         upper,
     };
     let mut sum = 0;
-    let mut left = times;
-    while 0 < left {
+    for _ in 0..times {
         let loaded = sheet::load(counts, records, party, text);
-        counts = loaded.counts;
-        sum = plus(sum, loaded.answer as u64);
-        left -= 1;
+        counts = loaded.unwrap_or(counts);
+        sum = plus(sum, u64::from(answer_of(&loaded)));
     }
     sum
 }

@@ -13,8 +13,7 @@ use Rattle.answer.specs.Answer.{accepted, first}
 use Rattle.bits.proofs.Laws.{part-lt}
 use Rattle.bundle.specs.Bytes.{number, bytes}
 use Rattle.bundle.specs.Template.{reserved, template_of}
-use Rattle.bundle.specs.declared.Bundle.{Bundle}
-use Rattle.bundle.specs.Bundle.{longest_code, bundle_at, number_at, find_answer, cut_of, tag_of, slots_of, slot_of, joined, join_refusals, join_of}
+use Rattle.bundle.specs.Bundle.{longest_code, bundle_at, number_at, find_answer, Cut, cut_of, tag_of, slots_of, slot_of, joined, join_refusals, join_of}
 use Rattle.bundle.proofs.Bytes.{Bytes, bytes-number, number-bytes, number_lt, length-bytes, bytes_take, bytes_drop}
 use Rattle.bundle.proofs.Whole.{joined-cut, cut-joined, cut-joined-tag, joined-lt}
 use Rattle.bundle.proofs.Laws.{Joinable, found-sixteen, cut-found, cut-done, join-done, joinable}
@@ -40,7 +39,7 @@ join-after-cut code out k b found known room =
       known,
       le-ltb (length out) 16 room,
     ) in
-    ap (λ (c : Bundle). join_of c.template.tag c.slots out) (cut-found code k found ∙ cut-done n known)
+    ap (λ (c : Cut). join_of c.template.tag c.slots out) (cut-found code k found ∙ cut-done n known)
     ∙ join-done (tag_of n) (slots_of n) out done
     ∙ ap (λ r. record { answer = accepted; out = r ++ drop 16 out }) (ap (bytes 16) (joined-cut n s.0) ∙ s.1)
 

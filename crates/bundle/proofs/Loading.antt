@@ -4,8 +4,7 @@ use mathlib.Core.Path.{◌≡◌, sym, ap, ◌∙◌}
 use mathlib.Core.List.{List}
 use Prim.Native.Nat.{ℕ}
 use Rattle.answer.specs.Answer.{accepted}
-use Rattle.bundle.specs.Bundle.{number_at, find_answer, whole, loaded_of}
-use Rattle.bundle.specs.declared.Loaded.{Loaded}
+use Rattle.bundle.specs.Bundle.{number_at, find_answer, whole, Loaded, loaded_of}
 use Rattle.bundle.proofs.Bytes.{Bytes}
 use Rattle.bundle.proofs.Whole.{whole-halves}
 use Rattle.bundle.proofs.Laws.{loaded_found, number-at-lt}

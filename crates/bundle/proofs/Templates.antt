@@ -1,5 +1,5 @@
 -- What the manual's table says of every tag, each by a computed check over its lines or over the tags. Assumes nothing.
-use mathlib.Core.Path.{◌≡◌, refl, subst}
+use mathlib.Core.Path.{◌≡◌, refl, subst, sym}
 use mathlib.Core.Bool.{Bool, true, false, cond, beq}
 use mathlib.Core.List.{List, [], ◌∷◌}
 use Prim.Native.Nat.{ℕ, ◌/◌, ◌≤◌, ◌<◌}
@@ -8,7 +8,7 @@ use lib.ListN.{length}
 use Rattle.table.specs.Table.{select}
 use Rattle.table.proofs.Check.{below, checked, same, same→eq}
 use Rattle.table.proofs.Held.{held}
-use Rattle.bundle.specs.Template.{no_units, no_stops, unitless, templates, units_in_line, stops_in_line, units_of, stops_of, reserved, template_of, marked_units}
+use Rattle.bundle.specs.Template.{no_units, no_stops, unitless, templates, units_in_line, stops_in_line, units_of, stops_of, reserved, template_of, reserved_template, marked_units}
 
 beq→eq : (a b : Bool) → T (beq a b) → a ≡ b
 beq→eq true true t = refl
@@ -16,13 +16,23 @@ beq→eq true false t = absurd t
 beq→eq false true t = absurd t
 beq→eq false false t = refl
 
--- a reserved tag has no stops
+-- a reserved tag has no units, and no stops
+pub reserved-unitless : (tag : ℕ) → reserved tag ≡ true → units_of tag ≡ no_units
+unfolding units_of
+reserved-unitless tag r =
+    same→eq eqb eqb→eq (units_of tag) no_units
+    (subst (λ (b : Bool). T (cond b (same eqb (units_of tag) no_units) true)) r
+    (held (λ _ line. cond (unitless (units_in_line line)) (same eqb (units_in_line line) no_units) true) tag templates no_units tt tt))
+
 pub reserved-stopless : (tag : ℕ) → reserved tag ≡ true → stops_of tag ≡ no_stops
 unfolding units_of stops_of
 reserved-stopless tag r =
     same→eq beq beq→eq (stops_of tag) no_stops
     (subst (λ (b : Bool). T (cond b (same beq (stops_of tag) no_stops) true)) r
     (held (λ _ line. cond (unitless (units_in_line line)) (same beq (stops_in_line line) no_stops) true) tag templates no_units tt tt))
+
+pub reserved-is : (tag : ℕ) → reserved tag ≡ true → reserved_template tag ≡ template_of tag
+reserved-is tag r = sym (λ i. record { tag = tag; units = reserved-unitless tag r i; stops = reserved-stopless tag r i })
 
 -- a tag's units with their stops are its line, which has at most five characters
 pub marked-line : (tag : ℕ) → marked_units (template_of tag) ≡ select tag templates no_units

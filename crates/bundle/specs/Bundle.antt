@@ -1,11 +1,16 @@
 -- Document 01's section "Bundles": finding, cutting and joining. Assumes nothing.
 use Rattle.std.specs.Prelude.{ℕ, ◌+◌, ◌*◌, ◌^◌, Bool, ◌||◌, List, [], ◌∷◌, ◌++◌, ltb, leb, length, get_or, take, drop}
-use Rattle.answer.specs.Answer.{Refusal, first, outcome, exhausted_input, bad_bundle, bad_word, too_long, no_room}
+use Rattle.std.specs.declared.result.Result.{Result}
+use Rattle.std.specs.declared.result.Result.TheVariants.{Ok, Err}
+use Rattle.answer.specs.Answer.{Reason, first, outcome, accepted, exhausted_input, bad_bundle, bad_word, too_long, no_room, number_of}
+use Rattle.answer.specs.declared.Refusal.{Refusal}
 use Rattle.bits.specs.Part.{part, above}
 use Rattle.bundle.specs.Bytes.{number, bytes}
-use Rattle.bundle.specs.Template.{units_of, reserved, template_of, no_template}
+use Rattle.bundle.specs.Template.{units_of, reserved, template_of, reserved_template, no_template}
+use Rattle.bundle.specs.declared.template.Template.{Template}
 use Rattle.bundle.specs.declared.Bundle.{Bundle}
-use Rattle.bundle.specs.declared.Loaded.{Loaded}
+use Rattle.bundle.specs.declared.Uncut.{Uncut}
+use Rattle.bundle.specs.declared.Uncut.TheVariants.{Missing, Reserved}
 use Rattle.bundle.specs.declared.half.Halves.{Halves}
 
 -- how many bytes a code has at most
@@ -21,7 +26,7 @@ abbrev pub number_at : List ℕ → ℕ → ℕ
 number_at code k = number (bundle_at code k)
 
 -- when finding is refused
-abbrev pub find_refusals : List ℕ → ℕ → List Refusal
+abbrev pub find_refusals : List ℕ → ℕ → List Reason
 find_refusals code k = (too_long, ltb longest_code (length code)) ∷ (exhausted_input, ltb (length code) (16 * k + 16)) ∷ []
 
 -- what finding answers
@@ -65,29 +70,51 @@ halves_of n = record { low = part n 0 64; high = part n 64 64 }
 abbrev pub whole : Halves → ℕ
 whole h = above 64 h.low h.high
 
--- what loading hands back: a bundle's halves, and those of 0 where none was found
+-- what loading comes to: an answer, and a bundle's halves
+pub record Loaded : Type 0 where
+  pub answer : ℕ
+  pub halves : Halves
+
+-- that, of what `load` hands back: the halves of 0 where it refuses
+abbrev pub as_loaded : Result Halves Refusal → Loaded
+as_loaded (Ok halves) = record { answer = accepted; halves = halves }
+as_loaded (Err refusal) = record { answer = number_of refusal; halves = halves_of 0 }
+
+-- what loading comes to: a bundle's halves, and those of 0 where none was found
 unfoldable pub loaded_of : List ℕ → ℕ → Loaded
 loaded_of code k = record { answer = find_answer code k; halves = halves_of (outcome (find_answer code k) (number_at code k) 0) }
 
 -- when a bundle is refused, by its number
-abbrev pub bundle_refusals : ℕ → List Refusal
+abbrev pub bundle_refusals : ℕ → List Reason
 bundle_refusals n = (bad_bundle, reserved (tag_of n)) ∷ []
 
+-- what cutting comes to: an answer, a template and three slots
+pub record Cut : Type 0 where
+  pub answer : ℕ
+  pub template : Template
+  pub slots : List ℕ
+
 -- a bundle cut, by its number; the slots of a refused one are zeros
-unfoldable pub cut_number : ℕ → Bundle
+unfoldable pub cut_number : ℕ → Cut
 cut_number n =
     let answer = first (bundle_refusals n) in
     record { answer = answer; template = template_of (tag_of n); slots = slots_of (outcome answer n 0) }
 
 -- what is cut where no bundle was found
-abbrev pub uncut : ℕ → Bundle
+abbrev pub uncut : ℕ → Cut
 uncut answer = record { answer = answer; template = no_template; slots = slots_of 0 }
 
--- what cutting hands back
-abbrev pub cut_loaded : Loaded → Bundle
+-- what `cut` hands back, as that: zeros where it refuses, and the tag where it is a reserved one
+abbrev pub as_cut : Result Bundle Uncut → Cut
+as_cut (Ok bundle) = record { answer = accepted; template = bundle.template; slots = bundle.slots }
+as_cut (Err (Missing refusal)) = uncut (number_of refusal)
+as_cut (Err (Reserved tag)) = record { answer = bad_bundle; template = reserved_template tag; slots = slots_of 0 }
+
+-- what cutting comes to
+abbrev pub cut_loaded : Loaded → Cut
 cut_loaded loaded = outcome loaded.answer (cut_number (whole loaded.halves)) (uncut loaded.answer)
 
-unfoldable pub cut_of : List ℕ → ℕ → Bundle
+unfoldable pub cut_of : List ℕ → ℕ → Cut
 cut_of code k = cut_loaded (loaded_of code k)
 
 -- an answer, and what the output then holds
@@ -100,7 +127,7 @@ abbrev pub too_large : ℕ → List ℕ → Bool
 too_large tag slots = ltb 31 tag || leb (2 ^ 41) (get_or slots 0 0) || leb (2 ^ 41) (get_or slots 1 0) || leb (2 ^ 41) (get_or slots 2 0)
 
 -- when joining is refused
-abbrev pub join_refusals : ℕ → List ℕ → ℕ → List Refusal
+abbrev pub join_refusals : ℕ → List ℕ → ℕ → List Reason
 join_refusals tag slots room = (bad_word, too_large tag slots) ∷ (bad_bundle, reserved tag) ∷ (no_room, ltb room 16) ∷ []
 
 -- what joining answers, and the output: the sixteen bytes and then what stood there before

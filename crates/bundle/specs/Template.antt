@@ -71,12 +71,15 @@ stops_of tag = stops_in_line (select tag templates no_units)
 abbrev pub reserved : ℕ → Bool
 reserved tag = unitless (units_of tag)
 
--- the template of a tag, and of no bundle at all
+-- the template of a tag, of a reserved one, and of no bundle at all
 abbrev pub template_of : ℕ → Template
 template_of tag = record { tag = tag; units = units_of tag; stops = stops_of tag }
 
+abbrev pub reserved_template : ℕ → Template
+reserved_template tag = record { tag = tag; units = no_units; stops = no_stops }
+
 abbrev pub no_template : Template
-no_template = record { tag = 0; units = no_units; stops = no_stops }
+no_template = reserved_template 0
 
 -- a unit's letter, and `;` after it where a stop follows
 abbrev pub marked : ℕ → Bool → List ℕ

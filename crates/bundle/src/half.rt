@@ -7,7 +7,7 @@ ghost use Rattle.bundle.specs.Bytes.{number, bytes};
 ghost use Rattle.bundle.specs.Bundle.{whole, halves_of, slots_of, joined};
 
 #[repr(C)]
-#[derive(Clone, Copy)]
+#[derive(Clone, Copy, PartialEq, Eq)]
 pub struct Halves {
     pub low: u64,
     pub high: u64,

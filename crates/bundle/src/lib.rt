@@ -5,12 +5,11 @@ mod half;
 mod template;
 
 ghost use Rattle.std.specs.Prelude.{◌≡◌};
-ghost use Rattle.answer.specs.Answer.{accepted, first};
-ghost use Rattle.bundle.specs.Bundle.{bundle_at, find_answer, find_of, whole, loaded_of, cut_number, cut_of, join_refusals, join_of, Joined};
+ghost use Rattle.answer.specs.Answer.{accepted, first, answer_of};
+ghost use Rattle.bundle.specs.Bundle.{bundle_at, find_answer, find_of, whole, loaded_of, as_loaded, cut_number, cut_of, as_cut, join_refusals, join_of, Joined};
 
-use answer::{ACCEPTED, BAD_BUNDLE, BAD_WORD, EXHAUSTED_INPUT, NO_ROOM, TOO_LONG};
+use answer::Refusal;
 pub use half::{Halves, bits_from, put, slots, write};
-use template::NO_TEMPLATE;
 pub use template::{Template, template_of, unitless, units_of};
 
 // How many bytes a code has at most.
@@ -22,10 +21,9 @@ const WORD: u64 = 1 << 41;
 pub fn find(code: &[u8], bundle: u64) -> &[u8]
     ensures { result.now ≡ find_of code.now bundle }
 {
-    if find_answer(code, bundle) == ACCEPTED {
-        sixteen(code, bundle)
-    } else {
-        &code[..0]
+    match found(code, bundle) {
+        Ok(()) => sixteen(code, bundle),
+        Err(_) => &code[..0],
     }
 }
 
@@ -38,105 +36,99 @@ fn sixteen(code: &[u8], bundle: u64) -> &[u8]
     &code[at..at + 16]
 }
 
-// What finding answers.
+// What finding answers, as a number.
 pub fn find_answer(code: &[u8], bundle: u64) -> u8
     ensures { result ≡ find_answer code.now bundle }
 {
+    answer::answer_of(&found(code, bundle))
+}
+
+// Whether a bundle is found.
+fn found(code: &[u8], bundle: u64) -> Result<(), Refusal>
+    ensures { answer_of result ≡ find_answer code.now bundle }
+{
     if LONGEST_CODE < code.len() {
-        return TOO_LONG;
+        return Err(Refusal::TooLong);
     }
     if (code.len() / 16) as u64 <= bundle {
-        return EXHAUSTED_INPUT;
+        return Err(Refusal::ExhaustedInput);
     }
-    ACCEPTED
+    Ok(())
 }
 
-#[derive(Clone, Copy)]
-pub struct Loaded {
-    pub answer: u8,
-    pub halves: Halves,
-}
-
-// A bundle's halves, zeros where refused.
-pub fn load(code: &[u8], bundle: u64) -> Loaded
-    ensures { result ≡ loaded_of code.now bundle }
+// A bundle's halves.
+pub fn load(code: &[u8], bundle: u64) -> Result<Halves, Refusal>
+    ensures { as_loaded result ≡ loaded_of code.now bundle }
 {
-    let answer = find_answer(code, bundle);
-    if answer != ACCEPTED {
-        let halves = Halves { low: 0, high: 0 };
-        return Loaded { answer, halves };
-    }
-    let halves = half::read(sixteen(code, bundle));
-    Loaded { answer, halves }
+    found(code, bundle)?;
+    Ok(half::read(sixteen(code, bundle)))
 }
 
-#[derive(Clone, Copy)]
+#[derive(Clone, Copy, PartialEq, Eq)]
 pub struct Bundle {
-    pub answer: u8,
     pub template: Template,
     pub slots: [u64; 3],
 }
 
-// A bundle's template and slots.
-pub fn cut(code: &[u8], bundle: u64) -> Bundle
-    ensures { result ≡ cut_of code.now bundle }
-{
-    let loaded = load(code, bundle);
-    let answer = loaded.answer;
-    if answer != ACCEPTED {
-        return Bundle {
-            answer,
-            template: NO_TEMPLATE,
-            slots: [0; 3],
-        };
-    }
-    cut_halves(loaded.halves)
+// Why no bundle was cut: none was found, or its tag is reserved.
+#[derive(Clone, Copy, PartialEq, Eq)]
+pub enum Uncut {
+    Missing(Refusal),
+    Reserved(u8),
 }
 
-fn cut_halves(halves: Halves) -> Bundle
-    ensures { result ≡ cut_number (whole halves) }
+impl From<Refusal> for Uncut {
+    ghost use Rattle.std.specs.Prelude.{◌≡◌};
+    ghost use Rattle.bundle.specs.declared.Uncut.TheVariants.{Missing};
+
+    ghost from_gives = { λ refusal uncut. uncut ≡ Missing refusal };
+
+    fn from(refusal: Refusal) -> Uncut {
+        Uncut::Missing(refusal)
+    }
+}
+
+// A bundle's template and slots.
+pub fn cut(code: &[u8], bundle: u64) -> Result<Bundle, Uncut>
+    ensures { as_cut result ≡ cut_of code.now bundle }
+{
+    let halves = load(code, bundle)?;
+    cut_halves(halves)
+}
+
+fn cut_halves(halves: Halves) -> Result<Bundle, Uncut>
+    ensures { as_cut result ≡ cut_number (whole halves) }
 {
     let template = template_of(halves);
     let units = template.units;
     if unitless(units) {
-        return Bundle {
-            answer: BAD_BUNDLE,
-            template,
-            slots: [0; 3],
-        };
+        return Err(Uncut::Reserved(template.tag));
     }
     let slots = half::slots(halves);
-    Bundle {
-        answer: ACCEPTED,
-        template,
-        slots,
-    }
+    Ok(Bundle { template, slots })
 }
 
-// What joining answers, by its tag, its slots and the length of its output.
-fn joinable(tag: u64, slots: [u64; 3], room: usize) -> u8
-    ensures { result ≡ first (join_refusals tag slots room) }
+// Whether a tag and slots are joined to an output of that length.
+fn joinable(tag: u64, slots: [u64; 3], room: usize) -> Result<(), Refusal>
+    ensures { answer_of result ≡ first (join_refusals tag slots room) }
 {
     if 31 < tag || WORD <= slots[0] || WORD <= slots[1] || WORD <= slots[2] {
-        return BAD_WORD;
+        return Err(Refusal::BadWord);
     }
     if unitless(template::units(tag as usize)) {
-        return BAD_BUNDLE;
+        return Err(Refusal::BadBundle);
     }
     if room < 16 {
-        return NO_ROOM;
+        return Err(Refusal::NoRoom);
     }
-    ACCEPTED
+    Ok(())
 }
 
 // Writes the bundle of a tag and three slots to the first sixteen bytes of the output.
-pub fn join(tag: u64, slots: [u64; 3], out: &mut [u8]) -> u8
-    ensures { ◌≡◌ {A = Joined} (record { answer = result; out = out.new }) (join_of tag slots out.old) }
+pub fn join(tag: u64, slots: [u64; 3], out: &mut [u8]) -> Result<(), Refusal>
+    ensures { ◌≡◌ {A = Joined} (record { answer = answer_of result; out = out.new }) (join_of tag slots out.old) }
 {
-    let refusal = joinable(tag, slots, out.len());
-    if refusal != ACCEPTED {
-        return refusal;
-    }
+    joinable(tag, slots, out.len())?;
     write(&mut out[..16], half::pack(tag, slots));
-    ACCEPTED
+    Ok(())
 }

@@ -7,18 +7,12 @@ ghost use Rattle.bundle.specs.Template.{unitless};
 
 use crate::half::Halves;
 
-#[derive(Clone, Copy)]
+#[derive(Clone, Copy, PartialEq, Eq)]
 pub struct Template {
     pub tag: u8,
     pub units: [u8; 3],
     pub stops: [bool; 3],
 }
-
-pub const NO_TEMPLATE: Template = Template {
-    tag: 0,
-    units: [0; 3],
-    stops: [false; 3],
-};
 
 // The tags with a stop after slot 0, 1 and 2, a bit each: bit 10 is tag 10's.
 const AFTER_0: u64 = (1 << 10) + (1 << 11);

@@ -1,32 +1,34 @@
 -- Old bundles put back, the last first, are undos one after the other: where its records may stand, what a journal says of an undo is what its
 -- last record says. Assumes nothing.
 use mathlib.Core.Path.{◌≡◌, refl, sym, ap, ◌∙◌, subst}
-use mathlib.Core.Bool.{Bool, true, false, cond, not}
-use mathlib.Core.List.{List, [], ◌∷◌, ◌++◌, get_last_d}
+use mathlib.Core.Bool.{Bool, true, false, false≢true, cond, not}
+use mathlib.Core.List.{List, [], ◌∷◌, ◌++◌, reverse, get_last_d}
 use Prim.Native.Nat.{ℕ, zero, suc, ◌+◌, ◌-◌, ◌*◌, ◌≤◌, ◌<◌}
 use native.Mathlib.Decide.{ℕ_discrete}
 use native.Mathlib.Omega.{arith}
 use borrow.Author.Tests.{eq-eqb, ne_eqb, lt-ltb, le-ltb}
 use lib.Dec.{T}
+use Rattle.std.specs.Prelude.{Err}
+use Rattle.std.proofs.lemmas.List.{length-reverse, get_or-reverse, get_or_default}
 use lib.ListN.{length, get_or, take, length-append}
 use lib.Seq.{take-suc, take-length}
 use mir.Facts.{and_yes}
 use Rattle.answer.specs.Answer.{accepted, stale, too_long, first, outcome}
-use Rattle.answer.proofs.Laws.{accepts, refuses}
-use Rattle.bundle.specs.Bundle.{longest_code, number_at, find_answer, halves_of, loaded_of, whole}
-use Rattle.bundle.specs.declared.Loaded.{Loaded}
+use Rattle.answer.proofs.Laws.{accepts, refuses, no-acceptance}
+use Rattle.bundle.specs.Bundle.{Loaded, longest_code, number_at, find_answer, halves_of, loaded_of, whole}
 use Rattle.bundle.proofs.Lies.{Lies, lies, past_the_end}
 use Rattle.record.specs.Record.{no_record, same_halves, may_stand}
 use Rattle.record.specs.declared.Record.{Record}
 use Rattle.records.specs.Journal.{Journal, limit, all, standing, journal_of}
-use Rattle.records.proofs.Standing.{all_append, journal-stands, journal-reads, journal-shows, last_snoc, drop-last-snoc}
+use Rattle.records.proofs.Standing.{all_append, journal-stands, journal-shows, last_snoc, drop-last-snoc}
 use Rattle.journal.specs.Change.{rewritten}
 use Rattle.journal.specs.Edit.{SharedOutcome, by_party, undo_refusals, undo_of, undo_by}
 use Rattle.journal.proofs.Rewritten.{rewritten-length}
 use Rattle.by_sheet.specs.Perform.{told_by, records_in}
-use Rattle.by_sheet.specs.Taking.{undos_from, none_named, taken_by, taken_in, taken_out_of}
+use Rattle.by_sheet.specs.Taking.{TakenOut, as_taken, undos_from, none_named, taken_by, taken_in, taken_out_of}
+use Rattle.by_sheet.specs.declared.taking.Untaken.{Untaken}
+use Rattle.by_sheet.specs.declared.taking.Untaken.TheVariants.{Refused, Unfit}
 use Rattle.by_sheet.specs.inner.Back.{fit_answer, put_back, all_back}
-use Rattle.by_sheet.specs.declared.taking.TakenOut.{TakenOut}
 use Rattle.by_sheet.proofs.Told.{alone, Fit, alone-valid, alone-served, Told}
 
 -- how a record fits a code
@@ -36,6 +38,15 @@ answer_of code q = let loaded = loaded_of code q.bundle in fit_answer loaded.ans
 turned : (t : Bool) → cond (not t) stale accepted ≡ cond t accepted stale
 turned true = refl
 turned false = refl
+
+-- what stands there is what a record left, or isn't
+pub same-fits : (t : Bool) → false ≡ not t → accepted ≡ cond t accepted stale
+same-fits true e = refl
+same-fits false e = absurd (false≢true e)
+
+pub other-stale : (t : Bool) → true ≡ not t → stale ≡ cond t accepted stale
+other-stale true e = absurd (false≢true (sym e))
+other-stale false e = refl
 
 -- one that fits, and one that doesn't, put back
 module _ (code : List ℕ) (q : Record) {loaded : Loaded} {a : ℕ} (l : loaded ≡ loaded_of code q.bundle) (e : a ≡ fit_answer loaded.answer q.new loaded.halves) where
@@ -126,18 +137,15 @@ module _ (ps : List Record) (q : Record) (f : Fit (ps ++ (q ∷ []))) (code : Li
 
 -- so of as many as there are
 module _ (rs : List Record) where
-  abbrev places : List Record
-  places = (journal_of limit rs).records
-
   -- what comes after one
   abbrev then-back : ℕ → TakenOut × List ℕ → TakenOut × List ℕ
-  then-back n t = outcome t.0.answer (all_back places n t.1) t
+  then-back n t = outcome t.0.answer (all_back rs n t.1) t
 
   abbrev then-undo : ℕ → SharedOutcome → SharedOutcome
   then-undo n o = outcome o.answer (undos_from n o) o
 
   backs : (n : ℕ) → n ≤ length rs → Fit (take n rs) → (code : List ℕ) → length code ≤ longest_code
-      → all_back places n code ≡ taken_by (undos_from n (record { answer = accepted; journal = alone (take n rs); code = code }))
+      → all_back rs n code ≡ taken_by (undos_from n (record { answer = accepted; journal = alone (take n rs); code = code }))
   unfolding all_back undos_from
   backs zero h f code short = refl
   backs (suc n) h f code short =
@@ -149,16 +157,13 @@ module _ (rs : List Record) where
       let changed' = rewritten code q.bundle (whole q.old) in
       let by-undo : undo_by code (alone (take (suc n) rs)) 0 ≡ outcome a (after ps q fit code short) (unchanged ps q fit code short) =
       ap (λ (qs : List Record). undo_by code (alone qs) 0) same ∙ undo-is ps q fit code short in
-      let read = ap (λ (r : Record). then-back n (put_back code r)) (journal-reads limit rs n) in
       elim (ℕ_discrete a accepted) [
         | yes e ↦
-            read
-            ∙ ap (then-back n) (sym (back-taken code q refl refl e))
+            ap (then-back n) (sym (back-taken code q refl refl e))
             ∙ backs n (omega (arith, h)) (but_last ps q fit code short) changed' (still-short ps q fit code short e)
             ∙ sym (ap (λ (o : SharedOutcome). taken_by (then-undo n o)) (by-undo ∙ accepts a _ _ e))
         | no d ↦
-            read
-            ∙ ap (then-back n) (sym (back-refused code q refl refl d))
+            ap (then-back n) (sym (back-refused code q refl refl d))
             ∙ refuses a _ _ d
             ∙ sym (misfit-is ps q fit code short d)
             ∙ sym (ap (λ (o : SharedOutcome). taken_by (then-undo n o)) (by-undo ∙ refuses a _ _ d) ∙ ap taken_by (refuses a _ _ d))
@@ -166,7 +171,7 @@ module _ (rs : List Record) where
 
 -- a sheet's records
 module _ {sheet : List ℕ} (t : Told sheet) (taken : (told_by sheet).answer ≡ accepted) (code : List ℕ) (short : length code ≤ longest_code) where
-  pub backs-taken : all_back (journal_of limit t.records).records (length t.records) code ≡ taken_in code sheet
+  pub backs-taken : all_back t.records (length t.records) code ≡ taken_in code sheet
   backs-taken =
       let rs = t.records in
       let all = take-length rs in
@@ -210,3 +215,16 @@ module _ (code sheet : List ℕ) where
 
     pub none_out : (t.answer ≡ accepted → ⊥) → (t, code) ≡ taken_out_of code sheet
     none_out d = sym (by_part ∙ ap (λ (c : List ℕ). (t, c)) (refuses t.answer part code d))
+
+-- a refused call's answer isn't `accepted`
+pub untaken-answer : (untaken : Untaken) → (as_taken (Err untaken)).answer ≡ accepted → ⊥
+untaken-answer (Refused refusal) e = no-acceptance refusal e
+untaken-answer (Unfit m) e = no-acceptance m.refusal e
+
+-- records that are gone through from the last on
+pub from-last : (records : List Record) (k : ℕ) (one : Record) → k < length (reverse records) → one ≡ get_or (reverse records) k one
+    → (k < length records) × (one ≡ get_or records (length records - k - 1) no_record)
+from-last records k one h e =
+    let few : k < length records = omega (arith, length-reverse records) in
+    let same : length records - 1 - k ≡ length records - k - 1 = omega arith in
+    (few, e ∙ get_or-reverse records k one few ∙ ap (λ (n : ℕ). get_or records n one) same ∙ get_or_default records (length records - k - 1) one no_record (omega (arith, few)))

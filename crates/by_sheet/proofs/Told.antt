@@ -8,10 +8,11 @@ use native.Mathlib.Omega.{arith}
 use native.Mathlib.Decide.{ℕ_discrete}
 use borrow.Author.Tests.{eq-eqb, ne_eqb, le-leb}
 use lib.Dec.{T}
+use Rattle.std.specs.Prelude.{Result, Ok}
 use lib.Ieee.Bits.{is_true}
 use lib.ListN.{length, take, replicate, drop_of_length-le}
 use lib.Seq.{take_all}
-use Rattle.answer.specs.Answer.{Refusal, accepted, first, outcome}
+use Rattle.answer.specs.Answer.{Reason, accepted, first, outcome, answer_of}
 use Rattle.bundle.specs.Bundle.{whole}
 use Rattle.record.specs.Record.{no_record, may_stand}
 use Rattle.record.specs.declared.Record.{Record}
@@ -23,7 +24,7 @@ use Rattle.records.proofs.Standing.{journal-stands, journal-counts, journal-plac
 use Rattle.journal.specs.Change.{Change, field, rewritten, made_all, records_of, JournalOutcome, room_refusals, make_of}
 use Rattle.journal.specs.Edit.{SharedOutcome, SharedJournalOutcome, code_refusals, checked_refusals, undo_refusals, undo_of, by_party, journal_outcome_of}
 use Rattle.journal.specs.declared.Act.TheVariants.{Edit as EditAct, Checked, Undo}
-use Rattle.journal.specs.declared.Edited.{Edited}
+use Rattle.answer.specs.declared.Refusal.{Refusal}
 use Rattle.fold.specs.Fold.{fold_of}
 use Rattle.sheet.specs.Load.{load_by}
 use Rattle.sheet.proofs.Inverse.{load-taken, load-only-written}
@@ -84,35 +85,35 @@ told sheet a =
     }
 
 -- a sheet was loaded into free places, with what it tells
-pub record Loads (r : Edited) (places : List Record) (sheet : List ℕ) : Type 0 where
-  pub is : journal_outcome_of r places ≡ told_by sheet
+pub record Loads (r : Result Counts Refusal) (given : Counts) (places : List Record) (sheet : List ℕ) : Type 0 where
+  pub is : journal_outcome_of r given places ≡ told_by sheet
 
-pub loads : {counts : Counts} {free places : List Record} {r : Edited} {sheet : List ℕ} → counts ≡ opened_for 1 → free ≡ replicate limit no_record
-    → journal_outcome_of r places ≡ load_by (sharing counts free) 0 sheet → Loads r places sheet
-loads {sheet = sheet} c f e =
+pub loads : {counts : Counts} {free : List Record} (r : Result Counts Refusal) (places : List Record) {sheet : List ℕ} → counts ≡ opened_for 1 → free ≡ replicate limit no_record
+    → journal_outcome_of r counts places ≡ load_by (sharing counts free) 0 sheet → Loads r counts places sheet
+loads r places {sheet} c f e =
     record { is = e ∙ (λ i. load_by (sharing (c i) (f i)) 0 sheet) ∙ ap (λ (s : Shared). load_by s 0 sheet) (opened-is-fresh 1 refl) }
 
-pub load-answer : {r : Edited} {places : List Record} {sheet : List ℕ} → Loads r places sheet → r.answer ≡ (told_by sheet).answer
+pub load-answer : {r : Result Counts Refusal} {given : Counts} {places : List Record} {sheet : List ℕ} → Loads r given places sheet → answer_of r ≡ (told_by sheet).answer
 load-answer l = ap (λ (o : SharedJournalOutcome). o.answer) l.is
 
 -- where it is taken, the places are those of its records
-module _ {r : Edited} {places : List Record} {sheet : List ℕ} (l : Loads r places sheet) (t : Told sheet) where
-  parts : (r.counts ≡ counts_of t.records) × (places ≡ (journal_of limit t.records).records)
-  parts = sharing-injective r.counts (counts_of t.records) places _ (ap (λ (o : SharedJournalOutcome). o.journal) l.is ∙ t.is ∙ sym (alone-shared t.records t.fit.few))
+module _ {counts given : Counts} {places : List Record} {sheet : List ℕ} (l : Loads (Ok counts) given places sheet) (t : Told sheet) where
+  parts : (counts ≡ counts_of t.records) × (places ≡ (journal_of limit t.records).records)
+  parts = sharing-injective counts (counts_of t.records) places _ (ap (λ (o : SharedJournalOutcome). o.journal) l.is ∙ t.is ∙ sym (alone-shared t.records t.fit.few))
 
-  pub told-count : r.counts.lower ≡ length t.records
+  pub told-count : counts.lower ≡ length t.records
   told-count = ap (λ (c : Counts). c.lower) parts.0
 
   pub told-places : places ≡ (journal_of limit t.records).records
   told-places = parts.1
 
-  pub told-first : take r.counts.lower places ≡ t.records
+  pub told-first : take counts.lower places ≡ t.records
   told-first =
       ap₂ take (told-count ∙ sym (journal-counts limit t.records)) told-places
       ∙ sym (standing-places (journal_of limit t.records))
       ∙ journal-stands limit t.records
 
-  pub told-within : r.counts.lower ≤ length places
+  pub told-within : counts.lower ≤ length places
   told-within = omega (arith, told-count, t.fit.few, ap length told-places, journal-places limit t.records t.fit.few)
 
   pub told-records : records_in (told_by sheet).journal ≡ t.records
@@ -138,7 +139,7 @@ module _ (rs : List Record) (f : Fit rs) (code : List ℕ) where
         | no d ↦ rw (ne_eqb a accepted d, ne_eqb a accepted d) (record { kept = λ _. refl; counts = right rs })
       ]
 
-  make-leaves : (refusals : List Refusal) (cs : List Change) → Leaves (by_party (alone rs) 0 (make_of 0 limit code (served_of (alone rs) 0) refusals cs))
+  make-leaves : (refusals : List Reason) (cs : List Change) → Leaves (by_party (alone rs) 0 (make_of 0 limit code (served_of (alone rs) 0) refusals cs))
   unfolding make_of
   make-leaves refusals cs =
       let j = served_of (alone rs) 0 in

@@ -1,17 +1,25 @@
 -- The bundles that the records of a sheet touch, marked: what `mark` comes to. Assumes nothing.
-use Rattle.std.specs.Prelude.{ℕ, ◌<◌, ◌≡◌, cond, List, [], ◌∷◌, length, get_or, set}
-use Rattle.answer.specs.Answer.{outcome, accepted}
+use Rattle.std.specs.Prelude.{ℕ, ◌<◌, ◌≡◌, cond, List, [], ◌∷◌, length, get_or, set, Result, Ok, Err}
+use Rattle.answer.specs.Answer.{outcome, accepted, number_of}
+use Rattle.answer.specs.declared.Refusal.{Refusal}
 use Rattle.record.specs.declared.Record.{Record}
 use Rattle.fold.specs.Fold.{has, bundles_in}
 use Rattle.by_sheet.specs.Perform.{told_by, records_in}
-use Rattle.by_sheet.specs.declared.marks.Marked.{Marked}
 
 -- the marks of some records' bundles set, one after the other; one that there is no mark for is left out
 abbrev pub marked_by : List ℕ → List Record → List ℕ
 marked_by marks [] = marks
 marked_by marks (r ∷ rs) = marked_by (set marks r.bundle 1) rs
 
--- what `mark` comes to
+-- what `mark` comes to: an answer, and how many records stand, 0 where it refuses
+pub record Marked : Type 0 where
+  pub answer : ℕ
+  pub count : ℕ
+
+abbrev pub as_marked : Result ℕ Refusal → Marked
+as_marked (Ok count) = record { answer = accepted; count = count }
+as_marked (Err refusal) = record { answer = number_of refusal; count = 0 }
+
 unfoldable pub marked_of : List ℕ → List ℕ → Marked × List ℕ
 marked_of sheet marks =
     let told = told_by sheet in

@@ -1,6 +1,7 @@
 -- A task by a sheet: what `perform` comes to. The journal is the one that the sheet tells of. Assumes nothing.
-use Rattle.std.specs.Prelude.{ℕ, cond, List, ltb, length}
-use Rattle.answer.specs.Answer.{outcome, no_room}
+use Rattle.std.specs.Prelude.{◌≡◌, ℕ, cond, List, ltb, length, Result, Ok, Err}
+use Rattle.answer.specs.Answer.{outcome, accepted, no_room, number_of}
+use Rattle.answer.specs.declared.Refusal.{Refusal}
 use Rattle.record.specs.declared.Record.{Record}
 use Rattle.records.specs.Journal.{standing}
 use Rattle.records.specs.Shared.{Shared, own_of, fresh}
@@ -8,7 +9,7 @@ use Rattle.journal.specs.Edit.{SharedOutcome, SharedJournalOutcome, act_by}
 use Rattle.fold.specs.Fold.{fold_by}
 use Rattle.sheet.specs.Load.{load_by}
 use Rattle.sheet.specs.Sheet.{capacity, write_by}
-use Rattle.by_sheet.specs.declared.Done.{Done}
+use Rattle.by_sheet.specs.declared.Written.{Written}
 use Rattle.by_sheet.specs.declared.Task.{Task}
 use Rattle.by_sheet.specs.declared.Task.TheVariants.{Act, Fold}
 
@@ -25,7 +26,13 @@ abbrev pub task_by : List ℕ → Shared → Task → SharedOutcome
 task_by code s (Act act) = act_by code s 0 act
 task_by code s Fold = record { answer = (fold_by s 0).answer; journal = (fold_by s 0).journal; code = code }
 
--- what a call answers, and the code and the output after it
+-- what a call answers, the length of the sheet that it wrote, and how many records stand
+pub record Done : Type 0 where
+  pub answer : ℕ
+  pub length : ℕ
+  pub count : ℕ
+
+-- and the code and the output after it
 pub record Performed : Type 0 where
   pub done : Done
   pub code : List ℕ
@@ -33,6 +40,15 @@ pub record Performed : Type 0 where
 
 abbrev pub performed : Done → List ℕ → List ℕ → Performed
 performed done code out = record { done = done; code = code; out = out }
+
+-- what `perform` hands back, as that: where it refuses, no count
+abbrev pub as_done : ℕ → Result Written Refusal → Done
+as_done count (Ok written) = record { answer = accepted; length = written.length; count = written.count }
+as_done count (Err refusal) = record { answer = number_of refusal; length = 0; count = count }
+
+-- it comes to that with the code and the output that it leaves
+abbrev pub Performs : Result Written Refusal → List ℕ → List ℕ → Performed → Type 0
+Performs result code out p = performed (as_done p.done.count result) code out ≡ p
 
 -- a call that is refused changes nothing
 abbrev pub refused_by : List ℕ → List ℕ → ℕ → Performed

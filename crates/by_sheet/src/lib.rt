@@ -7,14 +7,14 @@ mod taking;
 ghost use Rattle.std.specs.Prelude.{◌≡◌};
 ghost use Rattle.records.specs.Shared.{sharing};
 ghost use Rattle.journal.specs.Edit.{outcome_of};
-ghost use Rattle.by_sheet.specs.Perform.{task_by, performed, performed_in, performed_of};
+ghost use Rattle.by_sheet.specs.Perform.{task_by, Performs, performed_in, performed_of};
 
-use answer::{ACCEPTED, NO_ROOM};
-use journal::{Act, Edited};
-pub use marks::{Marked, mark};
+use answer::Refusal;
+use journal::Act;
+pub use marks::mark;
 use record::Record;
 use records::Counts;
-pub use taking::{TakenOut, take_out};
+pub use taking::{Misfit, Untaken, take_out};
 
 // What is to be done: an act, or a fold.
 #[derive(Clone, Copy)]
@@ -23,57 +23,49 @@ pub enum Task {
     Fold,
 }
 
-// What a call answers, the length of the sheet that it wrote, and how many records stand.
+// The length of the sheet that was written, and how many records stand.
 #[derive(Clone, Copy)]
-pub struct Done {
-    pub answer: u8,
+pub struct Written {
     pub length: usize,
     pub count: u64,
 }
 
 // Does a task by a sheet, and writes the sheet after it at the output's start. Room for any sheet is asked for first, so that nothing is half done.
-pub fn perform(code: &mut [u8], sheet: &[u8], task: Task, out: &mut [u8]) -> Done
-    ensures { performed result code.new out.new ≡ performed_of code.old sheet.now task out.old }
+pub fn perform(
+    code: &mut [u8],
+    sheet: &[u8],
+    task: Task,
+    out: &mut [u8],
+) -> Result<Written, Refusal>
+    ensures { Performs result code.new out.new (performed_of code.old sheet.now task out.old) }
 {
     if out.len() < sheet::CAPACITY {
-        return refused(NO_ROOM);
+        return Err(Refusal::NoRoom);
     }
     perform_in(code, sheet, task, out)
 }
 
-fn refused(answer: u8) -> Done
-    ensures { result ≡ record { answer = answer; length = 0; count = 0 } }
-{
-    Done {
-        answer,
-        length: 0,
-        count: 0,
-    }
-}
-
 // The same where there is room.
-fn perform_in(code: &mut [u8], sheet: &[u8], task: Task, out: &mut [u8]) -> Done
-    ensures { performed result code.new out.new ≡ performed_in code.old sheet.now task out.old }
+fn perform_in(code: &mut [u8], sheet: &[u8], task: Task, out: &mut [u8]) -> Result<Written, Refusal>
+    ensures { Performs result code.new out.new (performed_in code.old sheet.now task out.old) }
 {
     let mut records = records::free();
-    let loaded = sheet::load(records::opened(1), &mut records, 0, sheet);
-    if loaded.answer != ACCEPTED {
-        return refused(loaded.answer);
-    }
-    let done = perform_task(code, loaded.counts, &mut records, task);
-    if done.answer != ACCEPTED {
-        return refused(done.answer);
-    }
-    let written = sheet::write(done.counts, &records, 0, out);
-    Done {
-        answer: written.answer,
-        length: written.length,
-        count: done.counts.lower,
-    }
+    let told = sheet::load(records::opened(1), &mut records, 0, sheet)?;
+    let counts = perform_task(code, told, &mut records, task)?;
+    let length = sheet::write(counts, &records, 0, out)?;
+    Ok(Written {
+        length,
+        count: counts.lower,
+    })
 }
 
-fn perform_task(code: &mut [u8], counts: Counts, records: &mut [Record], task: Task) -> Edited
-    ensures { outcome_of result records.new code.new ≡ task_by code.old (sharing counts records.old) task }
+fn perform_task(
+    code: &mut [u8],
+    counts: Counts,
+    records: &mut [Record],
+    task: Task,
+) -> Result<Counts, Refusal>
+    ensures { outcome_of result counts records.new code.new ≡ task_by code.old (sharing counts records.old) task }
 {
     match task {
         Task::Act(act) => journal::perform(code, counts, records, 0, act),

@@ -4,7 +4,7 @@
 -- Assumes nothing.
 use mathlib.Core.Path.{◌≡◌, refl}
 use mathlib.Core.List.{List, [], ◌∷◌}
-use mathlib.Core.Option.{none, some}
+use Rattle.std.specs.Prelude.{Some, None as Nowhere}
 use Prim.Native.Nat.{ℕ, ◌-◌, ◌^◌}
 use lib.IntN.{pos, negsuc}
 use Rattle.answer.specs.Answer.{accepted, bad_form}
@@ -12,7 +12,7 @@ use Rattle.bits.specs.Parts.{gather}
 use Rattle.bundle.specs.Bytes.{number, bytes}
 use Rattle.bundle.specs.Template.{units_of}
 use Rattle.bundle.specs.Bundle.{joined, find_answer}
-use Rattle.operand.specs.Reading.{listed, position_of}
+use Rattle.operand.specs.Reading.{listed}
 use Rattle.operand.specs.declared.Operand.{Operand}
 use Rattle.operand.specs.declared.Operand.TheVariants.{None, GPRegister, FloatRegister, PredicateRegister, BranchRegister, ImmI64, ImmU64, Memory, PR}
 use Rattle.operand.specs.declared.Reading.{Reading}
@@ -21,9 +21,7 @@ use Rattle.form.specs.Form.{i as i_form}
 use Rattle.form.specs.declared.Form.{Form}
 use Rattle.readers.specs.Call.{operands_of, is_bad}
 use Rattle.row.specs.Row.{lines, row_of}
-use Rattle.immediate.specs.Immediate.{immediate_in, immediate_of, target_in, target_of}
-use Rattle.immediate.specs.declared.outcome.Immediate.{Immediate}
-use Rattle.immediate.specs.declared.outcome.Target.{Target}
+use Rattle.immediate.specs.Immediate.{Immediate, immediate_in, immediate_of, Target, target_in, target_of}
 
 abbrev each : {A B : Type 0} → (A → B) → List A → List B
 each f [] = []
@@ -57,10 +55,10 @@ in_m form word = at 8 0 form word 0
 
 -- operands and values
 abbrev writes : List Operand → Reading
-writes = listed (position_of (some 0))
+writes = listed (Some 0)
 
 abbrev shows : List Operand → Reading
-shows = listed (position_of none)
+shows = listed Nowhere
 
 abbrev r0 : Operand
 r0 = GPRegister (record { 0 = 0 })
@@ -126,7 +124,7 @@ stated =
     ∷ in_i (i_form 21) (2 ^ 32) is writes (b0 ∷ r0 ∷ u 256 ∷ u 0 ∷ u 0 ∷ []) beside below 4096
     ∷ in_i (i_form 23) (2 ^ 36) is writes (PR ∷ r0 ∷ u 0 ∷ []) beside below 65536
     ∷ in_i (i_form 24) (2 ^ 6) is writes (PR ∷ u 1 ∷ []) beside i 65536
-    ∷ in_i (i_form 30) (2 ^ 12) is listed (position_of (some 1)) (p 64 ∷ p 0 ∷ u 0 ∷ []) beside u 32
+    ∷ in_i (i_form 30) (2 ^ 12) is listed (Some 1) (p 64 ∷ p 0 ∷ u 0 ∷ []) beside u 32
     ∷ in_m (m 42) 939524096 is shows (None ∷ []) alone
     ∷ in_x (x 2) (2 ^ 36) 0 is writes (r0 ∷ u (2 ^ 63) ∷ []) beside u (2 ^ 63)
     ∷ in_x (x 3) 0 4 is shows (u 2097152 ∷ []) beside i 16777216

@@ -15,9 +15,8 @@ use Rattle.opcodes.specs.Tables.{a_table, b_table, none}
 use Rattle.opcodes.specs.declared.Opcode.{Opcode}
 use Rattle.table.specs.Entry.{answered, chosen}
 use Rattle.table.proofs.Held.{all, held, told}
-use Rattle.choice.specs.Choice.{opcode_tables, opcode_table, refusals, choice_of, has_form}
+use Rattle.choice.specs.Choice.{opcode_tables, opcode_table, refusals, Choice, choice_of, has_form}
 use Rattle.choice.specs.Holds.{OnlyAOrB}
-use Rattle.choice.specs.declared.Chosen.{Chosen}
 
 abbrev in_a_or_b : Form → Bool
 in_a_or_b form = eqb form.family A || eqb form.family B
@@ -36,8 +35,8 @@ only-a-or-b n slot form h =
     let word = word_at n slot in
     let c = choice_of unit word in
     let has = and_yes (eqb c.answer accepted) (same_form c.form form) (subst T (sym h) tt) in
-    let taken = sym (answer-is (λ (x : Chosen). x.answer) (first (refusals unit word)) _ _ refl refl) ∙ eqb→eq c.answer accepted has.0 in
-    let chose = ap (λ (x : Chosen). x.form) (accepts (first (refusals unit word)) _ _ taken) in
+    let taken = sym (answer-is (λ (x : Choice). x.answer) (first (refusals unit word)) _ _ refl refl) ∙ eqb→eq c.answer accepted has.0 in
+    let chose = ap (λ (x : Choice). x.form) (accepts (first (refusals unit word)) _ _ taken) in
     let same = eqb→eq c.form.family form.family (and_yes (eqb c.form.family form.family) _ has.1).0 in
     ap (λ (k : ℕ). eqb k A || eqb k B) (sym same)
     ∙ ap in_a_or_b chose

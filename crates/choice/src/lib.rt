@@ -3,20 +3,19 @@
 
 ghost use Rattle.std.specs.Prelude.{◌≡◌};
 ghost use Rattle.bundle.specs.Bundle.{whole};
-ghost use Rattle.choice.specs.Choice.{no_choice, choice_of, word_has, has_form};
+ghost use Rattle.choice.specs.Choice.{choice_of, as_choice, word_has, has_form};
 ghost use Rattle.choice.specs.inner.Whole.{in_family};
 
-use answer::{ACCEPTED, BAD_OPCODE, BAD_WORD};
+use answer::Refusal;
 use bundle::Halves;
 use choice_a::named_a;
 use choice_b::named_b;
 use form::{A, B, Form, I, M};
 use opcodes::{Named, Opcode};
 
-// What `choose` hands back: no opcode and no form where it refuses.
+// The opcode and the form of a word.
 #[derive(Clone, Copy)]
 pub struct Chosen {
-    pub answer: u8,
     pub opcode: Opcode,
     pub form: Form,
 }
@@ -24,42 +23,29 @@ pub struct Chosen {
 const WORD: u64 = 1 << 41;
 
 // The opcode and the form that a word of the unit has. A unit is its letter's byte.
-pub fn choose(unit: u64, word: u64) -> Chosen
-    ensures { result ≡ choice_of unit word }
+pub fn choose(unit: u64, word: u64) -> Result<Chosen, Refusal>
+    ensures { as_choice result ≡ choice_of unit word }
 {
     if WORD <= word {
-        return refused(BAD_WORD);
+        return Err(Refusal::BadWord);
     }
     match unit {
         M | I => with_family(A, named_a(word)),
         B => with_family(B, named_b(word)),
-        _ => refused(BAD_OPCODE),
+        _ => Err(Refusal::BadOpcode),
     }
 }
 
-fn refused(answer: u8) -> Chosen
-    ensures { result ≡ no_choice answer }
+// The form's number is one of the family.
+fn with_family(family: u64, named: Option<Named>) -> Result<Chosen, Refusal>
+    ensures { as_choice result ≡ in_family family named }
 {
-    Chosen {
-        answer,
-        opcode: Opcode::No,
-        form: form::NO_FORM,
-    }
-}
-
-// The form's number is one of the family, and 0 where no entry answers.
-fn with_family(family: u64, named: Named) -> Chosen
-    ensures { result ≡ in_family family named }
-{
-    let opcode = named.0;
-    let number = named.1;
-    if number == 0 {
-        return refused(BAD_OPCODE);
-    }
-    Chosen {
-        answer: ACCEPTED,
-        opcode,
-        form: Form { family, number },
+    match named {
+        Some(Named(opcode, number)) => Ok(Chosen {
+            opcode,
+            form: Form { family, number },
+        }),
+        None => Err(Refusal::BadOpcode),
     }
 }
 
@@ -78,7 +64,8 @@ pub fn has_form(bundle: Halves, slot: u64, form: Form) -> bool
 fn word_has(unit: u8, word: u64, form: Form) -> bool
     ensures { result ≡ word_has unit word form }
 {
-    let chosen = choose(unit as u64, word);
-    let found = chosen.form;
-    (chosen.answer == ACCEPTED) & ((found.family == form.family) & (found.number == form.number))
+    match choose(unit as u64, word) {
+        Ok(chosen) => chosen.form == form,
+        Err(_) => false,
+    }
 }

@@ -1,5 +1,5 @@
 -- How a program was started, by its first two arguments. Assumes nothing.
-use Rattle.std.specs.Prelude.{ℕ, ◌-◌, Bool, cond, ◌&&◌, List, eqb, pos, negsuc, length, get_or}
+use Rattle.std.specs.Prelude.{ℕ, ◌-◌, Bool, cond, ◌&&◌, List, eqb, Some, None, length, get_or}
 use Rattle.table.specs.Ascii.{ascii}
 use Rattle.text.specs.Ascii.{within, same_text}
 use Rattle.console.specs.declared.start.Started.{Started}
@@ -12,6 +12,6 @@ is_descriptor word = eqb (length word) 1 && within 51 57 (get_or word 0 0)
 abbrev pub tells_status : List ℕ → List ℕ → Bool
 tells_status word number = same_text word (ascii "--status") && is_descriptor number
 
--- where they do, the status goes to that digit, and the program's own arguments begin with the third; else it goes nowhere, -1
+-- where they do, the status goes to that digit, and the program's own arguments begin with the third; else it goes nowhere
 abbrev pub started_by : List ℕ → List ℕ → Started
-started_by word number = cond (tells_status word number) (record { status = pos (get_or number 0 0 - 48); first = 3 }) (record { status = negsuc 0; first = 1 })
+started_by word number = cond (tells_status word number) (record { status = Some (get_or number 0 0 - 48); first = 3 }) (record { status = None; first = 1 })

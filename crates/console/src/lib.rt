@@ -8,31 +8,20 @@ ghost use Rattle.std.specs.Prelude.{◌≡◌};
 ghost use Rattle.std.specs.Counts.{IsPrefixLen};
 
 mod start;
+mod status;
 mod stderr;
 mod transfer;
 
 pub use start::Started;
+pub use status::Status;
 use std::env::FillError;
 use std::fs::OpenOptions;
 use std::io;
+use std::io::Write;
 use std::process::ExitCode;
 use std::rt::{Env, Files};
 pub use stderr::EprintBytes;
-pub use transfer::{Bytes, read, read_all, write_all};
-
-// The exit statuses: all was done; the input was refused; the arguments are wrong; the system failed; another has the lock.
-pub const DONE: u64 = 0;
-
-pub const REFUSED: u64 = 1;
-
-pub const USAGE: u64 = 2;
-
-pub const SYSTEM: u64 = 3;
-
-pub const LOCKED: u64 = 4;
-
-// What a shell tells of a program that writes where nobody reads: 128 and the number of the signal that ended it. No status is written then.
-pub const UNREAD: u64 = 141;
+pub use transfer::{CutOff, read, read_all, write_all};
 
 // How this program was started.
 pub fn started(rt: &impl Env) -> Started {
@@ -44,22 +33,22 @@ pub fn started(rt: &impl Env) -> Started {
 }
 
 // Writes the status, where there is a descriptor for it, and answers what the program ends with.
-pub fn end(rt: &impl Files, started: Started, status: u64) -> ExitCode {
-    if status == UNREAD {
-        return ExitCode::from(141);
+pub fn end(rt: &impl Files, started: Started, status: Status) -> ExitCode {
+    if status == Status::Unread {
+        return ExitCode::from(status.number());
     }
-    let Some(path) = start::path(started.status) else {
+    let Some(path) = started.status.and_then(start::path) else {
         return ExitCode::SUCCESS;
     };
     match put_status(rt, path, status) {
         Ok(()) => ExitCode::SUCCESS,
-        Err(_) => ExitCode::from((status % 256) as u8),
+        Err(_) => ExitCode::from(status.number()),
     }
 }
 
-fn put_status(rt: &impl Files, path: &str, status: u64) -> io::Result<()> {
+fn put_status(rt: &impl Files, path: &str, status: Status) -> io::Result<()> {
     let mut file = OpenOptions::new().write(true).open(rt, path)?;
-    io::Write::write_fmt(&mut file, status)
+    write!(file, "{}", status.number())
 }
 
 // Whether the program was given arguments of its own.
@@ -90,16 +79,16 @@ pub fn arg(rt: &impl Env, place: usize, word: &mut [u8]) -> usize
 }
 
 // Says on standard error how the program is used, which is the status then.
-pub fn misused(rt: &impl EprintBytes, usage: &[u8]) -> u64 {
+pub fn misused(rt: &impl EprintBytes, usage: &[u8]) -> Status {
     let _ = rt.eprint_bytes(usage);
-    USAGE
+    Status::Usage
 }
 
 // Says on standard error what failed and the system's word for it, which is the status then; where nobody reads, nothing is said.
-pub fn failed(rt: &impl EprintBytes, what: &[u8], error: &io::Error) -> u64 {
+pub fn failed(rt: &impl EprintBytes, what: &[u8], error: &io::Error) -> Status {
     if matches!(error.kind(), io::ErrorKind::BrokenPipe) {
-        return UNREAD;
+        return Status::Unread;
     }
     let _ = stderr::put_failure(rt, what, error);
-    SYSTEM
+    Status::System
 }

@@ -2,10 +2,10 @@
 ghost use Rattle.std.specs.Prelude.{◌≡◌};
 ghost use Rattle.console.specs.Started.{is_descriptor, tells_status, started_by};
 
-// The descriptor that the status is written to, or -1, and which argument is the first of the program's own.
+// The descriptor that the status is written to, where there is one, and which argument is the first of the program's own.
 #[derive(Clone, Copy)]
 pub struct Started {
-    pub status: i32,
+    pub status: Option<u8>,
     pub first: usize,
 }
 
@@ -15,12 +15,12 @@ pub fn started_by(word: &[u8], number: &[u8]) -> Started
 {
     if tells_status(word, number) {
         return Started {
-            status: (number[0] - b'0') as i32,
+            status: Some(number[0] - b'0'),
             first: 3,
         };
     }
     Started {
-        status: -1,
+        status: None,
         first: 1,
     }
 }
@@ -36,14 +36,11 @@ fn tells_status(word: &[u8], number: &[u8]) -> bool
 fn is_descriptor(word: &[u8]) -> bool
     ensures { result ≡ is_descriptor word.now }
 {
-    if word.len() != 1 {
-        return false;
-    }
-    (b'3' <= word[0]) & (word[0] <= b'9')
+    matches!(word, [b'3'..=b'9'])
 }
 
 // Where the descriptor can be opened, of those that can tell where the status goes.
-pub fn path(descriptor: i32) -> Option<&'static str> {
+pub fn path(descriptor: u8) -> Option<&'static str> {
     match descriptor {
         3 => Some("/proc/self/fd/3"),
         4 => Some("/proc/self/fd/4"),

@@ -36,12 +36,10 @@ pub fn put_failure(rt: &impl EprintBytes, what: &[u8], error: &io::Error) -> io:
 fn end_of_words(text: &[u8]) -> usize
     ensures { result ≤ length text.now }
 {
-    let mut end = 0;
-    while end < text.len() {
+    for end in 0..text.len() {
         if text[end] == 0 || text[end..].starts_with(b" (os error ") {
             return end;
         }
-        end += 1;
     }
-    end
+    text.len()
 }

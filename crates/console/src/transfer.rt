@@ -1,5 +1,5 @@
 // Bytes read and written. A call that a signal interrupts is made again.
-ghost use Rattle.std.specs.Prelude.{◌≡◌, IfOk};
+ghost use Rattle.std.specs.Prelude.{◌≡◌, IfOk, MatchResult};
 ghost use Rattle.std.specs.Counts.{IsPrefixLen};
 
 use std::io;
@@ -10,52 +10,37 @@ const TRIES: u64 = 1000;
 
 // Why not all was read, and how many bytes were.
 #[derive(Drop)]
-pub struct Bytes {
-    pub error: Option<io::Error>,
+pub struct CutOff {
+    pub error: io::Error,
     pub count: usize,
 }
 
-// Reads up to the file's end, or as far as there is room.
-pub fn read_all<F: Read>(file: &mut F, bytes: &mut [u8]) -> Bytes
-    ensures { IsPrefixLen result.count bytes.new }
+// Reads up to the file's end, or as far as there is room, and answers how many bytes.
+pub fn read_all<F: Read>(file: &mut F, bytes: &mut [u8]) -> Result<usize, CutOff>
+    ensures { MatchResult result (λ n. IsPrefixLen n bytes.new) (λ e. IsPrefixLen e.count bytes.new) }
 {
-    let mut at = 0;
-    while at < bytes.len() {
-        let more = read(file, &mut bytes[at..]);
-        if more.count == 0 {
-            return Bytes {
-                error: more.error,
-                count: at,
-            };
+    let mut count = 0;
+    while count < bytes.len() {
+        match read(file, &mut bytes[count..]) {
+            Ok(0) => return Ok(count),
+            Ok(more) => count += more,
+            Err(error) => return Err(CutOff { error, count }),
         }
-        at += more.count;
     }
-    Bytes {
-        error: None,
-        count: at,
-    }
+    Ok(count)
 }
 
 // Reads once, and again where a signal interrupts that: no byte is the file's end.
-pub fn read<F: Read>(file: &mut F, bytes: &mut [u8]) -> Bytes
-    ensures { IsPrefixLen result.count bytes.new }
+pub fn read<F: Read>(file: &mut F, bytes: &mut [u8]) -> io::Result<usize>
+    ensures { IfOk result (λ n. IsPrefixLen n bytes.new) }
 {
-    let mut tries = TRIES;
-    let mut got = file.read(bytes);
-    while 0 < tries {
+    for _ in 0..TRIES {
+        let got = file.read(bytes);
         if !is_interrupted(&got) {
-            break;
+            return got;
         }
-        got = file.read(bytes);
-        tries -= 1;
     }
-    match got {
-        Ok(count) => Bytes { error: None, count },
-        Err(error) => Bytes {
-            error: Some(error),
-            count: 0,
-        },
-    }
+    file.read(bytes)
 }
 
 // Writes the bytes up to `end`, or all where there are fewer, and answers whether they are written.
@@ -67,13 +52,13 @@ pub fn write_all<F: Write>(file: &mut F, bytes: &[u8], end: usize) -> io::Result
 }
 
 fn write_whole<F: Write>(file: &mut F, bytes: &[u8]) -> io::Result<()> {
-    let mut at = 0;
-    while at < bytes.len() {
-        let put = write(file, &bytes[at..])?;
+    let mut rest = bytes;
+    while !rest.is_empty() {
+        let put = write(file, rest)?;
         if put == 0 {
             return Err(io::Error::from(ErrorKind::WriteZero));
         }
-        at += put;
+        rest = &rest[put..];
     }
     Ok(())
 }
@@ -82,22 +67,16 @@ fn write_whole<F: Write>(file: &mut F, bytes: &[u8]) -> io::Result<()> {
 fn write<F: Write>(file: &mut F, bytes: &[u8]) -> io::Result<usize>
     ensures { IfOk result (λ n. IsPrefixLen n bytes.now) }
 {
-    let mut tries = TRIES;
-    let mut put = file.write(bytes);
-    while 0 < tries {
+    for _ in 0..TRIES {
+        let put = file.write(bytes);
         if !is_interrupted(&put) {
-            break;
+            return put;
         }
-        put = file.write(bytes);
-        tries -= 1;
     }
-    put
+    file.write(bytes)
 }
 
 // Whether a call that answered so was interrupted.
 fn is_interrupted(got: &io::Result<usize>) -> bool {
-    match got {
-        Ok(_) => false,
-        Err(error) => error.kind() == ErrorKind::Interrupted,
-    }
+    matches!(got, Err(error) if error.kind() == ErrorKind::Interrupted)
 }

@@ -10,7 +10,7 @@ use lib.Dec.{T}
 use lib.Ieee.Bits.{is_true}
 use lib.ListN.{length, drop}
 use lib.Seq.{take-append_seam}
-use Rattle.answer.specs.Answer.{Refusal, accepted, first}
+use Rattle.answer.specs.Answer.{Reason, accepted, first}
 use Rattle.bits.proofs.Laws.{part-lt}
 use Rattle.bundle.specs.Bundle.{longest_code, halves_of}
 use Rattle.bundle.proofs.Bytes.{Bytes}
@@ -45,7 +45,7 @@ changes-held party =
     }
 
 -- what a call wrote is the text, or nothing where it was refused
-by-wrote : (refusals : List Refusal) (text out : List ℕ) (kind : List ℕ → Wrote) (P : Wrote → Type 0) → P (kind text) → P nothing → P (wrote_as kind (wrote_of refusals text out))
+by-wrote : (refusals : List Reason) (text out : List ℕ) (kind : List ℕ → Wrote) (P : Wrote → Type 0) → P (kind text) → P nothing → P (wrote_as kind (wrote_of refusals text out))
 unfolding wrote_of
 by-wrote refusals text out kind P done refused =
     let a = first (whole_refusals refusals text out) in

@@ -5,7 +5,7 @@ use mathlib.Core.Bool.{Bool, true, false, not}
 use mathlib.Core.List.{List, [], ◌∷◌, ◌++◌}
 use Prim.Native.Nat.{ℕ}
 use native.Mathlib.Omega.{arith}
-use Rattle.answer.specs.Answer.{Refusal, accepted, bad_opcode, first}
+use Rattle.answer.specs.Answer.{Reason, accepted, bad_opcode, first}
 use Rattle.answer.proofs.Laws.{refuses, first_on, first-stop}
 use Rattle.bundle.specs.Bundle.{number_at}
 use Rattle.choice.specs.Choice.{has_form}
@@ -22,7 +22,7 @@ use Rattle.journal.specs.inner.Plan.{reading_refusals}
 use Rattle.demands.specs.Checked.{read_answer, HasForm, refused_by, CheckedEdits}
 
 -- what a party's edit comes to where the code has these reasons to refuse it, and where one of them or of the journal's applies
-module _ (code : List ℕ) (s : Shared) (party : ℕ) (refusals : List Refusal) (e : Edit) where
+module _ (code : List ℕ) (s : Shared) (party : ℕ) (refusals : List Reason) (e : Edit) where
   abbrev pub new_by : SharedOutcome
   new_by = by_party s party (make_of party (places_of s.parties party) code (served_of s party) refusals (field e ∷ []))
 
@@ -39,7 +39,7 @@ module _ (code : List ℕ) (s : Shared) (party : ℕ) (e : Edit) where
   held = served_of s party
 
   -- what its refusals end with, past those of reading
-  abbrev rest : Bool → List Refusal
+  abbrev rest : Bool → List Reason
   rest b =
       let places = places_of s.parties party in
       (bad_opcode, not b) ∷ value_refusals (row_of e.form) e.value ++ room_refusals places (view_of party places held) 1

@@ -5,7 +5,7 @@ use mathlib.Core.List.{List, [], ◌∷◌, ◌++◌, drop_last, get_last_d}
 use Prim.Native.Nat.{ℕ, ◌+◌}
 use lib.Dec.{ltb}
 use lib.ListN.{length}
-use Rattle.answer.specs.Answer.{Refusal, accepted, full, bad_journal, first, outcome}
+use Rattle.answer.specs.Answer.{Reason, accepted, full, bad_journal, first, outcome}
 use Rattle.bits.specs.Part.{bit}
 use Rattle.bundle.specs.Bundle.{number_at, whole}
 use Rattle.bundle.proofs.Bytes.{Bytes}
@@ -51,7 +51,7 @@ module _ (party places : ℕ) (code : List ℕ) (rs : List Record) (valid : vali
   shown = journal-shows party places rs valid
 
   -- changes
-  pub make-of : (refusals : List Refusal) (cs : List Change) (a : ℕ) → first (refusals ++ (full, ltb places (length rs + length cs)) ∷ []) ≡ a
+  pub make-of : (refusals : List Reason) (cs : List Change) (a : ℕ) → first (refusals ++ (full, ltb places (length rs + length cs)) ∷ []) ≡ a
       → make_of party places code (journal_of places rs) refusals cs
       ≡ outcome a
       (record { answer = accepted; journal = journal_of places (rs ++ records_of party code cs); code = made_all code cs })

@@ -10,6 +10,7 @@ pub mod Loaded
 pub mod Newest
 pub mod Old
 pub mod Order
+pub mod Outcomes
 pub mod Parties
 pub mod Reached
 pub mod Retired

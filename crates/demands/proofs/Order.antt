@@ -11,7 +11,7 @@ use native.Mathlib.Omega.{arith}
 use borrow.Author.Tests.{le-ltb, eq-eqb, ne_eqb, not-false}
 use lib.Dec.{T, ltb}
 use lib.ListN.{length, length-append}
-use Rattle.answer.specs.Answer.{Refusal, accepted, full}
+use Rattle.answer.specs.Answer.{Reason, accepted, full}
 use Rattle.answer.proofs.Laws.{first_on}
 use Rattle.bits.specs.Parts.{Parts, scatter, meet_not}
 use Rattle.bundle.specs.Bundle.{number_at, tag_of, find_refusals, find_answer}
@@ -63,7 +63,7 @@ module _ (code : List ℕ) (b : Bytes code) (d : Edit) (takes : Fits code d) whe
 
   -- and one e that the code takes too
   module _ (e : Edit) (fits : Fits code e) where
-    abbrev asked : ℕ → List Refusal
+    abbrev asked : ℕ → List Reason
     asked n = change_with (retired_refusal e ∷ []) [] n e
 
     -- is acceptable still: its bundle's tag decides that, and its form

@@ -4,7 +4,7 @@ use mathlib.Core.Path.{◌≡◌, refl, sym, ap, ◌∙◌}
 use mathlib.Core.List.{List, [], ◌∷◌, ◌++◌}
 use Prim.Native.Nat.{ℕ, ◌<◌, ◌^◌}
 use lib.Dec.{T}
-use Rattle.answer.specs.Answer.{Refusal, accepted, first}
+use Rattle.answer.specs.Answer.{Reason, accepted, first}
 use Rattle.answer.proofs.Laws.{numbered, accepts, answered}
 use Rattle.bundle.specs.Bundle.{number_at}
 use Rattle.bundle.proofs.Bytes.{Bytes}
@@ -26,7 +26,7 @@ use Rattle.demands.proofs.Edits.{Fits}
 use Rattle.demands.proofs.Changes.{changed-lies, changed-number}
 
 -- a call that makes one edit, where it is accepted: the code had no reason to refuse it, and is changed by it
-module _ (party places : ℕ) (code : List ℕ) (journal : Journal) (refusals : List Refusal) (n : T (numbered refusals)) (e : Edit) where
+module _ (party places : ℕ) (code : List ℕ) (journal : Journal) (refusals : List Reason) (n : T (numbered refusals)) (e : Edit) where
   abbrev after : Outcome
   after = make_of party places code journal refusals (field e ∷ [])
 
@@ -49,7 +49,7 @@ module _ (code : List ℕ) (k slot : ℕ) (form : Form) (address wanted : ℕ) (
       reached-in (changed code (field edit)) (number_at code k) k slot form address wanted ha hw d (changed-answer (number_at code k) edit ∙ taken-changes code edit fits)
       (found-when (changed code (field edit)) k (changed-lies code (field edit) fits)) (changed-number code (field edit) fits b)
 
-  reaches : (party places : ℕ) (journal : Journal) (refusals : List Refusal) (n : T (numbered refusals)) → (first refusals ≡ accepted → Fits code edit)
+  reaches : (party places : ℕ) (journal : Journal) (refusals : List Reason) (n : T (numbered refusals)) → (first refusals ≡ accepted → Fits code edit)
       → let o = make_of party places code journal refusals (field edit ∷ []) in
       o.answer ≡ accepted → target_of o.code k slot form address ≡ record { answer = accepted; address = wanted }
   reaches party places journal refusals n fits a = let m = made party places code journal refusals n edit a in rw m.1 (there (fits m.0))

@@ -7,7 +7,7 @@ use Prim.Native.Nat.{ℕ}
 use native.Mathlib.Omega.{arith}
 use borrow.Author.Tests.{not-true}
 use lib.Ieee.Bits.{is_true}
-use Rattle.answer.specs.Answer.{Refusal, first, accepted, bad_bundle, retired}
+use Rattle.answer.specs.Answer.{Reason, first, accepted, bad_bundle, retired}
 use Rattle.answer.proofs.Laws.{first_on, first-stop}
 use Rattle.bundle.specs.Template.{unitless}
 use Rattle.bundle.specs.Bundle.{number_at, units_in, find_refusals}
@@ -31,20 +31,20 @@ unfolding row_of
 has-row form h = not-true _ (is_true _ (among-all (λ f. not (is_none (row_of f))) form retired_forms tt h))
 
 module _ (code : List ℕ) (s : Shared) (party : ℕ) (e : Edit) (h : is_retired e.form ≡ true) where
-  abbrev begin : List Refusal
+  abbrev begin : List Reason
   begin = find_refusals code e.bundle ++ ((bad_bundle, unitless (units_in (number_at code e.bundle))) ∷ [])
 
-  abbrev room : List Refusal
+  abbrev room : List Reason
   room = let places = places_of s.parties party in room_refusals places (view_of party places (served_of s party)) 1
 
   -- what a list of refusals of a new edit comes to, whatever more is asked
-  answers : (late : List Refusal) → first (refusals_with (retired_refusal e ∷ []) late code e ++ room) ≡ first (begin ++ ((retired, true) ∷ behind late code e ++ room))
+  answers : (late : List Reason) → first (refusals_with (retired_refusal e ∷ []) late code e ++ room) ≡ first (begin ++ ((retired, true) ∷ behind late code e ++ room))
   answers late = rw (h, has-row e.form h)
 
-  both : (a : ℕ) → ((rest : List Refusal) → first (begin ++ ((retired, true) ∷ rest)) ≡ a) → (a ≡ accepted → ⊥) → Both code s party e (refused_by code s a)
+  both : (a : ℕ) → ((rest : List Reason) → first (begin ++ ((retired, true) ∷ rest)) ≡ a) → (a ≡ accepted → ⊥) → Both code s party e (refused_by code s a)
   both a q d = (by [], by (form_refusal code e ∷ []))
     where
-      by : (late : List Refusal) → new_by code s party (refusals_with (retired_refusal e ∷ []) late code e) e ≡ refused_by code s a
+      by : (late : List Reason) → new_by code s party (refusals_with (retired_refusal e ∷ []) late code e) e ≡ refused_by code s a
       by late = new-refused code s party (refusals_with (retired_refusal e ∷ []) late code e) e a (answers late ∙ q (behind late code e ++ room)) d
 
 pub new-edits-end : NewEditsEnd

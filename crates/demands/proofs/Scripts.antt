@@ -20,8 +20,7 @@ use Rattle.text.specs.Ascii.{newline}
 use Rattle.script.specs.Line.{in_first, lines_of, asked_in}
 use Rattle.script.specs.Script.{SoFar, standing_of, answer_line, bad_script, gone_on, stopped_at, asked, line_by, lines_by, longest_line, fitting, run_by, begun, ended_in}
 use Rattle.script.specs.inner.Going.{line_at}
-use Rattle.script.specs.declared.line.Asked.{Asked}
-use Rattle.script.specs.declared.line.Asked.TheVariants.{Does, Nothing}
+use Rattle.std.specs.Prelude.{Option, Some, None}
 use Rattle.script.proofs.Lines.{line_first, line-some}
 use Rattle.script.proofs.Turns.{line-moves, lines-stopped, runs-no-further, runs-line}
 use Rattle.demands.specs.Across.{SheetCall, call, own_sheets, State}
@@ -75,12 +74,12 @@ line-anew : (party : ℕ) (s : SoFar) (l : List ℕ) → line_by party s l ≡ j
 unfolding line_by
 line-anew party s l = by-stop s.stopped
   where
-    by-asked : (a : Asked) → asked party s l a ≡ joined s (asked party (anew s) l a)
-    by-asked (Does act) =
+    by-asked : (a : Option Act) → asked party s l a ≡ joined s (asked party (anew s) l a)
+    by-asked (Some act) =
         let t = gone_on party s l (act_by s.code s.journal party act) in
         let on : s.done + length l ≡ s.done + (0 + length l) = omega arith in
         λ i. record { journal = t.journal; code = t.code; next = t.next; stopped = false; done = on i; written = t.written }
-    by-asked Nothing =
+    by-asked None =
         let t = stopped_at party s in
         λ i. record { journal = t.journal; code = t.code; next = t.next; stopped = true; done = sym (add-zero s.done) i; written = t.written }
 
@@ -186,12 +185,12 @@ module _ (s : Shared) (codes : ℕ → List ℕ) (party : ℕ) where
   lines_called [] calls next done written = (refl, refl)
   lines_called (l ∷ ls) calls next done written = go (asked_in next l) (lines_called ls)
     where
-      go : (a : Asked) → ((calls : List (ℕ × SheetCall)) (next done : ℕ) (written : List ℕ) → After (lines_by party (told calls next done written) ls) (then_lines party next ls calls))
+      go : (a : Option Act) → ((calls : List (ℕ × SheetCall)) (next done : ℕ) (written : List ℕ) → After (lines_by party (told calls next done written) ls) (then_lines party next ls calls))
           → After (lines_by party (asked party (told calls next done written) l a) ls) (after_asked a (λ act. then_lines party ((next + 1) % 2 ^ 64) ls ((party, call (call_of act)) ∷ calls)) calls)
-      go (Does act) rec =
+      go (Some act) rec =
           subst (λ (u : SoFar). After (lines_by party u ls) (then_lines party ((next + 1) % 2 ^ 64) ls ((party, call (call_of act)) ∷ calls)))
           (sym (act-called calls next done written l act)) (rec _ _ _ _)
-      go Nothing rec =
+      go None rec =
           let u = stopped_at party (told calls next done written) in
           subst (λ (v : SoFar). After v calls) (sym (lines-stopped party u refl ls)) (refl, refl)
 
@@ -203,10 +202,10 @@ module _ (s : Shared) (codes : ℕ → List ℕ) (party : ℕ) where
   lines-others [] calls next q d = refl
   lines-others (l ∷ ls) calls next q d = go (asked_in next l) (lines-others ls)
     where
-      go : (a : Asked) → ((calls : List (ℕ × SheetCall)) (next q : ℕ) → (q ≡ party → ⊥) → (mixed s codes (then_lines party next ls calls)).code q ≡ (mixed s codes calls).code q)
+      go : (a : Option Act) → ((calls : List (ℕ × SheetCall)) (next q : ℕ) → (q ≡ party → ⊥) → (mixed s codes (then_lines party next ls calls)).code q ≡ (mixed s codes calls).code q)
           → (mixed s codes (after_asked a (λ act. then_lines party ((next + 1) % 2 ^ 64) ls ((party, call (call_of act)) ∷ calls)) calls)).code q ≡ (mixed s codes calls).code q
-      go (Does act) rec = rec ((party, call (call_of act)) ∷ calls) _ q d ∙ call-others calls act q d
-      go Nothing rec = refl
+      go (Some act) rec = rec ((party, call (call_of act)) ∷ calls) _ q d ∙ call-others calls act q d
+      go None rec = refl
 
 pub script-is-calls : ScriptIsCalls
 script-is-calls s codes calls party next true text out =
@@ -225,10 +224,10 @@ lines-own : (party : ℕ) (ls : List (List ℕ)) (calls : List (ℕ × SheetCall
 lines-own party [] calls next t = t
 lines-own party (l ∷ ls) calls next t = go (asked_in next l) (lines-own party ls)
   where
-    go : (a : Asked) → ((calls : List (ℕ × SheetCall)) (next : ℕ) → T (own_sheets (calls_of party calls)) → T (own_sheets (calls_of party (then_lines party next ls calls))))
+    go : (a : Option Act) → ((calls : List (ℕ × SheetCall)) (next : ℕ) → T (own_sheets (calls_of party calls)) → T (own_sheets (calls_of party (then_lines party next ls calls))))
         → T (own_sheets (calls_of party (after_asked a (λ act. then_lines party ((next + 1) % 2 ^ 64) ls ((party, call (call_of act)) ∷ calls)) calls)))
-    go (Does act) rec = rec ((party, call (call_of act)) ∷ calls) _ (rw (eq-eqb party party refl) t)
-    go Nothing rec = t
+    go (Some act) rec = rec ((party, call (call_of act)) ∷ calls) _ (rw (eq-eqb party party refl) t)
+    go None rec = t
 
 script-own : (code : List ℕ) (s : Shared) (party next : ℕ) (stopped : Bool) (text out : List ℕ) (calls : List (ℕ × SheetCall)) → T (own_sheets (calls_of party calls))
     → T (own_sheets (calls_of party (then_script code s party next stopped text out calls)))
@@ -288,8 +287,8 @@ module _ (s : Shared) (codes : ℕ → List ℕ) (bytes : AreCodes codes) (party
   alike [] calls next done written = λ i. ((same calls i).after.journal, (same calls i).after.code, next, false, done, written)
   alike (l ∷ ls) calls next done written = by-room (leb (length written + longest_line) room) (alike ls)
     where
-      by-asked : (a : Asked) → Alike ls → seen (ran (asked party (told s codes party calls next done written) l a) ls) ≡ seen (ran (asked party (told s codes party (alone calls) next done written) l a) ls)
-      by-asked (Does act) rec =
+      by-asked : (a : Option Act) → Alike ls → seen (ran (asked party (told s codes party calls next done written) l a) ls) ≡ seen (ran (asked party (told s codes party (alone calls) next done written) l a) ls)
+      by-asked (Some act) rec =
           let more : List (ℕ × SheetCall) = (party, call (call_of act)) ∷ calls in
           let on = (next + 1) % 2 ^ 64 in
           let is-alone = alone-more (call (call_of act)) calls in
@@ -298,7 +297,7 @@ module _ (s : Shared) (codes : ℕ → List ℕ) (bytes : AreCodes codes) (party
           ∙ ap₂ (λ (cs : List (ℕ × SheetCall)) (w : List ℕ). seen (ran (told s codes party cs on (done + length l) (written ++ w)) ls)) is-alone
           (same-answers more next ∙ ap (λ (cs : List (ℕ × SheetCall)). answers s codes party cs next) is-alone)
           ∙ sym (ap (λ (v : SoFar). seen (ran v ls)) (act-called s codes party (alone calls) next done written l act))
-      by-asked Nothing rec =
+      by-asked None rec =
           let v = stopped_at party (told s codes party calls next done written) in
           let w = stopped_at party (told s codes party (alone calls) next done written) in
           ap seen (lines-stopped party v refl (fitting party room v ls))

@@ -7,8 +7,7 @@ use Rattle.bundle.specs.Bundle.{longest_code}
 use Rattle.records.specs.Journal.{limit}
 use Rattle.journal.specs.Change.{Outcome, with_code}
 use Rattle.demands.specs.Demand3.{Call, step, run, Holds}
-use Rattle.text.specs.Whole.{wrote_of}
-use Rattle.text.specs.declared.whole.Written.{Written}
+use Rattle.text.specs.Whole.{Written, wrote_of}
 use Rattle.sheet.specs.Sheet.{sheet_of, sheet_line, write_refusals}
 use Rattle.sheet.specs.Load.{load_of}
 

@@ -4,7 +4,7 @@
 -- It is about `make_of`, `undo_of` and `fold_of`, by which the contracts of the calls say all that they do with a party's journal (`ByContract` in
 -- `Parties.antt`): between this statement and the code stand those contracts and nothing else. Assumes nothing.
 use Rattle.std.specs.Prelude.{ℕ, ◌+◌, ◌≤◌, ◌<◌, ◌^◌, ◌≡◌, cond, List, [], ◌∷◌, ◌++◌, map, ltb, eqb, length, get_or, drop, replicate}
-use Rattle.answer.specs.Answer.{Refusal, first, outcome, accepted, empty, full}
+use Rattle.answer.specs.Answer.{Reason, first, outcome, accepted, empty, full}
 use Rattle.bundle.specs.Bundle.{longest_code, number_at}
 use Rattle.form.specs.declared.Edit.{Edit}
 use Rattle.records.specs.Journal.{Journal, standing, journal_of}
@@ -19,7 +19,7 @@ pub data Making : Type 0 where
   checked : Edit → Making
 
 -- when the code refuses one
-abbrev pub refusals_of : List ℕ → Making → List Refusal
+abbrev pub refusals_of : List ℕ → Making → List Reason
 refusals_of code (edit e) = code_refusals code e
 refusals_of code (checked e) = checked_refusals code e
 

@@ -1,6 +1,6 @@
 -- Scripts (02's #107): what a script comes to, cut between two lines or by the room for its answers, and that it is among the calls of demand 3
 -- and of independence: it is the calls of its lines, one after the other. Proved in `proofs/Scripts.antt`. Assumes nothing.
-use Rattle.std.specs.Prelude.{ℕ, ◌+◌, ◌%◌, ◌^◌, ◌≤◌, ◌<◌, ◌≡◌, Bool, true, cond, List, [], ◌∷◌, ◌++◌, T, length, drop}
+use Rattle.std.specs.Prelude.{ℕ, ◌+◌, ◌%◌, ◌^◌, ◌≤◌, ◌<◌, ◌≡◌, Bool, true, cond, List, [], ◌∷◌, ◌++◌, Option, Some, None, T, length, drop}
 use Rattle.bundle.specs.Bundle.{longest_code}
 use Rattle.journal.specs.Change.{made_all, records_of}
 use Rattle.journal.specs.declared.Act.{Act}
@@ -10,8 +10,6 @@ use Rattle.records.specs.Shared.{Shared, own_of, places_of, serves, is_opened, f
 use Rattle.text.specs.Ascii.{newline}
 use Rattle.script.specs.Line.{lines_of, asked_in}
 use Rattle.script.specs.Script.{SoFar, lines_by, fitting, run_by, begun, PartOutcome, ended_in, script_by}
-use Rattle.script.specs.declared.line.Asked.{Asked}
-use Rattle.script.specs.declared.line.Asked.TheVariants.{Does, Nothing}
 use Rattle.demands.specs.Demand3.{Call, edit, checked, make, undo, standing_changes}
 use Rattle.demands.specs.Across.{SheetCall, call, plain, own_sheets}
 use Rattle.demands.specs.Parties.{mixed, calls_of, alone_of, AreCodes}
@@ -58,9 +56,9 @@ call_of (Checked e) = make (checked e)
 call_of Undo = undo
 
 -- what comes after what a line asks, or where it asks nothing
-abbrev pub after_asked {ℓ} : {A : Type ℓ} → Asked → (Act → A) → A → A
-after_asked (Does act) more other = more act
-after_asked Nothing more other = other
+abbrev pub after_asked {ℓ} : {A : Type ℓ} → Option Act → (Act → A) → A → A
+after_asked (Some act) more other = more act
+after_asked None more other = other
 
 -- some calls, and then those of a party's lines that are done while this number is expected; the last stands first
 abbrev pub then_lines : ℕ → ℕ → List (List ℕ) → List (ℕ × SheetCall) → List (ℕ × SheetCall)

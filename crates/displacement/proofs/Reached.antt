@@ -19,13 +19,11 @@ use Rattle.meaning.specs.declared.Meaning.TheVariants.{Signed}
 use Rattle.meaning.proofs.Patterns.{operand-of-pattern}
 use Rattle.row.specs.Row.{Row, is_none, target_row_of}
 use Rattle.row.proofs.Rows.{good-has, target-good, target-16, target-own}
-use Rattle.immediate.specs.Immediate.{read_refusals, target_refusals, value_in, raw_for, changed_number, displacement_in, no_target, target_in, target_of}
-use Rattle.immediate.specs.declared.outcome.Target.{Target}
+use Rattle.immediate.specs.Immediate.{read_refusals, target_refusals, value_in, raw_for, changed_number, displacement_in, Target, no_target, target_in, target_of}
 use Rattle.immediate.proofs.Laws.{read-sound, changed-answer, change-read, changed-value, changed-tag}
 use Rattle.immediate.proofs.Written.{raw-there}
-use Rattle.displacement.specs.Displacement.{distance, reaching, displacement_refusals, displacement_of}
+use Rattle.displacement.specs.Displacement.{Displacement, distance, reaching, displacement_refusals, displacement_of}
 use Rattle.displacement.specs.Reached.{reaching_edit, Reached, ReachedIn, OnlyValue, GivenBack}
-use Rattle.displacement.specs.declared.outcome.Displacement.{Displacement}
 
 -- a pattern is that of its integer
 pattern-integer : (p : ℕ) → p < 2 ^ 64 → pattern_of (integer_of p) ≡ p

@@ -1,45 +1,23 @@
 // The value that makes an address the target of a form: what `target` undoes.
 #![tactic(auto)]
 
-mod outcome;
-
 ghost use Rattle.std.specs.Prelude.{◌≡◌};
-ghost use Rattle.displacement.specs.Displacement.{no_displacement, displacement_of};
+ghost use Rattle.displacement.specs.Displacement.{as_displacement, displacement_of};
 
-use answer::{ACCEPTED, BAD_FORM, BAD_VALUE};
+use answer::Refusal;
 use form::Form;
-use meaning::Meaning;
 use operand::Operand;
-pub use outcome::Displacement;
-use row::NONE;
 
 // The value that makes `wanted` the target of a form in the bundle at an address.
-pub fn displacement(form: Form, address: u64, wanted: u64) -> Displacement
-    ensures { result ≡ displacement_of form address wanted }
+#[tactic(auto, unfolding(crate::specs::Displacement::displacement_of))]
+pub fn displacement(form: Form, address: u64, wanted: u64) -> Result<Operand, Refusal>
+    ensures { as_displacement result ≡ displacement_of form address wanted }
 {
-    let packed = row::packed_target_of(form);
-    if packed.kind == NONE {
-        return no_displacement(BAD_FORM);
-    }
+    let row = row::packed_target_of(form).ok_or(Refusal::BadForm)?;
     if address % 16 != 0 {
-        return no_displacement(BAD_VALUE);
+        return Err(Refusal::BadValue);
     }
-    let distance = std::num::wrapping_sub_u64(wanted, address);
-    let raw = meaning::raw_of(Meaning::Signed(16), packed.width, distance);
-    if raw.answer != ACCEPTED {
-        return no_displacement(BAD_VALUE);
-    }
-    Displacement {
-        answer: ACCEPTED,
-        value: Operand::ImmI64(operand::integer(distance)),
-    }
-}
-
-fn no_displacement(answer: u8) -> Displacement
-    ensures { result ≡ no_displacement answer }
-{
-    Displacement {
-        answer,
-        value: Operand::None,
-    }
+    let distance = wanted.wrapping_sub(address);
+    meaning::raw_of(row.meaning, row.width, distance)?;
+    Ok(Operand::ImmI64(distance.cast_signed()))
 }

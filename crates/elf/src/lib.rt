@@ -3,11 +3,10 @@
 
 ghost use Rattle.std.specs.Prelude.{◌≡◌, ◌+◌, ◌*◌, ◌≤◌, ◌<◌, leb, length};
 ghost use Rattle.answer.specs.Answer.{first};
-ghost use Rattle.elf.specs.Elf.{is_elf, elf_refusals, tables_of, elf_header, header_place, section_of, segment_of};
+ghost use Rattle.elf.specs.Elf.{is_elf, elf_refusals, as_taken, as_header, tables_of, elf_header, header_place, Lies, part_by, section_of, segment_of};
 ghost use Rattle.elf.specs.Elf.{field};
 
-use answer::ACCEPTED;
-use window::{Extent, Place};
+use window::Extent;
 
 // How many bytes a header, a section header and a program header have.
 pub const HEADER: usize = 64;
@@ -17,13 +16,13 @@ pub const SECTION: usize = 64;
 pub const SEGMENT: usize = 56;
 
 // Why an ELF file can't be taken.
-pub const NOT_CLASS_64: u8 = 1;
-
-pub const NOT_LITTLE_ENDIAN: u8 = 2;
-
-pub const NOT_ITANIUM: u8 = 3;
-
-pub const RELOCATABLE: u8 = 4;
+#[derive(Clone, Copy, PartialEq, Eq)]
+pub enum Refusal {
+    NotClass64,
+    NotLittleEndian,
+    NotItanium,
+    Relocatable,
+}
 
 // The first four bytes, 7f and ELF, as a number.
 const MAGIC: u64 = 0x464c457f;
@@ -44,33 +43,44 @@ pub struct Tables {
     pub segments: Table,
 }
 
-// A file that is no ELF file, one that can't be taken, or where a linked file's headers stand.
+// Where a header of a part has its kind, its flags of so many bytes and among them the bit of what is executed, and its part's offset.
 #[derive(Clone, Copy)]
-pub enum File {
-    Raw,
-    Refused(u8),
-    Linked(Tables),
+struct Fields {
+    header: usize,
+    kind: usize,
+    flags: usize,
+    width: usize,
+    executed: u64,
+    offset: usize,
 }
 
-const NO_EXTENT: Extent = Extent {
-    code: false,
-    address: 0,
-    offset: 0,
-    size: 0,
+const OF_SECTION: Fields = Fields {
+    header: SECTION,
+    kind: 4,
+    flags: 8,
+    width: 8,
+    executed: 2,
+    offset: 24,
 };
 
-// What a file's first 64 bytes say.
-pub fn header(bytes: &[u8]) -> File
-    ensures { result ≡ elf_header bytes.now }
+const OF_SEGMENT: Fields = Fields {
+    header: SEGMENT,
+    kind: 0,
+    flags: 4,
+    width: 4,
+    executed: 0,
+    offset: 8,
+};
+
+// What a file's first 64 bytes say: where a linked file's headers stand; of one that is no ELF file nothing.
+pub fn header(bytes: &[u8]) -> Result<Option<Tables>, Refusal>
+    ensures { as_header result ≡ elf_header bytes.now }
 {
     if !is_elf(bytes) {
-        return File::Raw;
+        return Ok(None);
     }
-    let refusal = refusal_of(bytes);
-    if refusal != ACCEPTED {
-        return File::Refused(refusal);
-    }
-    File::Linked(tables_of(bytes))
+    taken(bytes)?;
+    Ok(Some(tables_of(bytes)))
 }
 
 // Whether they are those of an ELF file.
@@ -83,24 +93,24 @@ fn is_elf(bytes: &[u8]) -> bool
     field(bytes, 0, 4) == MAGIC
 }
 
-// The first refusal that applies.
-fn refusal_of(bytes: &[u8]) -> u8
+// Whether an ELF file can be taken; where it can't, the first refusal that applies.
+fn taken(bytes: &[u8]) -> Result<(), Refusal>
     requires { 64 ≤ length bytes.now }
-    ensures { result ≡ first (elf_refusals bytes.now) }
+    ensures { as_taken result ≡ first (elf_refusals bytes.now) }
 {
     if field(bytes, 4, 1) != 2 {
-        return NOT_CLASS_64;
+        return Err(Refusal::NotClass64);
     }
     if field(bytes, 5, 1) != 1 {
-        return NOT_LITTLE_ENDIAN;
+        return Err(Refusal::NotLittleEndian);
     }
     if field(bytes, 18, 2) != ITANIUM {
-        return NOT_ITANIUM;
+        return Err(Refusal::NotItanium);
     }
     if field(bytes, 16, 2) == 1 {
-        return RELOCATABLE;
+        return Err(Refusal::Relocatable);
     }
-    ACCEPTED
+    Ok(())
 }
 
 fn tables_of(bytes: &[u8]) -> Tables
@@ -121,22 +131,18 @@ fn tables_of(bytes: &[u8]) -> Tables
 }
 
 // Where header k of a table stands in a file of so many bytes, of which it takes `need`.
-pub fn entry_of(table: Table, k: u64, need: u64, length: u64) -> Place
+pub fn entry_of(table: Table, k: u64, need: u64, length: u64) -> Option<u64>
     ensures { result ≡ header_place table k need length }
 {
     if table.count <= k {
-        return Place::Nowhere;
+        return None;
     }
-    if length < need {
-        return Place::Nowhere;
+    let last = length.checked_sub(need)?;
+    let room = last.checked_sub(table.offset)?;
+    if !is_within(table.size, k, room) {
+        return None;
     }
-    if length - need < table.offset {
-        return Place::Nowhere;
-    }
-    if !is_within(table.size, k, length - need - table.offset) {
-        return Place::Nowhere;
-    }
-    Place::At(table.offset + table.size * k)
+    Some(table.offset + table.size * k)
 }
 
 // Whether a product is at most so much.
@@ -150,55 +156,43 @@ fn is_within(a: u64, b: u64, most: u64) -> bool
 }
 
 // What a section header's 64 bytes say.
-pub fn section(bytes: &[u8]) -> Extent
+pub fn section(bytes: &[u8]) -> Option<Extent>
     ensures { result ≡ section_of bytes.now }
 {
-    if bytes.len() < SECTION {
-        return NO_EXTENT;
-    }
-    let kind = field(bytes, 4, 4);
-    let flags = field(bytes, 8, 8);
-    Extent {
-        code: (kind == 1) & ((flags >> 2) % 2 == 1),
-        address: field(bytes, 16, 8),
-        offset: field(bytes, 24, 8),
-        size: field(bytes, 32, 8),
-    }
+    part_of(bytes, OF_SECTION)
 }
 
 // What a program header's 56 bytes say.
-pub fn segment(bytes: &[u8]) -> Extent
+pub fn segment(bytes: &[u8]) -> Option<Extent>
     ensures { result ≡ segment_of bytes.now }
 {
-    if bytes.len() < SEGMENT {
-        return NO_EXTENT;
-    }
-    let kind = field(bytes, 0, 4);
-    let flags = field(bytes, 4, 4);
-    Extent {
-        code: (kind == 1) & (flags % 2 == 1),
-        address: field(bytes, 16, 8),
-        offset: field(bytes, 8, 8),
-        size: field(bytes, 32, 8),
-    }
+    part_of(bytes, OF_SEGMENT)
 }
 
-// The number in so many bytes from an offset on, from the last byte down.
+// What a header says whose fields stand so.
+fn part_of(bytes: &[u8], of: Fields) -> Option<Extent>
+    requires { Lies of }
+    ensures { result ≡ part_by of bytes.now }
+{
+    if bytes.len() < of.header {
+        return None;
+    }
+    let kind = field(bytes, of.kind, 4);
+    let flags = field(bytes, of.flags, of.width);
+    Some(Extent {
+        code: (kind == 1) & ((flags >> of.executed) % 2 == 1),
+        address: field(bytes, 16, 8),
+        offset: field(bytes, of.offset, 8),
+        size: field(bytes, 32, 8),
+    })
+}
+
+// The number in so many bytes from an offset on.
 fn field(bytes: &[u8], at: usize, width: usize) -> u64
     requires { (width ≤ 8) × (at + width ≤ length bytes.now) }
     ensures { result ≡ field bytes.now at width }
 {
-    let mut value = 0;
-    let mut left = width;
-    while 0 < left {
-        left -= 1;
-        value = value * 256 + wide(bytes[at + left]);
-    }
-    value
-}
-
-fn wide(byte: u8) -> u64
-    ensures { (result ≡ byte) × (result < 256) }
-{
-    byte as u64
+    let mut eight = [0; 8];
+    eight[..width].copy_from_slice(&bytes[at..at + width]);
+    u64::from_le_bytes(eight)
 }

@@ -1,69 +1,46 @@
 // Texts in the folder, read and replaced whole.
-use crate::names;
-use message::{failed, said};
+use crate::Folder;
+use console::Status;
 use std::fs::File;
 use std::io;
 use std::io::ErrorKind;
 
-// How many bytes were read; that there is no such file; or that it can't be read, which was said.
-#[derive(Clone, Copy)]
-pub enum Text {
-    Bytes(usize),
-    Missing,
-    Failed,
-}
-
-pub fn read(rt: &HostRuntime, name: &[u8], leaf: &[u8], bytes: &mut [u8]) -> Text {
-    match names::open(rt, name, leaf) {
-        Ok(file) => read_of(rt, name, file, bytes),
-        Err(error) => missing(rt, name, &error),
+impl Folder<'_> {
+    // A text, where there is such a file; that it can't be read is said.
+    pub(crate) fn read<'b>(
+        &self,
+        leaf: &[u8],
+        bytes: &'b mut [u8],
+    ) -> Result<Option<&'b [u8]>, Status> {
+        match self.open(leaf) {
+            Ok(file) => self.read_of(file, bytes).map(Some),
+            Err(error) if error.kind() == ErrorKind::NotFound => Ok(None),
+            Err(error) => Err(self.failed(&error)),
+        }
     }
-}
 
-fn read_of(rt: &HostRuntime, name: &[u8], opened: File, bytes: &mut [u8]) -> Text {
-    let mut file = opened;
-    let read = console::read_all(&mut file, bytes);
-    if let Some(error) = read.error {
-        failed(rt, name, &error);
-        return Text::Failed;
+    fn read_of<'b>(&self, mut file: File, bytes: &'b mut [u8]) -> Result<&'b [u8], Status> {
+        let count = console::read_all(&mut file, bytes).map_err(|cut| self.failed(&cut.error))?;
+        if bytes.len() <= count {
+            self.said(b"a file in its folder is longer than any that is written there");
+            return Err(Status::System);
+        }
+        Ok(&bytes[..count])
     }
-    if bytes.len() <= read.count {
-        said(
-            rt,
-            name,
-            b"a file in its folder is longer than any that is written there",
-        );
-        return Text::Failed;
-    }
-    Text::Bytes(read.count)
-}
 
-fn missing(rt: &HostRuntime, name: &[u8], error: &io::Error) -> Text {
-    if error.kind() == ErrorKind::NotFound {
-        return Text::Missing;
+    // Puts a text on the disk, in a file of that name.
+    pub(crate) fn write(&self, leaf: &[u8], bytes: &[u8]) -> io::Result<()> {
+        let mut file = self.open_anew(leaf)?;
+        console::write_all(&mut file, bytes, bytes.len())?;
+        file.sync_all()
     }
-    failed(rt, name, error);
-    Text::Failed
-}
 
-// Puts a text on the disk, in a file of that name.
-pub fn write(
-    rt: &HostRuntime,
-    name: &[u8],
-    leaf: &[u8],
-    bytes: &[u8],
-    end: usize,
-) -> io::Result<()> {
-    let mut file = names::open_anew(rt, name, leaf)?;
-    console::write_all(&mut file, bytes, end)?;
-    file.sync_all()
-}
-
-// Makes a file have a text, all of it or as it was; of no bytes, sees to it that there is no such file.
-pub fn replace(rt: &HostRuntime, name: &[u8], leaf: &[u8], bytes: &[u8]) -> io::Result<()> {
-    if bytes.len() == 0 {
-        return names::remove(rt, name, leaf);
+    // Makes a file have a text, all of it or as it was; of no bytes, sees to it that there is no such file.
+    pub(crate) fn replace(&self, leaf: &[u8], bytes: &[u8]) -> io::Result<()> {
+        if bytes.is_empty() {
+            return self.remove(leaf);
+        }
+        self.write(b"new", bytes)?;
+        self.rename(b"new", leaf)
     }
-    write(rt, name, b"new", bytes, bytes.len())?;
-    names::rename(rt, name, b"new", leaf)
 }

@@ -7,23 +7,42 @@ mod files;
 mod lock;
 mod names;
 
-pub use commits::{address_of, commit, differs, finish_old, halves, put_redo, stands};
-pub use files::Text;
-pub use lock::{Owner, give_back, owner_of, take};
+pub use commits::{Commit, address_of, differs, halves};
+use console::Status;
+pub use lock::Owner;
+use std::io;
 
-// Reads the layout.
-pub fn read_layout(rt: &HostRuntime, name: &[u8], bytes: &mut [u8]) -> Text {
-    files::read(rt, name, b"layout", bytes)
+// The folder of the file of a name.
+#[derive(Clone, Copy)]
+pub struct Folder<'a> {
+    pub rt: &'a HostRuntime,
+    pub name: &'a [u8],
 }
 
-// Reads a window's sheet.
-pub fn read_sheet(rt: &HostRuntime, name: &[u8], window: u64, bytes: &mut [u8]) -> Text {
-    let mut leaf = [0u8; 16];
-    commits::put_leaf(&mut leaf, window);
-    files::read(rt, name, &leaf, bytes)
-}
+impl Folder<'_> {
+    // Reads the layout, where there is one; that it can't be read is said.
+    pub fn read_layout<'b>(&self, bytes: &'b mut [u8]) -> Result<Option<&'b [u8]>, Status> {
+        self.read(b"layout", bytes)
+    }
 
-// Reads the lock.
-pub fn read_lock(rt: &HostRuntime, name: &[u8], bytes: &mut [u8]) -> Text {
-    files::read(rt, name, b"lock", bytes)
+    // Reads a window's sheet, where there is one; that it can't be read is said.
+    pub fn read_sheet<'b>(
+        &self,
+        window: u64,
+        bytes: &'b mut [u8],
+    ) -> Result<Option<&'b [u8]>, Status> {
+        self.read(&commits::leaf_of(window), bytes)
+    }
+
+    fn said(&self, words: &[u8]) {
+        message::said(self.rt, self.name, words);
+    }
+
+    fn refused(&self, words: &[u8]) -> Status {
+        message::refused(self.rt, self.name, words)
+    }
+
+    fn failed(&self, error: &io::Error) -> Status {
+        message::failed(self.rt, self.name, error)
+    }
 }

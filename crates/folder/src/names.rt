@@ -1,6 +1,6 @@
-// The files of the folder FILE.patches, by FILE's name and their own.
+// The files of the folder, by their names.
+use crate::Folder;
 use guest::text_of;
-use lines::part;
 use std::fs::File;
 use std::io::ErrorKind;
 use std::{fs, io};
@@ -9,120 +9,90 @@ use text::put_text;
 // A path has fewer bytes.
 const PATH_MAX: usize = 4096;
 
-fn put_path(path: &mut [u8], name: &[u8], leaf: &[u8]) -> usize {
-    let next = put_text(path, 0, name);
-    let slash = put_text(path, next, b".patches/");
-    put_text(path, slash, leaf)
-}
+impl Folder<'_> {
+    // The path of a file in the folder, or where that has no name of the folder, with room for it.
+    fn path<'b>(&self, path: &'b mut [u8; PATH_MAX], leaf: &[u8]) -> io::Result<&'b str> {
+        let next = put_text(path, 0, self.name);
+        let slash = put_text(path, next, b".patches/");
+        let end = put_text(path, slash, leaf);
+        text_of(&path[..end.min(PATH_MAX)])
+    }
 
-pub fn open(rt: &HostRuntime, name: &[u8], leaf: &[u8]) -> io::Result<File> {
-    let mut path = [0u8; PATH_MAX];
-    let end = put_path(&mut path, name, leaf);
-    let n = part::within(&path, end);
-    File::open(rt, text_of(&path[0..n])?)
-}
+    pub(crate) fn open(&self, leaf: &[u8]) -> io::Result<File> {
+        let mut path = [0u8; PATH_MAX];
+        File::open(self.rt, self.path(&mut path, leaf)?)
+    }
 
-// Opens a file to be written anew.
-pub fn open_anew(rt: &HostRuntime, name: &[u8], leaf: &[u8]) -> io::Result<File> {
-    let mut path = [0u8; PATH_MAX];
-    let end = put_path(&mut path, name, leaf);
-    let n = part::within(&path, end);
-    File::create(rt, text_of(&path[0..n])?)
-}
+    // Opens a file to be written anew.
+    pub(crate) fn open_anew(&self, leaf: &[u8]) -> io::Result<File> {
+        let mut path = [0u8; PATH_MAX];
+        File::create(self.rt, self.path(&mut path, leaf)?)
+    }
 
-// Makes a file that isn't there yet.
-pub fn create(rt: &HostRuntime, name: &[u8], leaf: &[u8]) -> io::Result<File> {
-    let mut path = [0u8; PATH_MAX];
-    let end = put_path(&mut path, name, leaf);
-    let n = part::within(&path, end);
-    let text = text_of(&path[0..n])?;
-    File::options().write(true).create_new(true).open(rt, text)
-}
+    // Makes a file that isn't there yet.
+    pub(crate) fn create(&self, leaf: &[u8]) -> io::Result<File> {
+        let mut path = [0u8; PATH_MAX];
+        let text = self.path(&mut path, leaf)?;
+        File::options()
+            .write(true)
+            .create_new(true)
+            .open(self.rt, text)
+    }
 
-// Removes a file, where it is there.
-pub fn remove(rt: &HostRuntime, name: &[u8], leaf: &[u8]) -> io::Result<()> {
-    let mut path = [0u8; PATH_MAX];
-    let end = put_path(&mut path, name, leaf);
-    let n = part::within(&path, end);
-    unless(
-        fs::remove_file(rt, text_of(&path[0..n])?),
-        ErrorKind::NotFound,
-    )
-}
+    // Removes a file, where it is there.
+    pub(crate) fn remove(&self, leaf: &[u8]) -> io::Result<()> {
+        let mut path = [0u8; PATH_MAX];
+        let text = self.path(&mut path, leaf)?;
+        unless(fs::remove_file(self.rt, text), ErrorKind::NotFound)
+    }
 
-pub fn rename(rt: &HostRuntime, name: &[u8], leaf: &[u8], to: &[u8]) -> io::Result<()> {
-    let mut path = [0u8; PATH_MAX];
-    let mut path_to = [0u8; PATH_MAX];
-    let end = put_path(&mut path, name, leaf);
-    let end_to = put_path(&mut path_to, name, to);
-    let n = part::within(&path, end);
-    let m = part::within(&path_to, end_to);
-    fs::rename(rt, text_of(&path[0..n])?, text_of(&path_to[0..m])?)
-}
+    pub(crate) fn rename(&self, leaf: &[u8], to: &[u8]) -> io::Result<()> {
+        let mut path = [0u8; PATH_MAX];
+        let mut path_to = [0u8; PATH_MAX];
+        let from = self.path(&mut path, leaf)?;
+        fs::rename(self.rt, from, self.path(&mut path_to, to)?)
+    }
 
-// Makes the folder, where it isn't there; its own entry is synced.
-pub fn make(rt: &HostRuntime, name: &[u8]) -> io::Result<()> {
-    let mut path = [0u8; PATH_MAX];
-    let end = put_path(&mut path, name, b"");
-    let n = part::within(&path, end);
-    match fs::create_dir(rt, text_of(&path[0..n])?) {
-        Ok(()) => sync_parent(rt, name),
-        Err(error) => unless(Err(error), ErrorKind::AlreadyExists),
+    // Makes the folder, where it isn't there; its own entry is synced.
+    pub(crate) fn make(&self) -> io::Result<()> {
+        let mut path = [0u8; PATH_MAX];
+        match fs::create_dir(self.rt, self.path(&mut path, b"")?) {
+            Ok(()) => self.sync_parent(),
+            Err(error) => unless(Err(error), ErrorKind::AlreadyExists),
+        }
+    }
+
+    // Removes the folder, where nothing stands in it.
+    pub(crate) fn remove_self(&self) {
+        let mut path = [0u8; PATH_MAX];
+        if let Ok(text) = self.path(&mut path, b"") {
+            let _ = fs::remove_dir(self.rt, text);
+        }
+    }
+
+    // Sees to it that the folder's entries are on the disk.
+    pub(crate) fn sync(&self) -> io::Result<()> {
+        self.open(b"")?.sync_all()
+    }
+
+    // The same of the folder that FILE stands in.
+    fn sync_parent(&self) -> io::Result<()> {
+        File::open(self.rt, parent_of(self.name)?)?.sync_all()
     }
 }
 
 // An error of that kind is none.
 fn unless(done: io::Result<()>, kind: ErrorKind) -> io::Result<()> {
     match done {
-        Ok(()) => Ok(()),
-        Err(error) => {
-            if error.kind() == kind {
-                Ok(())
-            } else {
-                Err(error)
-            }
-        }
+        Err(error) if error.kind() == kind => Ok(()),
+        other => other,
     }
 }
 
-// Removes the folder, where nothing stands in it.
-pub fn remove_folder(rt: &HostRuntime, name: &[u8]) {
-    let mut path = [0u8; PATH_MAX];
-    let end = put_path(&mut path, name, b"");
-    let n = part::within(&path, end);
-    if let Ok(text) = text_of(&path[0..n]) {
-        let _ = fs::remove_dir(rt, text);
+// The folder that a file stands in.
+fn parent_of(name: &[u8]) -> io::Result<&str> {
+    match name.iter().rposition(|byte| *byte == b'/') {
+        Some(slash) => text_of(&name[..slash + 1]),
+        None => Ok("."),
     }
-}
-
-// Sees to it that the folder's entries are on the disk.
-pub fn sync(rt: &HostRuntime, name: &[u8]) -> io::Result<()> {
-    synced(open(rt, name, b""))
-}
-
-// The same of the folder that FILE stands in.
-fn sync_parent(rt: &HostRuntime, name: &[u8]) -> io::Result<()> {
-    let n = part::within(name, parent_end(name));
-    if n == 0 {
-        return synced(File::open(rt, "."));
-    }
-    synced(File::open(rt, text_of(&name[0..n])?))
-}
-
-// Where the last slash of a name ends, or 0.
-fn parent_end(name: &[u8]) -> usize {
-    let mut end = 0;
-    let mut i = 0;
-    while i < name.len() {
-        if name[i] == b'/' {
-            end = i + 1;
-        }
-        i += 1;
-    }
-    end
-}
-
-fn synced(opened: io::Result<File>) -> io::Result<()> {
-    let folder = opened?;
-    folder.sync_all()
 }

@@ -6,7 +6,7 @@ ghost use Rattle.form.specs.Form.{is_form, last_of};
 
 use operand::Operand;
 
-// A family is its letter's byte.
+// A family is its letter's byte, and no enum: so the C interface hands it over, and any other number is a form that isn't.
 pub const A: u64 = b'A' as u64;
 
 pub const B: u64 = b'B' as u64;
@@ -20,7 +20,7 @@ pub const M: u64 = b'M' as u64;
 pub const X: u64 = b'X' as u64;
 
 #[repr(C)]
-#[derive(Clone, Copy)]
+#[derive(Clone, Copy, PartialEq, Eq)]
 pub struct Form {
     pub family: u64,
     pub number: u64,
@@ -32,7 +32,7 @@ pub const NO_FORM: Form = Form {
     number: 0,
 };
 
-#[derive(Clone, Copy)]
+#[derive(Clone, Copy, PartialEq, Eq)]
 pub struct Edit {
     pub bundle: u64,
     pub slot: u64,
@@ -44,9 +44,7 @@ pub struct Edit {
 pub fn is_form(form: Form) -> bool
     ensures { result ≡ is_form form }
 {
-    let number = form.number;
-    let last = last_of(form.family);
-    0 < number && number <= last
+    0 < form.number && form.number <= last_of(form.family)
 }
 
 fn last_of(family: u64) -> u64

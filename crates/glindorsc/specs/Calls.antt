@@ -1,7 +1,6 @@
 -- What the calls from C and Rust come to: an answer, and numbers that go through an output. Assumes nothing.
 use Rattle.std.specs.Prelude.{ℕ, cond, List, ◌∷◌, ◌++◌, map}
-use Rattle.bundle.specs.Bundle.{cut_of}
-use Rattle.bundle.specs.declared.Bundle.{Bundle}
+use Rattle.bundle.specs.Bundle.{Cut, cut_of}
 use Rattle.form.specs.declared.Form.{Form}
 use Rattle.operand.specs.Pattern.{pattern_in}
 use Rattle.immediate.specs.Immediate.{immediate_of, target_of}
@@ -11,9 +10,9 @@ pub record Filled : Type 0 where
   pub answer : ℕ
   pub out : List ℕ
 
--- a cut bundle's ten numbers: the tag, the units, the slots, and 1 for each slot that a stop follows, else 0
-abbrev pub cut_numbers : Bundle → List ℕ
-cut_numbers b = b.template.tag ∷ (b.template.units ++ b.slots ++ map (λ stop. cond stop 1 0) b.template.stops)
+-- a cut's ten numbers: the tag, the units, the slots, and 1 for each slot that a stop follows, else 0
+abbrev pub cut_numbers : Cut → List ℕ
+cut_numbers c = c.template.tag ∷ (c.template.units ++ c.slots ++ map (λ stop. cond stop 1 0) c.template.stops)
 
 -- a cut, refused or not, fills the output
 unfoldable pub cut_call : List ℕ → ℕ → Filled

@@ -1,7 +1,5 @@
-// All bytes of a slice, read from a place of a file or written there.
-ghost use Rattle.std.specs.Prelude.{◌≤◌, length, IfOk};
-
-use lines::part;
+// All bytes of a slice, read from a place of a file or written there. As std's read_exact_at and write_all_at, but for the words where the
+// file ends before, and a call that a signal interrupts fails.
 use std::fs::File;
 use std::io;
 use std::io::{ErrorKind, Seek, SeekFrom};
@@ -15,49 +13,33 @@ pub fn file_length(file: &File) -> io::Result<u64> {
 
 // A file's offset, so many bytes past a place.
 fn offset(place: u64, done: usize) -> u64 {
-    std::num::wrapping_add_u64(place, done as u64)
+    place.wrapping_add(done as u64)
 }
 
 // Reads all of the slice from a place on.
 pub fn read_at(file: &File, bytes: &mut [u8], place: u64) -> io::Result<()> {
     let mut done = 0;
     while done < bytes.len() {
-        let more = read_once(file, bytes, done, place)?;
+        let more = file.read_at(&mut bytes[done..], offset(place, done))?;
         if more == 0 {
             return ends_before();
         }
         done += more;
     }
     Ok(())
-}
-
-fn read_once(file: &File, bytes: &mut [u8], done: usize, place: u64) -> io::Result<usize>
-    ensures { IfOk result (λ n. n ≤ length bytes.new) }
-{
-    let from = part::within(bytes, done);
-    let free = &mut bytes[from..];
-    file.read_at(free, offset(place, done))
 }
 
 // Writes all of the slice from a place on.
 pub fn write_at(file: &File, bytes: &[u8], place: u64) -> io::Result<()> {
     let mut done = 0;
     while done < bytes.len() {
-        let more = write_once(file, bytes, done, place)?;
+        let more = file.write_at(&bytes[done..], offset(place, done))?;
         if more == 0 {
             return ends_before();
         }
         done += more;
     }
     Ok(())
-}
-
-fn write_once(file: &File, bytes: &[u8], done: usize, place: u64) -> io::Result<usize>
-    ensures { IfOk result (λ n. n ≤ length bytes.now) }
-{
-    let from = part::within(bytes, done);
-    let left = &bytes[from..];
-    file.write_at(left, offset(place, done))
 }
 
 // The file ends before the bytes do.

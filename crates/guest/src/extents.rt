@@ -1,10 +1,12 @@
-// The extents of a file's code, in a slice of numbers: of each its address, its offset in the file and its size.
+// The extents of a file's code.
+ghost use Rattle.std.specs.Prelude.{◌≤◌};
+
+use console::Status;
+use message::refused;
 use window::Extent;
 
 // So many extents at most.
-pub const MOST: usize = 64;
-
-pub const NUMBERS: usize = 3 * MOST;
+const MOST: usize = 64;
 
 const NO_EXTENT: Extent = Extent {
     code: false,
@@ -13,54 +15,61 @@ const NO_EXTENT: Extent = Extent {
     size: 0,
 };
 
-// An extent; past the last there is none.
-pub fn extent_at(extents: &[u64], i: usize) -> Extent {
-    if MOST <= i {
-        return NO_EXTENT;
-    }
-    let at = 3 * i;
-    if extents.len() < at + 3 {
-        return NO_EXTENT;
-    }
-    Extent {
-        code: true,
-        address: extents[at],
-        offset: extents[at + 1],
-        size: extents[at + 2],
-    }
+// So many of them, no two of which share an address or a byte of the file.
+#[derive(Clone, Copy)]
+pub struct Extents {
+    all: [Extent; MOST],
+    count: usize,
+    ghost within: { count ≤ 64 },
 }
 
-pub fn put_extent(extents: &mut [u64], i: usize, extent: Extent) {
-    put_number(extents, i, 0, extent.address);
-    put_number(extents, i, 1, extent.offset);
-    put_number(extents, i, 2, extent.size);
-}
-
-fn put_number(extents: &mut [u64], i: usize, k: usize, n: u64) {
-    if MOST <= i {
-        return;
-    }
-    if 2 < k {
-        return;
-    }
-    let at = 3 * i + k;
-    if at < extents.len() {
-        extents[at] = n;
-    }
-}
-
-// Whether an extent shares an address or a byte of the file with one of the first so many.
-pub fn overlaps(extents: &[u64], count: usize, one: Extent) -> bool {
-    let mut i = 0;
-    while i < count {
-        if !are_apart(extent_at(extents, i), one) {
-            return true;
+impl Extents {
+    pub fn new() -> Extents {
+        Extents {
+            all: [NO_EXTENT; MOST],
+            count: 0,
         }
-        i += 1;
     }
-    false
+
+    pub fn as_slice(&self) -> &[Extent] {
+        &self.all[..self.count]
+    }
+
+    // One more, where it is code; that there can't be one is said.
+    pub fn add(
+        &mut self,
+        rt: &HostRuntime,
+        name: &[u8],
+        length: u64,
+        extent: Extent,
+    ) -> Result<(), Status> {
+        if !extent.code || extent.size == 0 {
+            return Ok(());
+        }
+        if !window::lies_in(extent, length) {
+            return Err(refused(
+                rt,
+                name,
+                b"a part of its code lies past the end of the file, or past the highest address",
+            ));
+        }
+        if self
+            .as_slice()
+            .iter()
+            .any(|other| !are_apart(*other, extent))
+        {
+            return Err(refused(rt, name, b"two parts of its code share bytes or addresses"));
+        }
+        if MOST <= self.count {
+            return Err(refused(rt, name, b"its code has more than 64 parts"));
+        }
+        self.all[self.count] = extent;
+        self.count += 1;
+        Ok(())
+    }
 }
 
+// Whether they share neither an address nor a byte of the file.
 fn are_apart(a: Extent, b: Extent) -> bool {
     is_apart(a.address, a.size, b.address, b.size) & is_apart(a.offset, a.size, b.offset, b.size)
 }

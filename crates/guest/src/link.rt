@@ -6,10 +6,7 @@ const EILSEQ: i32 = 84;
 
 // A name as text, which a path is here.
 pub fn text_of(name: &[u8]) -> io::Result<&str> {
-    match std::str::from_utf8(name) {
-        Ok(text) => Ok(text),
-        Err(_) => Err(io::Error::from_raw_os_error(EILSEQ)),
-    }
+    std::str::from_utf8(name).map_err(|_| io::Error::from_raw_os_error(EILSEQ))
 }
 
 pub fn is_link(rt: &HostRuntime, name: &[u8]) -> bool {

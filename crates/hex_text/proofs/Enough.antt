@@ -19,7 +19,7 @@ unfolding parted
 parted-one k [] = refl
 parted-one k (c ∷ t) = refl
 
-front-three : (room k : ℕ) (t : List ℕ) → front room (take (suc (suc (suc k))) t) ≡ front room t
+pub front-three : (room k : ℕ) (t : List ℕ) → front room (take (suc (suc (suc k))) t) ≡ front room t
 unfolding front
 front-three room k [] = refl
 front-three room k (a ∷ []) = refl

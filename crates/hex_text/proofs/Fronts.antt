@@ -6,52 +6,74 @@ use mathlib.Core.List.{List, [], ◌∷◌}
 use Prim.Native.Nat.{ℕ, zero, suc, ◌≤◌, ◌<◌}
 use native.Mathlib.Omega.{arith}
 use lib.Dec.{ltb, lit≤}
-use lib.ListN.{length, take, drop}
+use lib.ListN.{length, get_or, take, drop}
 use lib.Seq.{take-append_seam}
 use Rattle.hex_text.specs.declared.Decoded.{Decoded}
 use Rattle.hex_text.specs.declared.Ending.{Ending}
-use Rattle.hex_text.specs.declared.Ending.TheVariants.{BadHex, TooLong}
-use Rattle.hex_text.specs.declared.Front.{Front}
-use Rattle.hex_text.specs.declared.Front.TheVariants.{Byte, Stop}
-use Rattle.hex_text.specs.Hex.{digit_value, pair_of, front, Bytes, go_on, hex_bytes, decoded_of}
+use Rattle.hex_text.specs.declared.Ending.TheVariants.{Whole, BadHex, TooLong}
+use Rattle.std.specs.declared.result.Result.{Result}
+use Rattle.std.specs.declared.result.Result.TheVariants.{Ok, Err}
+use Rattle.hex_text.specs.Hex.{digit_value, is_separator, parted, pair_of, front, Bytes, go_on, hex_bytes, decoded_of}
 use Rattle.text.proofs.Writing.{written_start}
 
 -- a byte has room and text
 module _ {b : ℕ} where
-  no_byte : (t : Bool) → cond t (Stop BadHex) (Stop TooLong) ≡ Byte b → ⊥
+  no_byte : (t : Bool) → cond t (Err BadHex) (Err TooLong) ≡ Ok b → ⊥
   no_byte true e = let z : ◌≡◌ {A = ℕ} 0 1 = cc in omega arith
   no_byte false e = let z : ◌≡◌ {A = ℕ} 0 1 = cc in omega arith
 
-  pub byte-room : (room : ℕ) (t : List ℕ) → front room t ≡ Byte b → 0 < room
+  pub byte-room : (room : ℕ) (t : List ℕ) → front room t ≡ Ok b → 0 < room
   unfolding front pair_of
   byte-room (suc room) t e = omega arith
   byte-room zero [] e = let z : ◌≡◌ {A = ℕ} 0 1 = cc in absurd (omega arith)
   byte-room zero (x ∷ []) e = let z : ◌≡◌ {A = ℕ} 0 1 = cc in absurd (omega arith)
   byte-room zero (x ∷ y ∷ t) e = absurd (no_byte (ltb 15 (digit_value x) || ltb 15 (digit_value y)) e)
 
-  pub byte-text : (room : ℕ) (t : List ℕ) → front room t ≡ Byte b → 0 < length t
+-- what stands at the front of a text, by its length
+module _ (room : ℕ) where
+  pub front-empty : (t : List ℕ) → length t ≡ 0 → Err Whole ≡ front room t
   unfolding front
-  byte-text room [] e = let z : ◌≡◌ {A = ℕ} 0 1 = cc in absurd (omega arith)
-  byte-text room (x ∷ t) e = omega arith
+  front-empty [] h = refl
+  front-empty (x ∷ t) h = absurd (omega arith)
+
+  pub front-one : (t : List ℕ) → length t ≡ 1 → Err BadHex ≡ front room t
+  unfolding front
+  front-one [] h = absurd (omega arith)
+  front-one (x ∷ []) h = refl
+  front-one (x ∷ y ∷ t) h = absurd (omega arith)
+
+  pub front-two : (t : List ℕ) → length t ≡ 2 → pair_of (digit_value (get_or t 0 0)) (digit_value (get_or t 1 0)) room true ≡ front room t
+  unfolding front parted
+  front-two [] h = absurd (omega arith)
+  front-two (x ∷ []) h = absurd (omega arith)
+  front-two (x ∷ y ∷ []) h = refl
+  front-two (x ∷ y ∷ z ∷ t) h = absurd (omega arith)
+
+  pub front-more : (t : List ℕ) → 3 ≤ length t → pair_of (digit_value (get_or t 0 0)) (digit_value (get_or t 1 0)) room (is_separator (get_or t 2 0)) ≡ front room t
+  unfolding front parted
+  front-more [] h = absurd (omega arith)
+  front-more (x ∷ []) h = absurd (omega arith)
+  front-more (x ∷ y ∷ []) h = absurd (omega arith)
+  front-more (x ∷ y ∷ z ∷ t) h = refl
 
 -- reading on
-pub read-stop : (room : ℕ) (t : List ℕ) (e : Ending) → front room t ≡ Stop e → hex_bytes room t ≡ ([], e)
+pub read-stop : (room : ℕ) (t : List ℕ) (e : Ending) → front room t ≡ Err e → hex_bytes room t ≡ ([], e)
 unfolding hex_bytes
 read-stop zero t e h = rw h
 read-stop (suc room) t e h = rw h
 
-pub read_byte : (room : ℕ) (t : List ℕ) (b : ℕ) → front (suc room) t ≡ Byte b → hex_bytes (suc room) t ≡ go_on (Byte b) (hex_bytes room (drop 3 t))
+pub read_byte : (room : ℕ) (t : List ℕ) (b : ℕ) → front (suc room) t ≡ Ok b → hex_bytes (suc room) t ≡ go_on (Ok b) (hex_bytes room (drop 3 t))
 unfolding hex_bytes
 read_byte room t b h = rw h
 
 -- no more bytes are read than there is room for
-none_read : (f : Front) (r : Bytes) → ((b : ℕ) → f ≡ Byte b → ⊥) → length (go_on f r).0 ≤ 0
-none_read (Byte b) r n = absurd (n b refl)
-none_read (Stop e) r n = lit≤ tt
+none_read : (f : Result ℕ Ending) (r : Bytes) → ((b : ℕ) → f ≡ Ok b → ⊥) → length (go_on f r).0 ≤ 0
+none_read (Ok b) r n = absurd (n b refl)
+none_read (Err e) r n = lit≤ tt
 
-one-read : (f : Front) (r : Bytes) (room : ℕ) → length r.0 ≤ room → length (go_on f r).0 ≤ suc room
-one-read (Byte b) r room h = omega arith
-one-read (Stop e) r room h = omega arith
+one-read : (f : Result ℕ Ending) (r : Bytes) (room : ℕ) → length r.0 ≤ room → length (go_on f r).0 ≤ suc room
+one-read (Ok b) r room h = omega arith
+one-read (Err e) r room h = omega arith
 
 pub hex-room : (room : ℕ) (t : List ℕ) → length (hex_bytes room t).0 ≤ room
 unfolding hex_bytes

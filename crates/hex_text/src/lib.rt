@@ -3,24 +3,17 @@
 #![tactic(auto)]
 
 ghost use Rattle.std.specs.Prelude.{◌≡◌, ◌<◌, drop};
-ghost use Rattle.hex_text.specs.Hex.{digit_value, parted, pair_of, front, decoded_of, digit_of, hex_of};
+ghost use Rattle.hex_text.specs.Hex.{digit_value, is_separator, pair_of, front, decoded_of, digit_of, hex_of};
 ghost use Rattle.text.specs.Put.{Put};
 
 use text::put_byte;
 
 // How reading ended: with the text, at other text, or at a byte too many.
-#[derive(Clone, Copy)]
+#[derive(Clone, Copy, PartialEq, Eq)]
 pub enum Ending {
     Whole,
     BadHex,
     TooLong,
-}
-
-// What stands at a place: a byte with its separator, or the end.
-#[derive(Clone, Copy)]
-pub enum Front {
-    Byte(u8),
-    Stop(Ending),
 }
 
 // How many bytes were read, and how reading ended.
@@ -33,8 +26,9 @@ pub struct Decoded {
 // The hex digits, a bit each: bit 0 is `0`'s, and bit 54 `f`'s.
 const DIGITS: u64 = 0x007E_0000_007E_03FF;
 
-// A hex digit's value, and 16 for any other byte. No table, which would be built at each call, and no branch on whether a digit is a
-// letter, which a processor can't foresee.
+// A hex digit's value, and 16 for any other byte: above each digit's, so that one bound tests it, and an Option would be no plainer to
+// callers, who add values up. No table, which would be built at each call, and no branch on whether a digit is a letter, which a processor
+// can't foresee.
 pub fn digit_value(c: u8) -> u8
     ensures { result ≡ digit_value c }
 {
@@ -51,68 +45,64 @@ pub fn digit_value(c: u8) -> u8
     }
 }
 
-// Whether nothing stands at a place, or a separator.
-fn ends(text: &[u8], at: usize) -> bool
-    ensures { result ≡ parted (drop at text.now) }
+// Whether a byte parts two bytes' digits.
+fn is_separator(c: u8) -> bool
+    ensures { result ≡ is_separator c }
 {
-    if text.len() <= at {
-        return true;
-    }
-    let c = text[at];
     (c == b' ') | (c == b'\n')
 }
 
-// The byte of two digits' values, or why there is none.
-fn pair(high: u8, low: u8, room: usize, ends: bool) -> Front
+// The byte of two digits' values, or how reading ends with them.
+fn pair(high: u8, low: u8, room: usize, ends: bool) -> Result<u8, Ending>
     ensures { result ≡ pair_of high low room ends }
 {
     if 15 < high || 15 < low {
-        return Front::Stop(Ending::BadHex);
+        return Err(Ending::BadHex);
     }
     if room == 0 {
-        return Front::Stop(Ending::TooLong);
+        return Err(Ending::TooLong);
     }
     if ends {
-        Front::Byte(high * 16 + low)
+        Ok(high * 16 + low)
     } else {
-        Front::Stop(Ending::BadHex)
+        Err(Ending::BadHex)
     }
 }
 
-// What stands at a place, where `room` bytes may still come.
-fn step(text: &[u8], at: usize, room: usize) -> Front
-    ensures { result ≡ front room (drop at text.now) }
+// The byte at a text's front with its separator, where `room` may still come, or how reading ends there.
+fn front(text: &[u8], room: usize) -> Result<u8, Ending>
+    ensures { result ≡ front room text.now }
 {
-    if text.len() <= at {
-        return Front::Stop(Ending::Whole);
-    }
-    if text.len() - at == 1 {
-        Front::Stop(Ending::BadHex)
-    } else {
-        pair(
-            digit_value(text[at]),
-            digit_value(text[at + 1]),
+    match text {
+        [high, low, end, ..] => pair(
+            digit_value(*high),
+            digit_value(*low),
             room,
-            ends(text, at + 2),
-        )
+            is_separator(*end),
+        ),
+        [high, low] => pair(digit_value(*high), digit_value(*low), room, true),
+        [_] => Err(Ending::BadHex),
+        [] => Err(Ending::Whole),
     }
 }
 
-// The bytes that `text` gives, as many as `out` holds at most.
+// The bytes that `text` gives, as many as `out` holds at most: two digits and a separator each.
 pub fn decode(text: &[u8], out: &mut [u8]) -> Decoded
     ensures { (result, out.new) ≡ decoded_of text.now out.old }
 {
-    let mut at = 0;
     let mut count = 0;
-    loop {
-        match step(text, at, out.len() - count) {
-            Front::Byte(b) => {
-                out[count] = b;
+    for three in text.chunks(3) {
+        match front(three, out.len() - count) {
+            Ok(byte) => {
+                out[count] = byte;
                 count += 1;
-                at += 3;
             }
-            Front::Stop(ending) => return Decoded { count, ending },
+            Err(ending) => return Decoded { count, ending },
         }
+    }
+    Decoded {
+        count,
+        ending: Ending::Whole,
     }
 }
 
@@ -121,11 +111,9 @@ pub fn put_hex(out: &mut [u8], at: usize, bytes: &[u8]) -> usize
     ensures { Put out.old at (hex_of bytes.now) out.new result }
 {
     let mut next = at;
-    let mut i = 0;
-    while i < bytes.len() {
-        next = put_byte(out, next, digit(bytes[i] / 16));
-        next = put_byte(out, next, digit(bytes[i] % 16));
-        i += 1;
+    for byte in bytes {
+        next = put_byte(out, next, digit(*byte / 16));
+        next = put_byte(out, next, digit(*byte % 16));
     }
     next
 }

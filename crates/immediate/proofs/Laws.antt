@@ -1,9 +1,10 @@
 -- When a form's row is read or changed in a slot of a bundle: none of the refusals applies, so the row is sound there. Assumes nothing.
-use Rattle.std.proofs.Common.{◌≡◌, ℕ, ◌^◌, ◌<◌, true, false, not, T, eqb, ltb, List, [], ◌∷◌, ◌++◌, sym, refl, ap, ◌∙◌, subst, suc-le-suc, ltb-false, eq-eqb, ne_eqb, eqb-true}
+use Rattle.std.proofs.Common.{◌≡◌, ℕ, ◌^◌, ◌<◌, true, false, not, T, eqb, ltb, List, [], ◌∷◌, ◌++◌, sym, refl, ap, ◌∙◌, subst, suc-le-suc, ltb-false, eq-eqb, ne_eqb, eqb-true, Option, Some}
 use native.Mathlib.Decide.{ℕ_discrete}
 use borrow.Author.Tests.{not-false}
-use Rattle.answer.specs.Answer.{Refusal, accepted, bad_value, first, outcome}
-use Rattle.answer.proofs.Laws.{none-applies, first_on, first-stop, accepts, refuses, answered}
+use Rattle.answer.specs.Answer.{Reason, accepted, bad_value, first, outcome, number_of}
+use Rattle.answer.specs.declared.Refusal.{Refusal}
+use Rattle.answer.proofs.Laws.{none-applies, first_on, first-stop, accepts, refuses, answered, no-acceptance}
 use Rattle.bits.specs.Part.{bit}
 use Rattle.bits.specs.Parts.{apart_from, meet_not}
 use Rattle.bundle.specs.Bundle.{number_at, find_refusals, find_answer, tag_of, unit_at, bundle_refusals, halves_of}
@@ -13,14 +14,12 @@ use Rattle.form.specs.declared.Edit.{Edit}
 use Rattle.operand.specs.declared.Operand.{Operand}
 use Rattle.parts.specs.Placed.{width_of}
 use Rattle.row.specs.Row.{Row, is_none, row_of}
-use Rattle.meaning.specs.Meaning.{Is}
-use Rattle.row.specs.inner.Packed.{Packs}
+use Rattle.meaning.specs.Meaning.{Raw, Is}
+use Rattle.meaning.proofs.Inverse.{raw-told}
+use Rattle.row.specs.inner.Packed.{unpacked, Packs}
 use Rattle.row.specs.declared.Packed.{Packed}
-use Rattle.immediate.specs.inner.Sound.{Sound, SoundIn}
-use Rattle.immediate.specs.Immediate.{fits, read_refusals, no_immediate, immediate_in, immediate_of, raw_for, value_refusals, change_refusals, value_in, with_raw, parts_of, changed_number, no_change, changed_of}
-use Rattle.meaning.specs.declared.Raw.{Raw}
-use Rattle.immediate.specs.declared.outcome.Changed.{Changed}
-use Rattle.immediate.specs.declared.outcome.Immediate.{Immediate}
+use Rattle.immediate.specs.inner.Sound.{Sound, SoundIn, written_in}
+use Rattle.immediate.specs.Immediate.{fits, read_refusals, Immediate, no_immediate, immediate_in, immediate_of, raw_for, value_refusals, change_refusals, value_in, with_raw, parts_of, changed_number, Changed, no_change, changed_of}
 use Rattle.row.proofs.Rows.{good, row-good}
 use Rattle.immediate.proofs.Sound.{sound}
 use Rattle.immediate.proofs.Written.{read-written, written-lt, bit_kept, tag-kept, written-comm}
@@ -52,19 +51,26 @@ immediate-answer code k slot form =
       | no d ↦ rw (refuses (first finding) (immediate_in (number_at code k) slot form) (no_immediate (first finding)) d, first-stop finding reading d)
     ]
 
--- and so it is in numbers
-pub packed-sound : (n slot : ℕ) (form : Form) (row : Row) (p : Packed) → Packs p row → T (good form.family row) → first (read_refusals n slot form row) ≡ accepted
-    → SoundIn slot p
-packed-sound n slot form row p is g e =
-    let row_is = ap (λ x. x.0) is in
-    (subst (Sound slot) (sym row_is) (read-sound n slot form row g e), ap (λ x. x.1) is ∙ ap (λ (r : Row). width_of r.parts) (sym row_is))
+-- the row that a slot was given is the form's, and sound there
+module _ (n slot : ℕ) (form : Form) (row : Row) {packed : Option Packed} {p : Packed} (packs : Packs packed row) (same : packed ≡ Some p) where
+  pub row_is : unpacked p ≡ row
+  row_is = ap (λ x. x.0) (rw same at packs)
+
+  pub packed-sound : T (good form.family row) → accepted ≡ first (read_refusals n slot form row) → SoundIn slot p
+  packed-sound g e =
+      let is = rw same at packs in
+      (subst (Sound slot) (sym row_is) (read-sound n slot form row g (sym e)), ap (λ x. x.1) is ∙ ap (λ (r : Row). width_of r.parts) (sym row_is))
+
+-- what refuses a call by its number is what the call comes to
+pub refused {ℓ} : {A : Type ℓ} (zeros : ℕ → A) (done : A) (refusal : Refusal) (a : ℕ) → number_of refusal ≡ a → zeros (number_of refusal) ≡ outcome a done (zeros a)
+refused zeros done refusal a is = ap zeros is ∙ sym (refuses a done (zeros a) (λ e. no-acceptance refusal (is ∙ e)))
 
 -- what changing a bundle comes to, case by case
 module _ (n : ℕ) (e : Edit) where
   abbrev row : Row
   row = row_of e.form
 
-  abbrev reading : List Refusal
+  abbrev reading : List Reason
   reading = read_refusals n e.slot e.form row
 
   pub unchanged-by : (a : ℕ) → first (change_refusals n e) ≡ a → (a ≡ accepted → ⊥) → no_change a ≡ changed_of n e
@@ -82,12 +88,26 @@ module _ (n : ℕ) (e : Edit) where
   pub not-read : (first reading ≡ accepted → ⊥) → first (change_refusals n e) ≡ first reading
   not-read d = first-stop reading (value_refusals row e.value) d
 
+  pub changed-refused : (refusal : Refusal) → number_of refusal ≡ first reading → no_change (number_of refusal) ≡ changed_of n e
+  changed-refused refusal is = unchanged-by _ (not-read (λ q. no-acceptance refusal (is ∙ q)) ∙ sym is) (no-acceptance refusal)
+
   module _ (read : first reading ≡ accepted) where
     pub no-raw : ((raw_for row e.value).answer ≡ accepted → ⊥) → first (change_refusals n e) ≡ bad_value
     no-raw d = first_on reading (value_refusals row e.value) tt read ∙ rw (ne_eqb _ accepted d)
 
     pub changed-done : (raw_for row e.value).answer ≡ accepted → changed_of n e ≡ record { answer = accepted; bundle = halves_of (changed_number n e) }
     changed-done q = changed-taken (first_on reading (value_refusals row e.value) tt read ∙ rw (eq-eqb _ accepted q))
+
+    -- it is the value written in the row's parts
+    pub changed-written : written_in row e.slot n e.value ≡ changed_of n e
+    changed-written =
+        let raw = raw_for row e.value in
+        elim (ℕ_discrete raw.answer accepted) [
+          | yes q ↦ accepts raw.answer _ _ q ∙ sym (changed-done q)
+          | no d ↦
+              let six = ap (λ (x : Raw). x.answer) (raw-told row.meaning (width_of row.parts) e.value d) in
+              refuses raw.answer _ _ d ∙ unchanged-by raw.answer (no-raw d ∙ sym six) d
+        ]
 
 -- of an edit's bundle a change doesn't look at the number, and of its value at the raw number alone
 pub changed-by-raw : (n j k slot : ℕ) (form : Form) (v u : Operand) → raw_for (row_of form) v ≡ raw_for (row_of form) u

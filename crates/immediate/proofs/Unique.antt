@@ -4,10 +4,7 @@ use Rattle.std.proofs.Common.{◌≡◌, ℕ, List}
 use Rattle.answer.proofs.Laws.{one-outcome}
 use Rattle.form.specs.declared.Form.{Form}
 use Rattle.form.specs.declared.Edit.{Edit}
-use Rattle.immediate.specs.Immediate.{immediate_of, changed_of, target_of}
-use Rattle.immediate.specs.declared.outcome.Immediate.{Immediate}
-use Rattle.immediate.specs.declared.outcome.Changed.{Changed}
-use Rattle.immediate.specs.declared.outcome.Target.{Target}
+use Rattle.immediate.specs.Immediate.{Immediate, immediate_of, Changed, changed_of, Target, target_of}
 
 pub immediate-unique : (code : List ℕ) (k slot : ℕ) (form : Form) {r s : Immediate} → r ≡ immediate_of code k slot form → s ≡ immediate_of code k slot form → r ≡ s
 immediate-unique code k slot form = one-outcome

@@ -10,11 +10,10 @@ use Rattle.parts.specs.Placed.{placed, width_of, in_words}
 use Rattle.parts.proofs.Placed.{past-tag, within-bundle}
 use Rattle.parts.proofs.Steps.{widths-placed, gathered-lt}
 use Rattle.operand.specs.declared.Operand.{Operand}
-use Rattle.meaning.specs.Meaning.{means, Is, value_of, raw_of}
+use Rattle.meaning.specs.Meaning.{Raw, means, Is, value_of, raw_of}
 use Rattle.immediate.specs.inner.Sound.{Sound}
 use Rattle.row.specs.Row.{Row, is_none}
 use Rattle.immediate.specs.Immediate.{value_in, with_raw}
-use Rattle.meaning.specs.declared.Raw.{Raw}
 use Rattle.meaning.proofs.Inverse.{raw_of-value, value-of-raw}
 
 module _ (slot : ℕ) (row : Row) (s : Sound slot row) (n : ℕ) where

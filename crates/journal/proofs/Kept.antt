@@ -11,7 +11,7 @@ use lib.Dec.{T, ltb, ltb→lt}
 use lib.Ieee.Bits.{is_true}
 use lib.ListN.{length, length-append}
 use mir.Facts.{and_yes, yes_and}
-use Rattle.answer.specs.Answer.{Refusal, accepted, first, outcome}
+use Rattle.answer.specs.Answer.{Reason, accepted, first, outcome}
 use Rattle.answer.proofs.Laws.{numbered, none-applies, accepts, refuses, answered}
 use Rattle.bundle.specs.Bundle.{number_at, whole}
 use Rattle.bundle.proofs.Bytes.{Bytes}
@@ -47,7 +47,7 @@ module _ (a : ℕ) (done : Outcome) (code : List ℕ) (j : Journal) (is : done.a
 
 module _ (party places : ℕ) (code : List ℕ) (j : Journal) where
   -- changes that are refused, or made
-  module _ (refusals : List Refusal) (cs : List Change) where
+  module _ (refusals : List Reason) (cs : List Change) where
     pub make-answer : (make_of party places code j refusals cs).answer ≡ first (refusals ++ room_refusals places (view_of party places j) (length cs))
     unfolding make_of
     make-answer = answer-is (first (refusals ++ room_refusals places (view_of party places j) (length cs))) _ code j refl
@@ -107,7 +107,7 @@ module _ (party places : ℕ) (o : Outcome) (g : Good party places o) where
   abbrev j : Journal
   j = o.journal
 
-  pub make-good : (refusals : List Refusal) (cs : List Change) → T (numbered refusals) → (first refusals ≡ accepted → MayBeMade party o.code cs) → Good party places (make_of party places o.code j refusals cs)
+  pub make-good : (refusals : List Reason) (cs : List Change) → T (numbered refusals) → (first refusals ≡ accepted → MayBeMade party o.code cs) → Good party places (make_of party places o.code j refusals cs)
   make-good refusals cs h f = go (ℕ_discrete (make_of party places o.code j refusals cs).answer accepted)
     where
       go : Dec ((make_of party places o.code j refusals cs).answer ≡ accepted) → Good party places (make_of party places o.code j refusals cs)
@@ -160,11 +160,11 @@ field-made party code e b taken =
     }
 
 -- every number of a list of refusals is below n
-abbrev all_below : ℕ → List Refusal → Bool
+abbrev all_below : ℕ → List Reason → Bool
 all_below n [] = true
 all_below n (r ∷ rs) = ltb r.0 n && all_below n rs
 
-first_below : (n : ℕ) (rs : List Refusal) → 0 < n → T (all_below n rs) → first rs < n
+first_below : (n : ℕ) (rs : List Reason) → 0 < n → T (all_below n rs) → first rs < n
 first_below n [] h t = h
 first_below n (r ∷ rs) h t =
     let s = and_yes (ltb r.0 n) (all_below n rs) t in

@@ -1,15 +1,14 @@
 -- A change of a code is a field edit, or a whole bundle set to a number. What is said of changes is said of both; a call that makes some
 -- makes all of them or none. Assumes nothing.
 use Rattle.std.specs.Prelude.{ℕ, ◌+◌, ◌*◌, ◌%◌, ◌^◌, not, List, [], ◌∷◌, ◌++◌, ltb, length, take, drop}
-use Rattle.answer.specs.Answer.{Refusal, first, outcome, accepted, full, bad_journal}
+use Rattle.answer.specs.Answer.{Reason, first, outcome, accepted, full, bad_journal}
 use Rattle.bundle.specs.Bytes.{bytes}
 use Rattle.bundle.specs.Bundle.{number_at, halves_of}
 use Rattle.form.specs.declared.Edit.{Edit}
 use Rattle.immediate.specs.Immediate.{changed_number}
 use Rattle.record.specs.Record.{edit_record, whole_record}
 use Rattle.record.specs.declared.Record.{Record}
-use Rattle.records.specs.Journal.{Journal, standing, journal_of, view_of}
-use Rattle.records.specs.declared.View.{View}
+use Rattle.records.specs.Journal.{Journal, Shown, standing, journal_of, view_of}
 
 -- the code with bundle k made anew
 unfoldable pub rewritten : List ℕ → ℕ → ℕ → List ℕ
@@ -63,11 +62,11 @@ abbrev pub with_code : List ℕ → JournalOutcome → Outcome
 with_code code o = record { answer = o.answer; journal = o.journal; code = code }
 
 -- when so many places have no room for n records more, by what the journal shows
-abbrev pub room_refusals : ℕ → View → ℕ → List Refusal
+abbrev pub room_refusals : ℕ → Shown → ℕ → List Reason
 room_refusals places view n = (bad_journal, not view.valid) ∷ (full, ltb places (view.count + n)) ∷ []
 
 -- what a party's call that makes changes comes to, where the code has these reasons to refuse it: all of them made and recorded, or none
-unfoldable pub make_of : ℕ → ℕ → List ℕ → Journal → List Refusal → List Change → Outcome
+unfoldable pub make_of : ℕ → ℕ → List ℕ → Journal → List Reason → List Change → Outcome
 make_of party places code journal refusals cs =
     let answer = first (refusals ++ room_refusals places (view_of party places journal) (length cs)) in
     outcome answer

@@ -1,8 +1,9 @@
 -- The calls `edit`, `checked_edit` and `undo`: what each comes to with one party's journal, and then with a journal that parties share.
 -- Assumes nothing.
-use Rattle.std.specs.Prelude.{ℕ, ◌+◌, ◌*◌, not, eqb, ltb, length}
+use Rattle.std.specs.Prelude.{ℕ, ◌+◌, ◌*◌, not, eqb, ltb, length, Result, Ok, Err}
 use mathlib.Core.List.{List, [], ◌∷◌, ◌++◌, drop_last}
-use Rattle.answer.specs.Answer.{Refusal, first, outcome, accepted, exhausted_input, empty, stale, too_long, bad_journal, bad_opcode, retired}
+use Rattle.answer.specs.Answer.{Reason, first, outcome, accepted, exhausted_input, empty, stale, too_long, bad_journal, bad_opcode, retired, answer_of}
+use Rattle.answer.specs.declared.Refusal.{Refusal}
 use Rattle.bundle.specs.Bundle.{longest_code, number_at, units_in, find_refusals, halves_of, whole}
 use Rattle.choice.specs.Choice.{has_form}
 use Rattle.form.specs.declared.Edit.{Edit}
@@ -11,37 +12,36 @@ use Rattle.row.specs.Row.{row_of}
 use Rattle.immediate.specs.Immediate.{row_refusals, slot_refusals, value_refusals}
 use Rattle.record.specs.Record.{same_halves}
 use Rattle.record.specs.declared.Record.{Record}
-use Rattle.records.specs.Journal.{Journal, standing, journal_of, view_of}
+use Rattle.records.specs.Journal.{Journal, Shown, standing, journal_of, view_of}
 use Rattle.records.specs.Shared.{Shared, sharing, places_of, served_of, after_by}
-use Rattle.records.specs.declared.View.{View}
+use Rattle.records.specs.declared.Counts.{Counts}
 use Rattle.journal.specs.Change.{Outcome, JournalOutcome, rewritten, field, make_of}
 use Rattle.journal.specs.declared.Act.{Act}
 use Rattle.journal.specs.declared.Act.TheVariants.{Edit as EditAct, Checked, Undo}
-use Rattle.journal.specs.declared.Edited.{Edited}
 
 -- when a bundle refuses an edit of which more is asked between 3 and 5, and more between 5 and 6: 2, 3, the one, 5, the other, 6
-abbrev pub change_with : List Refusal → List Refusal → ℕ → Edit → List Refusal
+abbrev pub change_with : List Reason → List Reason → ℕ → Edit → List Reason
 change_with early late n e =
     let row = row_of e.form in
     row_refusals (units_in n) row ++ early ++ slot_refusals (units_in n) e.slot e.form ++ late ++ value_refusals row e.value
 
 -- when the code does: as `find` does, 10 and 1, and then as the bundle does
-abbrev pub refusals_with : List Refusal → List Refusal → List ℕ → Edit → List Refusal
+abbrev pub refusals_with : List Reason → List Reason → List ℕ → Edit → List Reason
 refusals_with early late code e = find_refusals code e.bundle ++ change_with early late (number_at code e.bundle) e
 
 -- of every new edit that its form isn't retired: 15
-abbrev pub retired_refusal : Edit → Refusal
+abbrev pub retired_refusal : Edit → Reason
 retired_refusal e = (retired, is_retired e.form)
 
 -- and of a plain edit nothing more
-abbrev pub code_refusals : List ℕ → Edit → List Refusal
+abbrev pub code_refusals : List ℕ → Edit → List Reason
 code_refusals code e = refusals_with (retired_refusal e ∷ []) [] code e
 
 -- of a checked edit that the word in its slot has its form: 14
-abbrev pub form_refusal : List ℕ → Edit → Refusal
+abbrev pub form_refusal : List ℕ → Edit → Reason
 form_refusal code e = (bad_opcode, not (has_form (number_at code e.bundle) e.slot e.form))
 
-abbrev pub checked_refusals : List ℕ → Edit → List Refusal
+abbrev pub checked_refusals : List ℕ → Edit → List Reason
 checked_refusals code e = refusals_with (retired_refusal e ∷ []) (form_refusal code e ∷ []) code e
 
 -- what a party's edit comes to with its journal of so many places
@@ -53,7 +53,7 @@ abbrev pub checked_of : ℕ → ℕ → List ℕ → Journal → Edit → Outcom
 checked_of party places code journal e = make_of party places code journal (checked_refusals code e) (field e ∷ [])
 
 -- when undoing is refused, by what the journal shows
-abbrev pub undo_refusals : List ℕ → View → List Refusal
+abbrev pub undo_refusals : List ℕ → Shown → List Reason
 undo_refusals code view =
     let last = view.last in
     (too_long, ltb longest_code (length code))
@@ -79,9 +79,14 @@ pub record SharedOutcome : Type 0 where
   pub journal : Shared
   pub code : List ℕ
 
--- what a call hands back, with the records and the code that it leaves
-abbrev pub outcome_of : Edited → List Record → List ℕ → SharedOutcome
-outcome_of r records code = record { answer = r.answer; journal = sharing r.counts records; code = code }
+-- the counts after a call: those that it hands back; refused, those that it was given
+abbrev pub counts_after : Counts → Result Counts Refusal → Counts
+counts_after given (Ok counts) = counts
+counts_after given (Err refusal) = given
+
+-- what a call hands back that was given these counts, with the records and the code that it leaves
+abbrev pub outcome_of : Result Counts Refusal → Counts → List Record → List ℕ → SharedOutcome
+outcome_of r given records code = record { answer = answer_of r; journal = sharing (counts_after given r) records; code = code }
 
 -- what a party's call comes to, by what it comes to with that party's journal
 abbrev pub by_party : Shared → ℕ → Outcome → SharedOutcome
@@ -92,8 +97,8 @@ pub record SharedJournalOutcome : Type 0 where
   pub answer : ℕ
   pub journal : Shared
 
-abbrev pub journal_outcome_of : Edited → List Record → SharedJournalOutcome
-journal_outcome_of r records = record { answer = r.answer; journal = sharing r.counts records }
+abbrev pub journal_outcome_of : Result Counts Refusal → Counts → List Record → SharedJournalOutcome
+journal_outcome_of r given records = record { answer = answer_of r; journal = sharing (counts_after given r) records }
 
 abbrev pub journal_by_party : Shared → ℕ → JournalOutcome → SharedJournalOutcome
 journal_by_party s party o = record { answer = o.answer; journal = after_by s party o.answer o.journal }

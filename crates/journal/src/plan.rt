@@ -1,23 +1,21 @@
 // What an act decides, on values alone: nothing is written here.
-ghost use Rattle.std.specs.Prelude.{◌≡◌, cond};
-ghost use Rattle.answer.specs.Answer.{first};
+ghost use Rattle.std.specs.Prelude.{◌≡◌, ◌<◌, IfOk, Some};
+ghost use Rattle.answer.specs.Answer.{first, answer_of};
+ghost use Rattle.records.specs.inner.Shows.{as_shown, as_own_view};
 ghost use Rattle.journal.specs.Change.{room_refusals};
 ghost use Rattle.journal.specs.Edit.{code_refusals, checked_refusals, undo_refusals};
-ghost use Rattle.journal.specs.inner.Plan.{refused_plan, new_refusals, look_refusals, field_refusals, word_refusals, edit_answer, edit_plan_of, undo_plan_of, plan_of};
+ghost use Rattle.journal.specs.inner.Plan.{as_planned, new_refusals, look_refusals, field_refusals, edit_answer, edit_plan_of, undo_plan_of, plan_of};
 
 use crate::Act;
-use answer::{
-    ACCEPTED, BAD_JOURNAL, BAD_OPCODE, EMPTY, EXHAUSTED_INPUT, FULL, RETIRED, STALE, TOO_LONG,
-};
+use answer::Refusal;
 use bundle::Halves;
 use form::Edit;
 use record::{NONE, Record};
 use records::{Own, View};
 
-// The answer, the bundle to write, the record to keep and its place, and how many records stand then.
+// The bundle to write, the record to keep and its place, and how many records stand then.
 #[derive(Clone, Copy)]
 pub struct Plan {
-    pub answer: u8,
     pub bundle: u64,
     pub halves: Halves,
     pub place: u64,
@@ -25,91 +23,69 @@ pub struct Plan {
     pub count: u64,
 }
 
-fn refused(answer: u8) -> Plan
-    ensures { result ≡ refused_plan answer }
-{
-    Plan {
-        answer,
-        bundle: 0,
-        halves: Halves { low: 0, high: 0 },
-        place: 0,
-        kept: NONE,
-        count: 0,
-    }
-}
-
 // A party's act, by the code and what the party's journal shows.
-pub fn plan_of(code: &[u8], party: u64, own: Own, act: Act) -> Plan
-    ensures { result ≡ plan_of party code.now own act }
+pub fn plan_of(code: &[u8], party: u64, own: Own, act: Act) -> Result<Plan, Refusal>
+    ensures { as_planned result ≡ plan_of party code.now (as_own_view own) act }
 {
-    let view = own.view;
     match act {
-        Act::Edit(edit) => new_plan(code, party, own.places, view, false, edit),
-        Act::Checked(edit) => new_plan(code, party, own.places, view, true, edit),
-        Act::Undo => undo_plan(code, view),
+        Act::Edit(edit) => new_plan(code, party, own, edit),
+        Act::Checked(edit) => checked_plan(code, party, own, edit),
+        Act::Undo => undo_plan(code, own.view),
     }
 }
 
-// A new edit is a question after its form, and then the edit, checked or not.
-fn new_plan(code: &[u8], party: u64, places: u64, view: View, checked: bool, edit: Edit) -> Plan
-    ensures { result ≡ edit_plan_of party code.now view edit (edit_answer places view (cond checked (checked_refusals code.now edit) (code_refusals code.now edit))) }
+// A new edit is a question after its form, and then the edit.
+fn new_plan(code: &[u8], party: u64, own: Own, edit: Edit) -> Result<Plan, Refusal>
+    ensures { as_planned result ≡ edit_plan_of party code.now (as_shown own.view) edit (edit_answer own.places (as_shown own.view) (code_refusals code.now edit)) }
 {
-    let answer = new_refusal(code, edit);
-    if answer != ACCEPTED {
-        return refused(answer);
-    }
-    if checked {
-        return checked_plan(code, party, places, view, edit);
-    }
-    edit_plan(code, party, places, view, edit)
+    new_allowed(code, edit)?;
+    edit_plan(code, party, own, edit)
 }
 
-// Why no new edit is taken of a form in a bundle, whatever the slot.
-fn new_refusal(code: &[u8], edit: Edit) -> u8
-    ensures { result ≡ first (new_refusals code.now edit) }
+// A checked one is that question, a look at the word, and then the edit.
+fn checked_plan(code: &[u8], party: u64, own: Own, edit: Edit) -> Result<Plan, Refusal>
+    ensures { as_planned result ≡ edit_plan_of party code.now (as_shown own.view) edit (edit_answer own.places (as_shown own.view) (checked_refusals code.now edit)) }
 {
-    let loaded = bundle::load(code, edit.bundle);
-    let missing = loaded.answer;
-    if missing != ACCEPTED {
-        return missing;
-    }
-    let form = edit.form;
-    let unfit = immediate::row_answer(loaded.halves, form);
-    if unfit != ACCEPTED {
-        return unfit;
-    }
-    if retired::is_retired(form) {
-        return RETIRED;
-    }
-    ACCEPTED
+    new_allowed(code, edit)?;
+    word_allowed(code, edit)?;
+    edit_plan(code, party, own, edit)
 }
 
-// A party's edit keeps its record at the first free one of so many places.
-fn edit_plan(code: &[u8], party: u64, places: u64, view: View, edit: Edit) -> Plan
-    ensures { result ≡ edit_plan_of party code.now view edit (edit_answer places view (field_refusals code.now edit)) }
+// Whether a new edit of a form is taken in a bundle, whatever the slot.
+fn new_allowed(code: &[u8], edit: Edit) -> Result<(), Refusal>
+    ensures { answer_of result ≡ first (new_refusals code.now edit) }
+{
+    let halves = bundle::load(code, edit.bundle)?;
+    immediate::row_answer(halves, edit.form)?;
+    if retired::is_retired(edit.form) {
+        return Err(Refusal::Retired);
+    }
+    Ok(())
+}
+
+// Whether an edit's number can be read where it is to stand, and the word there has its form.
+fn word_allowed(code: &[u8], edit: Edit) -> Result<(), Refusal>
+    ensures { answer_of result ≡ first (look_refusals code.now edit) }
+{
+    let halves = bundle::load(code, edit.bundle)?;
+    immediate::read_answer(halves, edit.slot, edit.form)?;
+    if !choice::has_form(halves, edit.slot, edit.form) {
+        return Err(Refusal::BadOpcode);
+    }
+    Ok(())
+}
+
+// A party's edit keeps its record at the first free one of the party's places.
+fn edit_plan(code: &[u8], party: u64, own: Own, edit: Edit) -> Result<Plan, Refusal>
+    ensures { as_planned result ≡ edit_plan_of party code.now (as_shown own.view) edit (edit_answer own.places (as_shown own.view) (field_refusals code.now edit)) }
 {
     let bundle = edit.bundle;
-    let loaded = bundle::load(code, bundle);
-    let missing = loaded.answer;
-    if missing != ACCEPTED {
-        return refused(missing);
-    }
-    let old = loaded.halves;
-    let changed = immediate::change(old, edit);
-    let unfit = changed.answer;
-    if unfit != ACCEPTED {
-        return refused(unfit);
-    }
-    let count = view.count;
-    let answer = room_refusal(places, view);
-    if answer != ACCEPTED {
-        return refused(answer);
-    }
-    let new = changed.bundle;
+    let old = bundle::load(code, bundle)?;
+    let new = immediate::change(old, edit)?;
+    let count = free_place(own)?;
     let form = edit.form;
     let value = edit.value;
-    Plan {
-        answer,
+    Ok(Plan {
         bundle,
         halves: new,
         place: count,
@@ -123,98 +99,57 @@ fn edit_plan(code: &[u8], party: u64, places: u64, view: View, edit: Edit) -> Pl
             new,
         },
         count: count + 1,
-    }
+    })
 }
 
-// A checked edit is a look at the word, and then the edit.
-fn checked_plan(code: &[u8], party: u64, places: u64, view: View, edit: Edit) -> Plan
-    ensures { result ≡ edit_plan_of party code.now view edit (edit_answer places view (word_refusals code.now edit)) }
+// The first free place of a party's valid journal, which is past those that stand.
+fn free_place(own: Own) -> Result<u64, Refusal>
+    ensures answer { answer_of result ≡ first (room_refusals own.places (as_shown own.view) 1) }
+    ensures place { IfOk result (λ place. (place ≡ (as_shown own.view).count) × (place < own.places)) }
 {
-    let answer = look_refusal(code, edit);
-    if answer != ACCEPTED {
-        return refused(answer);
+    let Some(view) = own.view else {
+        return Err(Refusal::BadJournal);
+    };
+    if own.places <= view.count {
+        return Err(Refusal::Full);
     }
-    edit_plan(code, party, places, view, edit)
-}
-
-// Why an edit's number can't be read where it is to stand, or why the word there hasn't its form.
-fn look_refusal(code: &[u8], edit: Edit) -> u8
-    ensures { result ≡ first (look_refusals code.now edit) }
-{
-    let loaded = bundle::load(code, edit.bundle);
-    let missing = loaded.answer;
-    if missing != ACCEPTED {
-        return missing;
-    }
-    let halves = loaded.halves;
-    let slot = edit.slot;
-    let form = edit.form;
-    let unread = immediate::read_answer(halves, slot, form);
-    if unread != ACCEPTED {
-        return unread;
-    }
-    if !choice::has_form(halves, slot, form) {
-        return BAD_OPCODE;
-    }
-    ACCEPTED
-}
-
-// Why no record can be added to those at so many places.
-fn room_refusal(places: u64, view: View) -> u8
-    ensures { result ≡ first (room_refusals places view 1) }
-{
-    if !view.valid {
-        return BAD_JOURNAL;
-    }
-    if places <= view.count {
-        return FULL;
-    }
-    ACCEPTED
+    Ok(view.count)
 }
 
 // An undo frees the last record's place.
-fn undo_plan(code: &[u8], view: View) -> Plan
-    ensures { result ≡ undo_plan_of code.now view }
+fn undo_plan(code: &[u8], view: Option<View>) -> Result<Plan, Refusal>
+    ensures { as_planned result ≡ undo_plan_of code.now (as_shown view) }
 {
-    let answer = undo_refusal(code, view);
-    if answer != ACCEPTED {
-        return refused(answer);
-    }
+    let view = undoable(code, view)?;
     let last = view.last;
-    let halves = last.old;
     let place = view.count - 1;
-    Plan {
-        answer,
+    Ok(Plan {
         bundle: last.bundle,
-        halves,
+        halves: last.old,
         place,
         kept: NONE, // the place is free again
         count: place,
-    }
+    })
 }
 
-// Why the last record can't be undone.
-fn undo_refusal(code: &[u8], view: View) -> u8
-    ensures { result ≡ first (undo_refusals code.now view) }
+// What the journal shows, where its last record can be undone.
+fn undoable(code: &[u8], view: Option<View>) -> Result<View, Refusal>
+    ensures answer { answer_of result ≡ first (undo_refusals code.now (as_shown view)) }
+    ensures shown { IfOk result (λ shown. (view ≡ Some shown) × (0 < shown.count)) }
 {
     if bundle::LONGEST_CODE < code.len() {
-        return TOO_LONG;
+        return Err(Refusal::TooLong);
     }
-    if !view.valid {
-        return BAD_JOURNAL;
-    }
+    let Some(view) = view else {
+        return Err(Refusal::BadJournal);
+    };
     if view.count == 0 {
-        return EMPTY;
+        return Err(Refusal::Empty);
     }
     let last = view.last;
-    let loaded = bundle::load(code, last.bundle);
-    if loaded.answer != ACCEPTED {
-        return EXHAUSTED_INPUT;
+    let present = bundle::load(code, last.bundle)?;
+    if present != last.new {
+        return Err(Refusal::Stale);
     }
-    let present = loaded.halves;
-    let new = last.new;
-    if !record::same_halves(present, new) {
-        return STALE;
-    }
-    ACCEPTED
+    Ok(view)
 }

@@ -11,16 +11,15 @@ use lib.Seq.{sets, drop-length}
 use Rattle.bundle.proofs.Elements.{listed}
 use Rattle.text.specs.Ascii.{starts_with}
 use Rattle.text.specs.Fields.{fields, Words, fields_of}
-use Rattle.text.specs.declared.fields.Fields.{Fields}
+use Rattle.std.specs.Prelude.{Option, Some, None}
+use Rattle.text.proofs.Numbers.{no_number}
 use Rattle.text.proofs.RoundTrip.{starts, starts_is, fields_back}
 use Rattle.text.proofs.Stands.{Stands, whole-stands, stands-then, stands_parts}
 use Rattle.text.proofs.Stored.{all_read}
 use Rattle.layout.specs.Layout.{Layout, start, head_ends, numbers_of, lines_of, layout_of}
 use Rattle.layout.specs.Read.{ends_after, windows_at, reading_of, look_of, layout_in}
 use Rattle.layout.specs.RoundTrip.{LayoutFits, ReadsWritten, ReadsOnlyWritten}
-use Rattle.layout.specs.declared.Reading.{Reading}
 use Rattle.layout.specs.declared.reader.Found.{Found}
-use Rattle.layout.specs.declared.reader.Found.TheVariants as found
 use Rattle.layout.proofs.Lines.{lines-back, lines-read}
 
 -- a text as written
@@ -44,7 +43,7 @@ module _ (l : Layout) (fits : LayoutFits l) where
   unfolding layout_of
   starts-so = starts start (fields numbers head_ends ++ lines_of l.windows)
 
-  head_read : (w : Written) → fields_of (layout_of l) 7 head_ends ≡ record { read = true; next = w.first; of = sets (replicate 8 0) 0 numbers }
+  head_read : (w : Written) → fields_of (layout_of l) 7 head_ends ≡ Some (sets (replicate 8 0) 0 numbers, w.first)
   unfolding fields_of
   head_read w =
       rw (fields_back (layout_of l) head_ends numbers 7 w.first (refl, (refl, (refl, (refl, (refl, tt))))) (record { count = refl; words = fits.head; piece = w.head }))
@@ -59,37 +58,33 @@ pub reads-written : ReadsWritten
 reads-written l fits = read_back l fits (written l fits)
 
 -- what looking found, by its tests
-abbrev head : List ℕ → Fields
-head text = fields_of text 7 head_ends
-
 record Looked (text : List ℕ) : Type 0 where
+  of : List ℕ
+  next : ℕ
   starts : starts_with start text ≡ true
-  read : (head text).read ≡ true
-  ends : ends_after text (head text).next (get_or (head text).of 4 0) ≡ true
+  read : fields_of text 7 head_ends ≡ Some (of, next)
+  ends : ends_after text next (get_or of 4 0) ≡ true
 
-looked : (text : List ℕ) (reading : Reading) (count first : ℕ) → look_of text ≡ found.Layout reading count first → Looked text
+looked : (text : List ℕ) (found : Found) → look_of text ≡ Some found → Looked text
 unfolding look_of
-looked text reading count first e = by-start (starts_with start text) refl
+looked text found e = by-start (starts_with start text) refl
   where
-    refused : found.Refused ≡ found.Layout reading count first → ⊥
-    refused q = let z : ◌≡◌ {A = ℕ} 0 1 = cc in omega arith
+    by-ends : (of : List ℕ) (next : ℕ) → starts_with start text ≡ true → fields_of text 7 head_ends ≡ Some (of, next) → (t : Bool) → ends_after text next (get_or of 4 0) ≡ t → Looked text
+    by-ends of next s r false n = absurd (no_number (rw (s, r, n) at e))
+    by-ends of next s r true n = record { of = of; next = next; starts = s; read = r; ends = n }
 
-    by-ends : starts_with start text ≡ true → (head text).read ≡ true → (t : Bool) → ends_after text (head text).next (get_or (head text).of 4 0) ≡ t → Looked text
-    by-ends s r false n = absurd (refused (rw (s, r, n) at e))
-    by-ends s r true n = record { starts = s; read = r; ends = n }
-
-    by_read : starts_with start text ≡ true → (t : Bool) → (head text).read ≡ t → Looked text
-    by_read s false r = absurd (refused (rw (s, r) at e))
-    by_read s true r = by-ends s r (ends_after text (head text).next (get_or (head text).of 4 0)) refl
+    by_read : starts_with start text ≡ true → (m : Option (List ℕ × ℕ)) → fields_of text 7 head_ends ≡ m → Looked text
+    by_read s None r = absurd (no_number (rw (s, r) at e))
+    by_read s (Some (of, next)) r = by-ends of next s r (ends_after text next (get_or of 4 0)) refl
 
     by-start : (t : Bool) → starts_with start text ≡ t → Looked text
-    by-start false s = absurd (refused (rw s at e))
-    by-start true s = by_read s (head text).read refl
+    by-start false s = absurd (no_number (rw s at e))
+    by-start true s = by_read s (fields_of text 7 head_ends) refl
 
 -- what was found is byte for byte the text of what it holds
 module _ (text : List ℕ) (l : Looked text) where
   abbrev holds : Layout
-  holds = record { reading = reading_of (head text).of; windows = windows_at text (head text).next (get_or (head text).of 4 0) }
+  holds = record { reading = reading_of l.of; windows = windows_at text l.next (get_or l.of 4 0) }
 
   held : layout_in text ≡ some holds
   unfolding layout_in look_of
@@ -98,10 +93,10 @@ module _ (text : List ℕ) (l : Looked text) where
   is-written : LayoutFits holds × (text ≡ layout_of holds)
   unfolding layout_of
   is-written =
-      let a = all_read text 7 head_ends (head text) refl (omega arith) l.read in
+      let a = all_read text 7 head_ends l.of l.next (omega arith) (sym l.read) in
       let s = a.stand in
       let n = a.looked in
-      let c = lines-read text (get_or (head text).of 4 0) (head text).next l.ends in
+      let c = lines-read text (get_or l.of 4 0) l.next l.ends in
       let count = sym (n 4) ∙ sym c.long in
       let same : a.numbers ≡ numbers_of holds.reading (length holds.windows) = listed a.numbers 0 5 s.count ∙ (λ i. sym (n 0) i ∷ sym (n 1) i ∷ sym (n 2) i ∷ sym (n 3) i ∷ count i ∷ []) in
       let all = stands-then s.piece c.stands in
@@ -116,9 +111,9 @@ pub reads-only-written : ReadsOnlyWritten
 unfolding layout_in
 reads-only-written text l e = go (look_of text) refl
   where
-    go : (m : Found) → look_of text ≡ m → LayoutFits l × (text ≡ layout_of l)
-    go found.Refused q = absurd (none-ne-some l (rw q at e))
-    go (found.Layout reading count first) q =
-        let k = looked text reading count first q in
+    go : (m : Option Found) → look_of text ≡ m → LayoutFits l × (text ≡ layout_of l)
+    go None q = absurd (none-ne-some l (rw q at e))
+    go (Some found) q =
+        let k = looked text found q in
         let v : holds text k ≡ l = some-injective (holds text k) l (sym (held text k) ∙ e) in
         rw (← v) (is-written text k)

@@ -9,8 +9,7 @@ use borrow.Author.Tests.{eq-eqb, eqb-true}
 use lib.ListN.{length, drop, length-append, length-drop}
 use Rattle.text.specs.Decimal.{decimal}
 use Rattle.text.specs.Fields.{Words}
-use Rattle.text.specs.declared.number.Number.{Number}
-use Rattle.text.specs.declared.number.Number.TheVariants.{Read, Refused}
+use Rattle.std.specs.Prelude.{Option, Some, None}
 use Rattle.text.proofs.RoundTrip.{field-read, field_back}
 use Rattle.text.proofs.Stands.{Stands, stands-then, stands_parts}
 use Rattle.layout.specs.Layout.{line_of, lines_of}
@@ -21,7 +20,7 @@ module _ (text : List ℕ) (at left : ℕ) (some : 0 < left) where
   more : left ≡ suc (left - 1)
   more = omega arith
 
-  module _ {w next : ℕ} (e : window_at text at ≡ Read w next) where
+  module _ {w next : ℕ} (e : window_at text at ≡ Some (w, next)) where
     pub ends_more : ends_after text at left ≡ ends_after text next (left - 1)
     unfolding ends_after
     ends_more = ap (ends_after text at) more ∙ rw e
@@ -30,7 +29,7 @@ module _ (text : List ℕ) (at left : ℕ) (some : 0 < left) where
     unfolding windows_at
     windows-more = ap (windows_at text at) more ∙ rw e
 
-  module _ (e : window_at text at ≡ Refused) where
+  module _ (e : window_at text at ≡ None) where
     pub ends-none : ends_after text at left ≡ false
     unfolding ends_after
     ends-none = ap (ends_after text at) more ∙ rw e
@@ -46,7 +45,7 @@ windows-end text at left e = rw e
 
 module _ (text : List ℕ) where
   -- a line that was read lies in the text
-  line-within : (at w next : ℕ) → window_at text at ≡ Read w next → (at < next) × (next ≤ length text)
+  line-within : (at w next : ℕ) → window_at text at ≡ Some (w, next) → (at < next) × (next ≤ length text)
   line-within at w next e =
       let p = (field-read text at 10 w next e).piece in
       let long = length-append (decimal w) (10 ∷ []) in
@@ -59,9 +58,9 @@ module _ (text : List ℕ) where
   windows-few zero at = omega arith
   windows-few (suc left) at = go (window_at text at) refl (windows-few left)
     where
-      go : (m : Number) → window_at text at ≡ m → ((next : ℕ) → length (windows_at text next left) ≤ length text - next) → length (windows_at text at (suc left)) ≤ length text - at
-      go Refused e on = rw e (omega arith)
-      go (Read w next) e on = let h = line-within at w next e in rw e (omega (arith, on next, h.0, h.1))
+      go : (m : Option (ℕ × ℕ)) → window_at text at ≡ m → ((next : ℕ) → length (windows_at text next left) ≤ length text - next) → length (windows_at text at (suc left)) ≤ length text - at
+      go None e on = rw e (omega arith)
+      go (Some (w, next)) e on = let h = line-within at w next e in rw e (omega (arith, on next, h.0, h.1))
 
   -- the lines of some windows are read as those windows
   pub lines-back : (ws : List ℕ) (at : ℕ) → Words ws → Stands text at (lines_of ws) (length text) → (ends_after text at (length ws) ≡ true) × (windows_at text at (length ws) ≡ ws)
@@ -87,9 +86,9 @@ module _ (text : List ℕ) where
       record { long = refl; words = tt; stands = record { found = ap (λ (k : ℕ). drop k text) p; place = omega arith } }
   lines-read (suc left) at e = go (window_at text at) refl (lines-read left)
     where
-      go : (m : Number) → window_at text at ≡ m → ((next : ℕ) → ends_after text next left ≡ true → LinesRead text next left) → LinesRead text at (suc left)
-      go Refused f on = absurd (false≢true (rw f at e))
-      go (Read w next) f on =
+      go : (m : Option (ℕ × ℕ)) → window_at text at ≡ m → ((next : ℕ) → ends_after text next left ≡ true → LinesRead text next left) → LinesRead text at (suc left)
+      go None f on = absurd (false≢true (rw f at e))
+      go (Some (w, next)) f on =
           let r = field-read text at 10 w next f in
           let rest = on next (rw f at e) in
           record { long = rw f (ap suc rest.long); words = rw f (r.words.0, rest.words); stands = rw f (stands-then r.piece rest.stands) }

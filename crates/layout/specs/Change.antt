@@ -1,16 +1,15 @@
 -- Whether a layout lists a window, and the layout with a window listed or not. Assumes nothing.
-use Rattle.std.specs.Prelude.{ℕ, Bool, false, cond, ◌||◌, List, [], ◌∷◌, ◌++◌, eqb}
+use Rattle.std.specs.Prelude.{ℕ, Bool, false, cond, List, [], ◌∷◌, ◌++◌, eqb}
+use Rattle.std.specs.List.{list_any}
 use Rattle.std.proofs.Math.Option.{Option, none, some}
 use Rattle.answer.specs.Answer.{bad_sheet}
-use Rattle.text.specs.Whole.{wrote_of}
-use Rattle.text.specs.declared.whole.Written.{Written}
+use Rattle.text.specs.Whole.{Written, wrote_of}
 use Rattle.layout.specs.Layout.{Layout, layout_of}
 use Rattle.layout.specs.Read.{layout_in}
 
 -- a window is among some
 abbrev pub lists : List ℕ → ℕ → Bool
-lists [] w = false
-lists (v ∷ vs) w = eqb v w || lists vs w
+lists ws w = list_any (λ v. eqb v w) ws
 
 -- those other than w
 abbrev pub others : ℕ → List ℕ → List ℕ

@@ -1,110 +1,71 @@
 // The layout with a window listed last, or not listed.
 ghost use Rattle.std.specs.Prelude.{◌≡◌, [], ◌∷◌, ◌≤◌, length};
 ghost use Rattle.text.specs.Put.{Put};
+ghost use Rattle.text.specs.Whole.{as_written};
 ghost use Rattle.layout.specs.Change.{others, windows_with, with_window_of};
 ghost use Rattle.layout.specs.Layout.{lines_of, layout_of};
 ghost use Rattle.layout.specs.Read.{windows_at};
 
 use crate::reader::Found;
-use crate::{Reading, put_head, reader};
-use answer::{ACCEPTED, BAD_SHEET, NO_ROOM};
-use text::{NEWLINE, Number, Written};
+use crate::walk::windows_at;
+use crate::{put_head, reader};
+use answer::Refusal;
+use text::NEWLINE;
 
-// Writes the layout `text` with the window listed last, or not listed, at the output's start.
-pub fn with_window(text: &[u8], window: u64, listed: bool, out: &mut [u8]) -> Written
-    ensures { (result, out.new) ≡ with_window_of text.now window listed out.old }
+// Writes the layout `text` with the window listed last, or not listed, at the output's start, and answers its length.
+pub fn with_window(text: &[u8], window: u64, listed: bool, out: &mut [u8]) -> Result<usize, Refusal>
+    ensures { (as_written result, out.new) ≡ with_window_of text.now window listed out.old }
 {
-    let found = reader::look(text);
-    let Found::Layout(reading, count, first) = found else {
-        return Written {
-            answer: BAD_SHEET,
-            length: 0,
-        };
+    let Some(found) = reader::look(text) else {
+        return Err(Refusal::BadSheet);
     };
     let mut none = [0u8; 0];
-    if out.len() < put_layout(&mut none, reading, text, first, count, window, listed) {
-        return Written {
-            answer: NO_ROOM,
-            length: 0,
-        };
+    if out.len() < put_layout(&mut none, text, found, window, listed) {
+        return Err(Refusal::NoRoom);
     }
-    let length = put_layout(out, reading, text, first, count, window, listed);
-    Written {
-        answer: ACCEPTED,
-        length,
-    }
+    Ok(put_layout(out, text, found, window, listed))
 }
 
-// Writes the layout of a reading and of the windows of so many lines of a text, with one listed last or not listed.
-fn put_layout(
-    out: &mut [u8],
-    reading: Reading,
-    text: &[u8],
-    first: usize,
-    count: u64,
-    window: u64,
-    listed: bool,
-) -> usize
-    ensures { Put out.old 0 (layout_of (record { reading = reading; windows = windows_with window listed (windows_at text.now first count) })) out.new result }
+// Writes the layout that was found in a text, with a window listed last or not listed.
+fn put_layout(out: &mut [u8], text: &[u8], found: Found, window: u64, listed: bool) -> usize
+    ensures { Put out.old 0 (layout_of (record { reading = found.reading; windows = windows_with window listed (windows_at text.now found.first found.count) })) out.new result }
 {
-    let others = count_others(text, first, count, window);
+    let reading = found.reading;
+    let others = count_others(text, found, window);
     if listed {
         let head = put_head(out, reading, others + 1);
-        let end = put_others(out, head, text, first, count, window);
+        let end = put_others(out, head, text, found, window);
         return text::put_field(out, end, window, NEWLINE);
     }
     let head = put_head(out, reading, others);
-    put_others(out, head, text, first, count, window)
+    put_others(out, head, text, found, window)
 }
 
-// How many of the windows of so many lines are others than the one given.
-fn count_others(text: &[u8], first: usize, count: u64, window: u64) -> u64
-    ensures { (result ≡ length (others window (windows_at text.now first count))) × (result ≤ length text.now) }
+// How many of its windows are others than the one given.
+fn count_others(text: &[u8], found: Found, window: u64) -> u64
+    ensures { (result ≡ length (others window (windows_at text.now found.first found.count))) × (result ≤ length text.now) }
 {
-    let mut at = first;
-    let mut left = count;
-    let mut found = 0;
-    while 0 < left {
-        let line = reader::window_at(text, at);
-        let Number::Read(one, next) = line else {
-            return found;
-        };
-        found += count_other(one, window);
-        at = next;
-        left -= 1;
+    let mut others = 0;
+    for one in windows_at(text, found.first, found.count) {
+        others += count_other(one, window);
     }
-    found
+    others
 }
 
 // 1 for a window that is another than the one given, and 0 for that.
 fn count_other(one: u64, window: u64) -> u64
     ensures { result ≡ length (others window (one ∷ [])) }
 {
-    if one == window { 0 } else { 1 }
+    u64::from(one != window)
 }
 
 // Writes the lines of the others.
-fn put_others(
-    out: &mut [u8],
-    at: usize,
-    text: &[u8],
-    first: usize,
-    count: u64,
-    window: u64,
-) -> usize
-    ensures { Put out.old at (lines_of (others window (windows_at text.now first count))) out.new result }
+fn put_others(out: &mut [u8], at: usize, text: &[u8], found: Found, window: u64) -> usize
+    ensures { Put out.old at (lines_of (others window (windows_at text.now found.first found.count))) out.new result }
 {
     let mut end = at;
-    let mut line_at = first;
-    let mut left = count;
-    while 0 < left {
-        let line = reader::window_at(text, line_at);
-        let Number::Read(one, next) = line else {
-            return end;
-        };
+    for one in windows_at(text, found.first, found.count) {
         end = put_other(out, end, one, window);
-        line_at = next;
-        left -= 1;
     }
     end
 }

@@ -3,17 +3,19 @@
 
 mod change;
 mod reader;
+mod walk;
 
 ghost use Rattle.std.specs.Prelude.{◌≡◌};
 ghost use Rattle.layout.specs.Layout.{first_line, same_reading};
 ghost use Rattle.text.specs.Put.{Put};
 
 pub use change::with_window;
-pub use reader::{Found, has, look, window_at};
-pub use text::Number as Line;
+pub use reader::{Found, has, look};
+pub use walk::{Windows, window_at, windows_at};
 
 // How a file is read: kind 0 is ELF; kind 1 is raw bytes, so many from an offset on, of which the first has the address `base`.
-#[derive(Clone, Copy)]
+// A layout may give any number for the kind, and is written as it was read (theorem ReadsOnlyWritten): so it is no enum.
+#[derive(Clone, Copy, PartialEq, Eq)]
 pub struct Reading {
     pub kind: u64,
     pub base: u64,
@@ -51,5 +53,5 @@ fn put_head(out: &mut [u8], reading: Reading, count: u64) -> usize
 pub fn same_reading(a: Reading, b: Reading) -> bool
     ensures { result ≡ same_reading a b }
 {
-    (a.kind == b.kind) & (a.base == b.base) & (a.offset == b.offset) & (a.length == b.length)
+    a == b
 }

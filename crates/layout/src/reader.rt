@@ -1,50 +1,42 @@
 // A text that may be a layout: its reading, and its windows one after the other.
 ghost use Rattle.std.specs.Prelude.{◌≡◌};
-ghost use Rattle.layout.specs.Change.{lists, has_of};
-ghost use Rattle.layout.specs.Read.{window_at, ends_after, windows_at, look_of};
+ghost use Rattle.layout.specs.Change.{has_of};
+ghost use Rattle.layout.specs.Read.{ends_after, look_of};
 
 use crate::Reading;
-use text::{NEWLINE, Number};
+use crate::walk::{window_at, windows_at};
 
-// The reading, how many windows there are and where the first one's line begins; or that the text is no layout.
+// What a layout has: its reading, how many windows there are and where the first one's line begins.
 #[derive(Clone, Copy)]
-pub enum Found {
-    Layout(Reading, u64, usize),
-    Refused,
+pub struct Found {
+    pub reading: Reading,
+    pub count: u64,
+    pub first: usize,
 }
 
 // Looks through the whole text.
-pub fn look(text: &[u8]) -> Found
+pub fn look(text: &[u8]) -> Option<Found>
     ensures { result ≡ look_of text.now }
 {
     if !text::begins(text, b"layout\t") {
-        return Found::Refused;
+        return None;
     }
-    let head = text::read_fields(text, 7, b"\t\t\t\t\n");
-    if !head.read {
-        return Found::Refused;
+    let (of, first) = text::read_fields(text, 7, b"\t\t\t\t\n")?;
+    let count = of[4];
+    if !ends_after(text, first, count) {
+        return None;
     }
-    let of = head.of;
-    if !ends_after(text, head.next, of[4]) {
-        return Found::Refused;
-    }
-    Found::Layout(
-        Reading {
-            kind: of[0],
-            base: of[1],
-            offset: of[2],
-            length: of[3],
-        },
-        of[4],
-        head.next,
-    )
-}
-
-// The window whose line stands at a place.
-pub fn window_at(text: &[u8], at: usize) -> Number
-    ensures { result ≡ window_at text.now at }
-{
-    text::read_field(text, at, NEWLINE)
+    let reading = Reading {
+        kind: of[0],
+        base: of[1],
+        offset: of[2],
+        length: of[3],
+    };
+    Some(Found {
+        reading,
+        count,
+        first,
+    })
 }
 
 // Whether the text ends after so many lines.
@@ -52,14 +44,11 @@ fn ends_after(text: &[u8], first: usize, count: u64) -> bool
     ensures { result ≡ ends_after text.now first count }
 {
     let mut at = first;
-    let mut left = count;
-    while 0 < left {
-        let line = window_at(text, at);
-        let Number::Read(_, next) = line else {
+    for _ in 0..count {
+        let Some((_, next)) = window_at(text, at) else {
             return false;
         };
         at = next;
-        left -= 1;
     }
     at == text.len()
 }
@@ -68,29 +57,8 @@ fn ends_after(text: &[u8], first: usize, count: u64) -> bool
 pub fn has(text: &[u8], window: u64) -> bool
     ensures { result ≡ has_of text.now window }
 {
-    let found = look(text);
-    let Found::Layout(_, count, first) = found else {
-        return false;
-    };
-    is_among(text, first, count, window)
-}
-
-// Whether the window is among those of so many lines.
-fn is_among(text: &[u8], first: usize, count: u64, window: u64) -> bool
-    ensures { result ≡ lists (windows_at text.now first count) window }
-{
-    let mut at = first;
-    let mut left = count;
-    while 0 < left {
-        let line = window_at(text, at);
-        let Number::Read(one, next) = line else {
-            return false;
-        };
-        if one == window {
-            return true;
-        }
-        at = next;
-        left -= 1;
+    match look(text) {
+        Some(found) => windows_at(text, found.first, found.count).any(|one| one == window),
+        None => false,
     }
-    false
 }

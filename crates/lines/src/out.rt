@@ -12,10 +12,8 @@ pub fn number(out: &mut [u8], at: usize, n: u64) -> usize {
 
 pub fn numbers(out: &mut [u8], at: usize, of: &[u64]) -> usize {
     let mut to = at;
-    let mut i = 0;
-    while i < of.len() {
-        to = number(out, to, of[i]);
-        i += 1;
+    for n in of {
+        to = number(out, to, *n);
     }
     to
 }
@@ -23,7 +21,7 @@ pub fn numbers(out: &mut [u8], at: usize, of: &[u64]) -> usize {
 // A space and bytes.
 pub fn hex(out: &mut [u8], at: usize, s: &[u8]) -> usize {
     let to = put_byte(out, at, b' ');
-    if s.len() == 0 {
+    if s.is_empty() {
         return put_byte(out, to, b'-');
     }
     put_hex(out, to, s)

@@ -8,17 +8,16 @@ use lib.Dec.{lit<, lit≤}
 use lib.ListN.{length, get_or, length-append}
 use Rattle.answer.specs.Answer.{accepted, bad_bundle}
 use Rattle.bits.proofs.Laws.{part-lt}
-use Rattle.bundle.specs.Bundle.{longest_code, find_answer, cut_number, cut_of, number_at, tag_of}
+use Rattle.bundle.specs.Bundle.{Cut, longest_code, find_answer, cut_number, cut_of, number_at, tag_of}
 use Rattle.bundle.specs.Template.{marked_units}
 use Rattle.bundle.proofs.Laws.{cut-found, cut-not-found}
 use Rattle.bundle.proofs.Templates.{marked-most}
-use Rattle.bundle.specs.declared.Bundle.{Bundle}
 use Rattle.text.specs.Decimal.{decimal}
 use Rattle.text.proofs.Numerals.{decimal-length}
 use Rattle.lister.specs.Listing.{end_of, bundle_line, bundle_lines, rest_of, list_of}
 use Rattle.lister.proofs.Lines.{end-reserved, end-shown}
 
-record Small (b : Bundle) : Type 0 where
+record Small (b : Cut) : Type 0 where
   tag : b.template.tag < 2 ^ 5
   units : length (marked_units b.template) ≤ 5
   slot0 : get_or b.slots 0 0 < 2 ^ 41
@@ -47,7 +46,7 @@ cut_small code k =
 digits13 : (n : ℕ) → n < 2 ^ 41 → length (decimal n) ≤ 13
 digits13 n h = decimal-length 12 n (omega arith)
 
-end-most : (b : Bundle) → Small b → length (end_of b) ≤ 48
+end-most : (b : Cut) → Small b → length (end_of b) ≤ 48
 end-most b s =
     elim (ℕ_discrete b.answer bad_bundle) [
       | yes e ↦ rw (end-reserved b e) (lit≤ tt)

@@ -1,9 +1,12 @@
 -- The listing of document 01: a header, a line for each bundle, and how many bytes are left over. Assumes nothing.
-use Rattle.std.specs.Prelude.{◌≡◌, ℕ, zero, suc, ◌/◌, ◌%◌, cond, List, [], ◌∷◌, ◌++◌, eqb, ltb, length, get_or, take}
-use Rattle.answer.specs.Answer.{Refusal, bad_bundle, too_long}
-use Rattle.bundle.specs.Bundle.{longest_code, cut_of}
+use Rattle.std.specs.Prelude.{◌≡◌, ℕ, zero, suc, ◌/◌, ◌%◌, cond, List, [], ◌∷◌, ◌++◌, eqb, ltb, length, get_or, take, Result, Ok, Err}
+use Rattle.answer.specs.Answer.{Reason, bad_bundle, too_long}
+use Rattle.bundle.specs.Bundle.{Cut, longest_code, cut_of}
 use Rattle.bundle.specs.Template.{marked_units}
 use Rattle.bundle.specs.declared.Bundle.{Bundle}
+use Rattle.bundle.specs.declared.Uncut.{Uncut}
+use Rattle.bundle.specs.declared.Uncut.TheVariants.{Missing, Reserved}
+use Rattle.bundle.specs.declared.template.Template.{Template}
 use Rattle.hex_text.specs.Hex.{hex_bytes}
 use Rattle.hex_text.specs.declared.Ending.{Ending}
 use Rattle.hex_text.specs.declared.Ending.TheVariants.{Whole, BadHex, TooLong}
@@ -16,15 +19,23 @@ use Rattle.text.specs.Fields.{fields}
 abbrev pub header : List ℕ
 header = line (ascii "bundle" ∷ ascii "tag" ∷ ascii "units" ∷ ascii "slot0" ∷ ascii "slot1" ∷ ascii "slot2" ∷ [])
 
+-- a line's units and slots
+abbrev pub shown : Template → List ℕ → List ℕ
+shown template slots = line (marked_units template ∷ decimal (get_or slots 0 0) ∷ decimal (get_or slots 1 0) ∷ decimal (get_or slots 2 0) ∷ [])
+
 -- the end of a bundle's line, after its number and its tag
-unfoldable pub end_of : Bundle → List ℕ
-end_of b =
-    cond (eqb b.answer bad_bundle) (line (ascii "reserved" ∷ []))
-    (line (marked_units b.template ∷ decimal (get_or b.slots 0 0) ∷ decimal (get_or b.slots 1 0) ∷ decimal (get_or b.slots 2 0) ∷ []))
+unfoldable pub end_of : Cut → List ℕ
+end_of b = cond (eqb b.answer bad_bundle) (line (ascii "reserved" ∷ [])) (shown b.template b.slots)
 
 -- the line of bundle n
-unfoldable pub bundle_line : ℕ → Bundle → List ℕ
+unfoldable pub bundle_line : ℕ → Cut → List ℕ
 bundle_line n b = fields (n ∷ b.template.tag ∷ []) (tab ∷ tab ∷ []) ++ end_of b
+
+-- a bundle was cut, or its tag is a reserved one
+abbrev pub WasFound : Result Bundle Uncut → Type 0
+WasFound (Ok bundle) = Unit {0}
+WasFound (Err (Reserved tag)) = Unit {0}
+WasFound (Err (Missing refusal)) = ⊥
 
 -- the lines of the first n bundles of a code
 unfoldable pub bundle_lines : List ℕ → ℕ → List ℕ
@@ -41,7 +52,7 @@ unfoldable pub list_of : List ℕ → List ℕ
 list_of code = header ++ (bundle_lines code (length code / 16) ++ rest_of (length code % 16))
 
 -- which code isn't listed
-abbrev pub list_refusals : List ℕ → List Refusal
+abbrev pub list_refusals : List ℕ → List Reason
 list_refusals code = (too_long, ltb longest_code (length code)) ∷ []
 
 -- the listing of the bytes that a text gives, or the one line of its fault

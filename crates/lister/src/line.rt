@@ -1,42 +1,57 @@
 // The lines of a listing. Each is written at a place and answers the place after it.
+ghost use Rattle.std.specs.Prelude.{◌∷◌, []};
+ghost use Rattle.bundle.specs.Bundle.{as_cut};
 ghost use Rattle.bundle.specs.Template.{marked, marked_units};
+ghost use Rattle.text.specs.Fields.{fields};
 ghost use Rattle.text.specs.Put.{Put};
-ghost use Rattle.lister.specs.Listing.{end_of, bundle_line, rest_of};
+ghost use Rattle.lister.specs.Listing.{WasFound, bundle_line, shown, rest_of};
 
-use answer::BAD_BUNDLE;
-use bundle::{Bundle, Template};
+use bundle::{Bundle, Template, Uncut};
 use text::{NEWLINE, TAB, put_byte, put_field, put_fields, put_text};
 
-// The line of bundle `n`.
-pub fn put_line(out: &mut [u8], at: usize, n: u64, bundle: Bundle) -> usize
-    ensures { Put out.old at (bundle_line n bundle) out.new result }
+// The line of bundle `n`, which was found.
+pub fn put_line(out: &mut [u8], at: usize, n: u64, cut: Result<Bundle, Uncut>) -> usize
+    requires { WasFound cut }
+    ensures { Put out.old at (bundle_line n (as_cut cut)) out.new result }
 {
-    let next = put_fields(out, at, &[n, bundle.template.tag as u64], b"\t\t");
-    put_end(out, next, bundle)
+    match cut {
+        Ok(bundle) => {
+            let next = put_numbers(out, at, n, bundle.template.tag);
+            put_slots(out, next, bundle)
+        }
+        Err(Uncut::Reserved(tag)) => {
+            let next = put_numbers(out, at, n, tag);
+            put_text(out, next, b"reserved\n")
+        }
+        Err(Uncut::Missing(_)) => unreachable!(),
+    }
 }
 
-// Its end, after the number and the tag.
-fn put_end(out: &mut [u8], at: usize, bundle: Bundle) -> usize
-    ensures { Put out.old at (end_of bundle) out.new result }
+// Its number and its tag.
+fn put_numbers(out: &mut [u8], at: usize, n: u64, tag: u8) -> usize
+    ensures { Put out.old at (fields (n ∷ tag ∷ []) (9 ∷ 9 ∷ [])) out.new result }
 {
-    if bundle.answer == BAD_BUNDLE {
-        return put_text(out, at, b"reserved\n");
-    }
-    let slots = bundle.slots;
+    put_fields(out, at, &[n, u64::from(tag)], b"\t\t")
+}
+
+// Its units and slots.
+fn put_slots(out: &mut [u8], at: usize, bundle: Bundle) -> usize
+    ensures { Put out.old at (shown bundle.template bundle.slots) out.new result }
+{
     let mut next = put_units(out, at, bundle.template);
     next = put_byte(out, next, TAB);
-    put_fields(out, next, &[slots[0], slots[1], slots[2]], b"\t\t\n")
+    put_fields(out, next, &bundle.slots, b"\t\t\n")
 }
 
 // A template's units, each with its stop.
 pub fn put_units(out: &mut [u8], at: usize, template: Template) -> usize
     ensures { Put out.old at (marked_units template) out.new result }
 {
-    let units = template.units;
-    let stops = template.stops;
-    let mut next = put_unit(out, at, units[0], stops[0]);
-    next = put_unit(out, next, units[1], stops[1]);
-    put_unit(out, next, units[2], stops[2])
+    let mut next = at;
+    for (unit, stop) in template.units.iter().zip(template.stops.iter()) {
+        next = put_unit(out, next, *unit, *stop);
+    }
+    next
 }
 
 fn put_unit(out: &mut [u8], at: usize, unit: u8, stop: bool) -> usize

@@ -11,10 +11,9 @@ use Rattle.operand.specs.declared.Operand.{Operand}
 use Rattle.operand.specs.declared.Operand.TheVariants.{ImmI64, ImmU64}
 use Rattle.operand.proofs.Kind.{i64-or-not, u64-or-not}
 use Rattle.meaning.specs.inner.Fits.{SignedFits, Fitting}
-use Rattle.meaning.specs.Meaning.{means, Is, Bad, signed_of, entry, entry_value, value_of, raw_up, raw_down, raw_signed, raw_above, entry_of, place_in, raw_of}
+use Rattle.meaning.specs.Meaning.{means, Raw, Is, Bad, signed_of, entry, entry_value, value_of, raw_up, raw_down, raw_signed, raw_above, entry_of, place_in, raw_of}
 use Rattle.meaning.specs.declared.Meaning.{Meaning}
 use Rattle.meaning.specs.declared.Meaning.TheVariants.{None as NoMeaning, Unsigned, Signed, Chosen, Complement}
-use Rattle.meaning.specs.declared.Raw.{Raw}
 use Rattle.meaning.proofs.Units.{half, whole-units}
 
 -- what has a raw number passed the test

@@ -13,10 +13,8 @@ use Rattle.operand.specs.declared.Operand.TheVariants.{None as NoOperand}
 use Rattle.operand.proofs.Kind.{i64-or-not, u64-or-not}
 use Rattle.operand.proofs.Moved.{integer-pattern, pattern_lt}
 use Rattle.meaning.specs.inner.Fits.{Fitting}
-use Rattle.meaning.specs.Meaning.{Out, Other, taken_by, taken_of, Is, Bad, entry, entry_value, value_of, patterned, has_sign, operand_for, entry_of, raw_signed, raw_above, raw_of}
+use Rattle.meaning.specs.Meaning.{Taken, Raw, Out, Other, taken_by, taken_of, Is, Bad, entry, entry_value, value_of, patterned, has_sign, operand_for, entry_of, raw_signed, raw_above, raw_of}
 use Rattle.meaning.specs.declared.Meaning.{Meaning}
-use Rattle.meaning.specs.declared.Raw.{Raw}
-use Rattle.meaning.specs.declared.Taken.{Taken}
 use Rattle.meaning.specs.declared.Meaning.TheVariants.{None as NoMeaning, Unsigned, Signed, Chosen, Complement}
 use Rattle.meaning.proofs.Inverse.{not-bad, value-of-raw}
 use Rattle.meaning.proofs.Units.{signed-fits}

@@ -38,11 +38,12 @@ module _ (unit w raw : ℕ) (f : SignedFits unit w) (l : raw < 2 ^ w) where
   pub top-fits : unit * (raw - raw % 2 ^ (w - 1)) ≤ 2 ^ 63
   top-fits = units-fit unit w (raw - raw % 2 ^ (w - 1)) f (⊎_elim (λ k. omega arith) (λ k. omega arith) (top w raw f.0 l))
 
-  pub signed-pattern : (r : ℕ) → r < 2 ^ 64 → (r + unit * (raw - raw % 2 ^ (w - 1))) % 2 ^ 64 ≡ unit * (raw % 2 ^ (w - 1)) → r ≡ pattern_of (signed_of unit w raw)
-  signed-pattern r small is =
+  pub signed-pattern : (unit * (raw % 2 ^ (w - 1)) + (2 ^ 64 - unit * (raw - raw % 2 ^ (w - 1)))) % 2 ^ 64 ≡ pattern_of (signed_of unit w raw)
+  signed-pattern =
       ⊎_elim
       (λ k.
       let d : raw - raw % 2 ^ (w - 1) ≡ 0 = omega arith in
+      let fits : unit * raw ≤ 2 ^ 63 = units-fit unit w raw f (omega arith) in
       rw (lt-ltb raw (2 ^ (w - 1)) k.0) (omega (arith, ap (λ (x : ℕ). unit * x) d, ap (λ (x : ℕ). unit * x) k.1)))
       (λ k.
       let t = raw % 2 ^ (w - 1) in

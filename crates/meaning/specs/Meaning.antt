@@ -1,6 +1,9 @@
 -- What a raw number of w bits means, and which raw number a value has. Assumes nothing.
 use Rattle.std.specs.Prelude.{ℕ, zero, suc, ◌+◌, ◌-◌, ◌*◌, ◌/◌, ◌%◌, ◌^◌, Bool, true, false, cond, ℤ, pos, negsuc, ◌==◌, nat_le, nat_lt}
-use Rattle.answer.specs.Answer.{accepted, bad_value}
+use Rattle.std.specs.declared.result.Result.{Result}
+use Rattle.std.specs.declared.result.Result.TheVariants.{Ok, Err}
+use Rattle.answer.specs.Answer.{accepted, bad_value, number_of}
+use Rattle.answer.specs.declared.Refusal.{Refusal}
 use Rattle.bits.specs.Part.{part}
 use Rattle.operand.specs.Kind.{of_i64, of_u64}
 use Rattle.operand.specs.Pattern.{pattern_of, integer_of}
@@ -9,8 +12,6 @@ use Rattle.operand.specs.declared.Operand.TheVariants.{ImmI64, ImmU64}
 use Rattle.operand.specs.declared.Operand.TheVariants.{None as NoOperand}
 use Rattle.meaning.specs.declared.Meaning.{Meaning}
 use Rattle.meaning.specs.declared.Meaning.TheVariants.{None, Unsigned, Signed, Chosen, Complement}
-use Rattle.meaning.specs.declared.Raw.{Raw}
-use Rattle.meaning.specs.declared.Taken.{Taken}
 
 -- whether a raw number has a value
 abbrev pub means : Meaning → Bool
@@ -58,6 +59,15 @@ has_sign (Complement top) = false
 abbrev pub operand_for : Meaning → ℕ → Operand
 operand_for m p = patterned (has_sign m) p
 
+-- what taking a value out of its operand comes to: an answer, and a 64-bit pattern, 0 where it is refused
+pub record Taken : Type 0 where
+  pub answer : ℕ
+  pub pattern : ℕ
+
+abbrev pub as_taken : Result ℕ Refusal → Taken
+as_taken (Ok pattern) = record { answer = accepted; pattern = pattern }
+as_taken (Err refusal) = record { answer = number_of refusal; pattern = 0 }
+
 -- a pattern that is taken out of its operand, and the refusal of an operand of another kind
 abbrev pub Out : ℕ → Taken
 Out pattern = record { answer = accepted; pattern = pattern }
@@ -73,6 +83,15 @@ taken_by false value = of_u64 value Out Other
 -- the pattern of a value of the kind that a meaning's values have
 abbrev pub taken_of : Meaning → Operand → Taken
 taken_of m value = taken_by (has_sign m) value
+
+-- what a value's raw number comes to: an answer, and the number, 0 where it is refused
+pub record Raw : Type 0 where
+  pub answer : ℕ
+  pub raw : ℕ
+
+abbrev pub as_raw : Result ℕ Refusal → Raw
+as_raw (Ok raw) = record { answer = accepted; raw = raw }
+as_raw (Err refusal) = record { answer = number_of refusal; raw = 0 }
 
 -- a value's raw number, and the refusal of a value that has none
 abbrev pub Is : ℕ → Raw

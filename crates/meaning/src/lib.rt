@@ -2,12 +2,12 @@
 #![tactic(auto)]
 
 ghost use Rattle.std.specs.Prelude.{◌≡◌, ◌^◌, ◌<◌, ◌≤◌, true, false};
-ghost use Rattle.operand.specs.Pattern.{pattern_of, integer_of};
-ghost use Rattle.meaning.specs.Meaning.{signed_of, value_of, entry, entry_value, patterned, has_sign, operand_for, taken_by, taken_of, entry_of, place_in, raw_up, raw_down, raw_signed, raw_above, raw_of};
+ghost use Rattle.operand.specs.Pattern.{pattern_of};
+ghost use Rattle.meaning.specs.Meaning.{signed_of, value_of, entry, entry_value, patterned, has_sign, operand_for, taken_by, taken_of, entry_of, place_in, raw_up, raw_down, raw_signed, raw_above, raw_of, as_taken, as_raw};
 ghost use Rattle.meaning.specs.inner.Fits.{SignedFits, ChosenFits, Fitting};
-ghost use Rattle.meaning.specs.inner.Lists.{increments, shifts, found_at};
+ghost use Rattle.meaning.specs.inner.Lists.{increments, shifts};
 
-use answer::{ACCEPTED, BAD_VALUE};
+use answer::Refusal;
 use operand::Operand;
 
 // What a raw number means: itself and so much more; with a sign, so many times itself; the one that it chooses
@@ -20,8 +20,6 @@ pub enum Meaning {
     Chosen(bool, u64),
     Complement(u64),
 }
-
-const HALF: u64 = 0x8000_0000_0000_0000;
 
 // The lists that the table of rows has: 16, 8, 4, 1, -16, -8, -4, -1, and 0, 7, 15, 16, from the lowest byte on.
 pub const INCREMENTS: u64 = 0xFFFC_F8F0_0104_0810;
@@ -47,8 +45,7 @@ fn signed_value(unit: u64, width: u32, raw: u64) -> Operand
     requires { SignedFits unit width × (raw < 2 ^ width) }
     ensures { result ≡ Operand.ImmI64 (signed_of unit width raw) }
 {
-    let integer = operand::integer(displacement(unit, width, raw));
-    Operand::ImmI64(integer)
+    Operand::ImmI64(displacement(unit, width, raw).cast_signed())
 }
 
 // A number of 8 bits as a value.
@@ -78,24 +75,12 @@ pub fn displacement(unit: u64, width: u32, raw: u64) -> u64
     ensures { result ≡ pattern_of (signed_of unit width raw) }
 {
     let low = raw % (1 << (width - 1));
-    std::num::wrapping_sub_u64(unit * low, unit * (raw - low))
+    (unit * low).wrapping_sub(unit * (raw - low))
 }
 
-// The 64-bit pattern of a value, taken out of its operand, or the refusal of an operand of another kind.
-#[derive(Clone, Copy)]
-pub struct Taken {
-    pub answer: u8,
-    pub pattern: u64,
-}
-
-const OTHER: Taken = Taken {
-    answer: BAD_VALUE,
-    pattern: 0,
-};
-
-// A value of the kind that the meaning's values have.
-pub fn take_out(meaning: Meaning, value: Operand) -> Taken
-    ensures { result ≡ taken_of meaning value }
+// The 64-bit pattern of a value of the kind that the meaning's values have.
+pub fn take_out(meaning: Meaning, value: Operand) -> Result<u64, Refusal>
+    ensures { as_taken result ≡ taken_of meaning value }
 {
     if has_sign(meaning) {
         take_signed(value)
@@ -117,233 +102,179 @@ pub fn has_sign(meaning: Meaning) -> bool
     }
 }
 
-fn take_signed(value: Operand) -> Taken
-    ensures { result ≡ taken_by true value }
+fn take_signed(value: Operand) -> Result<u64, Refusal>
+    ensures { as_taken result ≡ taken_by true value }
 {
     let Operand::ImmI64(v) = value else {
-        return OTHER;
+        return Err(Refusal::BadValue);
     };
-    Taken {
-        answer: ACCEPTED,
-        pattern: operand::pattern(v),
-    }
+    Ok(v.cast_unsigned())
 }
 
-fn take_unsigned(value: Operand) -> Taken
-    ensures { result ≡ taken_by false value }
+fn take_unsigned(value: Operand) -> Result<u64, Refusal>
+    ensures { as_taken result ≡ taken_by false value }
 {
     let Operand::ImmU64(v) = value else {
-        return OTHER;
+        return Err(Refusal::BadValue);
     };
-    Taken {
-        answer: ACCEPTED,
-        pattern: v,
-    }
+    Ok(v)
 }
-
-// The raw number of a value, or the refusal of a value that has none.
-#[derive(Clone, Copy)]
-pub struct Raw {
-    pub answer: u8,
-    pub raw: u64,
-}
-
-const BAD: Raw = Raw {
-    answer: BAD_VALUE,
-    raw: 0,
-};
 
 // The raw number of the value with a 64-bit pattern, where its range and multiple are the meaning's, or its list has it.
-pub fn raw_of(meaning: Meaning, width: u32, pattern: u64) -> Raw
+pub fn raw_of(meaning: Meaning, width: u32, pattern: u64) -> Result<u64, Refusal>
     requires { Fitting meaning width }
-    ensures { result ≡ raw_of meaning width (operand_for meaning pattern) }
+    ensures { as_raw result ≡ raw_of meaning width (operand_for meaning pattern) }
 {
     match meaning {
-        Meaning::None => BAD,
+        Meaning::None => Err(Refusal::BadValue),
         Meaning::Unsigned(plus) => raw_above(plus, width, pattern),
-        Meaning::Signed(unit) => raw_signed(unit, width, pattern),
+        Meaning::Signed(unit) => raw_signed(unit, width, pattern.cast_signed()),
         Meaning::Chosen(signed, list) => raw_chosen(signed, list, width, pattern),
         Meaning::Complement(top) => raw_above(pattern, width, top),
     }
 }
 
 // The raw number that a number is above another, where it has so many bits.
-fn raw_above(low: u64, width: u32, high: u64) -> Raw
+fn raw_above(low: u64, width: u32, high: u64) -> Result<u64, Refusal>
     requires { (1 ≤ width) × (width ≤ 64) }
-    ensures { result ≡ raw_above low width high }
+    ensures { as_raw result ≡ raw_above low width high }
 {
     if high < low {
-        return BAD;
+        return Err(Refusal::BadValue);
     }
     let raw = high - low;
     if (raw >> (width - 1)) < 2 {
-        Raw {
-            answer: ACCEPTED,
-            raw,
-        }
+        Ok(raw)
     } else {
-        BAD
+        Err(Refusal::BadValue)
     }
 }
 
-// The raw number of the integer with a pattern.
-fn raw_signed(unit: u64, width: u32, pattern: u64) -> Raw
+// The raw number of an integer.
+fn raw_signed(unit: u64, width: u32, value: i64) -> Result<u64, Refusal>
     requires { SignedFits unit width }
-    ensures { result ≡ raw_signed unit width (integer_of pattern) }
+    ensures { as_raw result ≡ raw_signed unit width value }
 {
-    if pattern < HALF {
-        raw_up(unit, width, pattern)
+    if value < 0 {
+        raw_down(unit, width, value.unsigned_abs())
     } else {
-        raw_down(unit, width, u64::MAX - pattern + 1)
+        raw_up(unit, width, value.unsigned_abs())
     }
 }
 
 // The raw number of a multiple that isn't negative.
-fn raw_up(unit: u64, width: u32, value: u64) -> Raw
+fn raw_up(unit: u64, width: u32, value: u64) -> Result<u64, Refusal>
     requires { SignedFits unit width }
-    ensures { result ≡ raw_up unit width value }
+    ensures { as_raw result ≡ raw_up unit width value }
 {
     if value % unit != 0 {
-        return BAD;
+        return Err(Refusal::BadValue);
     }
     let times = value / unit;
     if times < 1 << (width - 1) {
-        Raw {
-            answer: ACCEPTED,
-            raw: times,
-        }
+        Ok(times)
     } else {
-        BAD
+        Err(Refusal::BadValue)
     }
 }
 
 // The raw number of a multiple that is so much below zero.
-fn raw_down(unit: u64, width: u32, below: u64) -> Raw
+fn raw_down(unit: u64, width: u32, below: u64) -> Result<u64, Refusal>
     requires { SignedFits unit width }
-    ensures { result ≡ raw_down unit width below }
+    ensures { as_raw result ≡ raw_down unit width below }
 {
     if below % unit != 0 {
-        return BAD;
+        return Err(Refusal::BadValue);
     }
     let times = below / unit;
     if times <= 1 << (width - 1) {
-        Raw {
-            answer: ACCEPTED,
-            raw: (1 << width) - times,
-        }
+        Ok((1 << width) - times)
     } else {
-        BAD
+        Err(Refusal::BadValue)
     }
 }
 
 // The place in a list of the value with a pattern.
-fn raw_chosen(signed: bool, list: u64, width: u32, pattern: u64) -> Raw
+fn raw_chosen(signed: bool, list: u64, width: u32, pattern: u64) -> Result<u64, Refusal>
     requires { ChosenFits list width }
-    ensures { result ≡ raw_of (Meaning.Chosen signed list) width (patterned signed pattern) }
+    ensures { as_raw result ≡ raw_of (Meaning.Chosen signed list) width (patterned signed pattern) }
 {
-    let entry = entry_of(signed, pattern);
-    if entry.answer != ACCEPTED {
-        return BAD;
-    }
-    place_among(list, 1 << width, entry.raw)
+    let entry = entry_of(signed, pattern)?;
+    place_among(list, 1 << width, entry)
 }
 
 // The number of 8 bits of the value with a pattern.
-fn entry_of(signed: bool, pattern: u64) -> Raw
-    ensures { result ≡ entry_of signed (patterned signed pattern) }
+fn entry_of(signed: bool, pattern: u64) -> Result<u64, Refusal>
+    ensures { as_raw result ≡ entry_of signed (patterned signed pattern) }
 {
     if signed {
-        raw_signed(1, 8, pattern)
+        raw_signed(1, 8, pattern.cast_signed())
     } else {
         raw_above(0, 8, pattern)
     }
 }
 
 // The place of a number among the first `count` of a list. In the lists that the table has it is looked up.
-fn place_among(list: u64, count: u64, entry: u64) -> Raw
+fn place_among(list: u64, count: u64, entry: u64) -> Result<u64, Refusal>
     requires { count ≤ 8 }
-    ensures { result ≡ place_in list count entry }
+    ensures { as_raw result ≡ place_in list count entry }
 {
-    if list == INCREMENTS {
-        if count == 8 {
-            return found(in_increments(entry));
-        }
+    match (list, count) {
+        (INCREMENTS, 8) => in_increments(entry),
+        (SHIFTS, 4) => in_shifts(entry),
+        _ => place_in(list, count, entry),
     }
-    if list == SHIFTS {
-        if count == 4 {
-            return found(in_shifts(entry));
-        }
-    }
-    place_in(list, count, entry)
 }
 
-// The place of a number among the increments, 8 where they haven't it; without a table of jumps, which is slower than compares.
-fn in_increments(entry: u64) -> u64
-    ensures { found_at result ≡ place_in increments 8 entry }
+// The place of a number among the increments; without a table of jumps, which is slower than compares.
+fn in_increments(entry: u64) -> Result<u64, Refusal>
+    ensures { as_raw result ≡ place_in increments 8 entry }
 {
     if entry % 8 == 0 {
         return match entry {
-            16 => 0,
-            8 => 1,
-            0xF0 => 4,
-            0xF8 => 5,
-            _ => 8,
+            16 => Ok(0),
+            8 => Ok(1),
+            0xF0 => Ok(4),
+            0xF8 => Ok(5),
+            _ => Err(Refusal::BadValue),
         };
     }
     match entry {
-        4 => 2,
-        1 => 3,
-        0xFC => 6,
-        0xFF => 7,
-        _ => 8,
+        4 => Ok(2),
+        1 => Ok(3),
+        0xFC => Ok(6),
+        0xFF => Ok(7),
+        _ => Err(Refusal::BadValue),
     }
 }
 
 // The same among the shifts.
-fn in_shifts(entry: u64) -> u64
-    ensures { found_at result ≡ place_in shifts 4 entry }
+fn in_shifts(entry: u64) -> Result<u64, Refusal>
+    ensures { as_raw result ≡ place_in shifts 4 entry }
 {
     if entry % 8 == 7 {
         return match entry {
-            7 => 1,
-            15 => 2,
-            _ => 8,
+            7 => Ok(1),
+            15 => Ok(2),
+            _ => Err(Refusal::BadValue),
         };
     }
     match entry {
-        0 => 0,
-        16 => 3,
-        _ => 8,
-    }
-}
-
-fn found(place: u64) -> Raw
-    ensures { result ≡ found_at place }
-{
-    if place == 8 {
-        BAD
-    } else {
-        Raw {
-            answer: ACCEPTED,
-            raw: place,
-        }
+        0 => Ok(0),
+        16 => Ok(3),
+        _ => Err(Refusal::BadValue),
     }
 }
 
 // The place of a number among the first `count` of any list, sought from the last on.
-fn place_in(list: u64, count: u64, entry: u64) -> Raw
+fn place_in(list: u64, count: u64, entry: u64) -> Result<u64, Refusal>
     requires { count ≤ 8 }
-    ensures { result ≡ place_in list count entry }
+    ensures { as_raw result ≡ place_in list count entry }
 {
-    let mut place = count;
-    while place > 0 {
-        place -= 1;
+    for place in (0..count).rev() {
         if entry_at(list, place) == entry {
-            return Raw {
-                answer: ACCEPTED,
-                raw: place,
-            };
+            return Ok(place);
         }
     }
-    BAD
+    Err(Refusal::BadValue)
 }

@@ -12,8 +12,7 @@ use Rattle.form.specs.declared.Edit.{Edit}
 use Rattle.parts.specs.Placed.{readable}
 use Rattle.row.specs.Row.{row_of}
 use Rattle.row.proofs.Rows.{row-good, good-has}
-use Rattle.meet.specs.Meet.{bits_refusals, meets, no_meeting, meet_of}
-use Rattle.meet.specs.declared.Met.{Met}
+use Rattle.meet.specs.Meet.{bits_refusals, meets, Met, no_meeting, meet_of}
 
 module _ (one other : Edit) where
   -- the first of the two has no bits

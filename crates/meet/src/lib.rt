@@ -1,120 +1,100 @@
 // Whether two edits set a bit in common, by the table of rows: a tool asks it before it mixes two files of edits.
 #![tactic(auto)]
 
-ghost use Rattle.std.specs.Prelude.{◌≡◌, ◌||◌, ◌+◌, ◌≤◌, ◌<◌, T, leb};
-ghost use Rattle.answer.specs.Answer.{first, accepted};
-ghost use Rattle.bits.specs.Parts.{apart_from, meet_not};
-ghost use Rattle.parts.specs.Placed.{placed, readable};
-ghost use Rattle.row.specs.inner.Packed.{unpacked};
+ghost use Rattle.std.specs.Prelude.{◌≡◌, ℕ, ◌||◌, ◌+◌, ◌≤◌, ◌<◌, T, true, IfOk};
+ghost use Rattle.answer.specs.Answer.{first, answer_of};
+ghost use Rattle.bits.specs.Parts.{apart, apart_from, meet_not};
+ghost use Rattle.parts.specs.Placed.{stands_at, placed, in_word, readable};
 ghost use Rattle.immediate.specs.Immediate.{parts_of};
-ghost use Rattle.meet.specs.Meet.{bits_refusals, no_meeting, meet_of};
+ghost use Rattle.meet.specs.Meet.{bits_refusals, as_met, meet_of};
 
-use answer::{ACCEPTED, BAD_FORM, BAD_SLOT};
+use answer::Refusal;
 use form::Edit;
-use row::{NONE, Packed};
-
-// Whether two edits meet: `false` where the answer is a refusal.
-#[derive(Clone, Copy)]
-pub struct Met {
-    pub answer: u8,
-    pub meet: bool,
-}
+use parts::Part;
 
 // Whether two edits are of one bundle and have a bit in common.
-pub fn meet(one: Edit, other: Edit) -> Met
-    ensures { result ≡ meet_of one other }
+pub fn meet(one: Edit, other: Edit) -> Result<bool, Refusal>
+    ensures { as_met result ≡ meet_of one other }
 {
-    let first = bits_answer(one);
-    if first != ACCEPTED {
-        return refused(first);
-    }
-    let answer = bits_answer(other);
-    if answer != ACCEPTED {
-        return refused(answer);
-    }
-    let meet = one.bundle == other.bundle && !bits_apart(one, other);
-    Met { answer, meet }
+    let first = bits_of(one)?;
+    let second = bits_of(other)?;
+    Ok(one.bundle == other.bundle && !first.is_apart(second))
 }
 
-fn refused(answer: u8) -> Met
-    ensures { result ≡ no_meeting answer }
+// Where an edit's bits stand in its bundle.
+fn bits_of(edit: Edit) -> Result<Standing, Refusal>
+    ensures answer { answer_of result ≡ first (bits_refusals edit) }
+    ensures bits { IfOk result (λ s. placed s.slot s.parts.now ≡ parts_of edit) }
 {
-    Met {
-        answer,
-        meet: false,
-    }
-}
-
-// Why an edit has no bits.
-fn bits_answer(edit: Edit) -> u8
-    ensures { result ≡ first (bits_refusals edit) }
-{
-    let form = edit.form;
-    let packed = row::packed_of(form);
-    if packed.kind == NONE {
-        return BAD_FORM;
-    }
+    let row = row::packed_of(edit.form).ok_or(Refusal::BadForm)?;
     if 2 < edit.slot {
-        return BAD_SLOT;
+        return Err(Refusal::BadSlot);
     }
-    ACCEPTED
+    Ok(Standing {
+        slot: edit.slot as u32,
+        parts: row.parts,
+    })
 }
 
-// Whether edits of one bundle have no bit in common.
-fn bits_apart(one: Edit, other: Edit) -> bool
-    requires { (first (bits_refusals one) ≡ accepted) × (first (bits_refusals other) ≡ accepted) }
-    ensures { result ≡ meet_not (parts_of one) (parts_of other) }
-{
-    let form = one.form;
-    let packed = row::packed_of(form);
-    let other_form = other.form;
-    let others = row::packed_of(other_form);
-    parts_apart(one.slot as u32, packed, other.slot as u32, others)
+// The parts of a row in a slot.
+#[derive(Clone, Copy)]
+struct Standing {
+    slot: u32,
+    parts: &'static [Part],
+    ghost in_bundle: { (slot < 3) × T (readable parts.now) },
 }
 
-// Whether no part of a slot has a bit in common with a part of another.
-fn parts_apart(slot: u32, packed: Packed, other: u32, others: Packed) -> bool
-    requires { (slot < 3) × T (readable (unpacked packed).parts) × (other < 3) × T (readable (unpacked others).parts) }
-    ensures { result ≡ meet_not (placed slot (unpacked packed).parts) (placed other (unpacked others).parts) }
-{
-    let mut i = 0;
-    while i < 6 {
-        let part = parts::part_at(packed.low, packed.high, i);
-        let width = part.width as u32;
-        let place = part.place;
-        let at = parts::stands_at(slot, place);
-        if !part_apart(at, width, other, others) {
-            return false;
+impl Standing {
+    // Whether no part has a bit in common with a part of another.
+    fn is_apart(self, other: Standing) -> bool
+        ensures { result ≡ meet_not (placed self.slot self.parts.now) (placed other.slot other.parts.now) }
+    {
+        for part in self.parts {
+            let bits = Bits::of(self.slot, *part);
+            if !other.is_apart_from(bits) {
+                return false;
+            }
         }
-        i += 1;
+        true
     }
-    true
-}
 
-// Whether some bits of a bundle have none in common with a slot's parts.
-fn part_apart(at: u32, width: u32, slot: u32, packed: Packed) -> bool
-    requires { (at + width ≤ 128) × (slot < 3) × T (readable (unpacked packed).parts) }
-    ensures { result ≡ apart_from (at, width) (placed slot (unpacked packed).parts) }
-{
-    let end = at + width;
-    let mut j = 0;
-    while j < 6 {
-        let part = parts::part_at(packed.low, packed.high, j);
-        let width = part.width as u32;
-        let place = part.place;
-        let from = parts::stands_at(slot, place);
-        let to = from + width;
-        if !apart(at, end, from, to) {
-            return false;
+    // Whether none has a bit in common with some bits.
+    fn is_apart_from(self, bits: Bits) -> bool
+        ensures { result ≡ apart_from (bits.at, bits.width) (placed self.slot self.parts.now) }
+    {
+        for part in self.parts {
+            if !bits.is_apart(Bits::of(self.slot, *part)) {
+                return false;
+            }
         }
-        j += 1;
+        true
     }
-    true
 }
 
-// One ends where the other begins, or before.
-fn apart(at: u32, end: u32, from: u32, to: u32) -> bool
-    ensures { result ≡ leb end from || leb to at }
-{
-    end <= from || to <= at
+// So many bits of a bundle from one on.
+#[derive(Clone, Copy)]
+struct Bits {
+    at: u32,
+    width: u32,
+    ghost in_bundle: { at + width ≤ 128 },
+}
+
+impl Bits {
+    // Those of a part of a slot.
+    fn of(slot: u32, part: Part) -> Bits
+        requires { (slot < 3) × T (in_word true part) }
+        ensures { ◌≡◌ {A = ℕ × ℕ} (result.at, result.width) (stands_at slot part.place, part.width) }
+    {
+        let place = part.place;
+        Bits {
+            at: parts::stands_at(slot, place),
+            width: u32::from(part.width),
+        }
+    }
+
+    fn is_apart(self, other: Bits) -> bool
+        ensures { result ≡ apart (self.at, self.width) (other.at, other.width) }
+    {
+        self.at + self.width <= other.at || other.at + other.width <= self.at
+    }
 }

@@ -6,16 +6,12 @@ ghost use Rattle.std.specs.Prelude.{◌<◌};
 mod spoken;
 mod takes;
 
+use answer::Refusal;
 use bundle::Halves;
-use lines::part;
 use operand::Operand;
-pub use spoken::{failed, said, say};
+pub use spoken::{failed, refused, said, say};
 pub use takes::put_takes;
 use text::{put_byte, put_decimal, put_text};
-
-// The answers' names, from 0 on.
-const ANSWERS: [u8; 136] =
-    *b"Accepted ExhaustedInput BadBundle BadForm BadWord BadSlot BadValue Full Empty Stale TooLong BadJournal NoRoom BadSheet BadOpcode Retired";
 
 const HALF: u64 = 1 << 63;
 
@@ -37,14 +33,12 @@ fn leading_zeros(digits: &[u8; 16], width: usize) -> usize
     ensures { result < 16 }
 {
     let most = 16 - width.clamp(1, 16);
-    let mut count = 0;
-    while count < most {
-        if digits[count] != b'0' {
+    for (count, digit) in digits[..most].iter().enumerate() {
+        if *digit != b'0' {
             return count;
         }
-        count += 1;
     }
-    count
+    most
 }
 
 // A bundle's sixteen bytes in hex, in the order of the file.
@@ -54,27 +48,40 @@ pub fn put_bundle(out: &mut [u8], at: usize, halves: Halves) -> usize {
     hex_text::put_hex(out, at, &bytes)
 }
 
-// An answer's number and name.
-pub fn put_answer(out: &mut [u8], at: usize, answer: u8) -> usize {
-    let number = answer as u64;
-    let next = text::put_field(out, at, number, b' ');
-    put_text(out, next, part::word(&ANSWERS, number))
+// A refusal's number and name.
+pub fn put_answer(out: &mut [u8], at: usize, refusal: Refusal) -> usize {
+    let next = text::put_field(out, at, u64::from(refusal.number()), b' ');
+    put_text(out, next, name_of(refusal))
+}
+
+fn name_of(refusal: Refusal) -> &'static [u8] {
+    match refusal {
+        Refusal::ExhaustedInput => b"ExhaustedInput",
+        Refusal::BadBundle => b"BadBundle",
+        Refusal::BadForm => b"BadForm",
+        Refusal::BadWord => b"BadWord",
+        Refusal::BadSlot => b"BadSlot",
+        Refusal::BadValue => b"BadValue",
+        Refusal::Full => b"Full",
+        Refusal::Empty => b"Empty",
+        Refusal::Stale => b"Stale",
+        Refusal::TooLong => b"TooLong",
+        Refusal::BadJournal => b"BadJournal",
+        Refusal::NoRoom => b"NoRoom",
+        Refusal::BadSheet => b"BadSheet",
+        Refusal::BadOpcode => b"BadOpcode",
+        Refusal::Retired => b"Retired",
+        Refusal::BadScript => b"BadScript",
+    }
 }
 
 // A value, in decimal.
 pub fn put_value(out: &mut [u8], at: usize, value: Operand) -> usize {
     let pattern = operand::pattern_in(value);
-    if is_signed(value) {
+    if matches!(value, Operand::ImmI64(_)) {
         return put_signed(out, at, pattern);
     }
     put_decimal(out, at, pattern)
-}
-
-fn is_signed(value: Operand) -> bool {
-    if let Operand::ImmI64(_) = value {
-        return true;
-    }
-    false
 }
 
 // The number with a sign whose 64-bit pattern is given.

@@ -1,5 +1,5 @@
 // Lines on standard error: the program, a file's name, and what is said of it.
-use console::EprintBytes;
+use console::{EprintBytes, Status};
 use lines::part;
 use std::io;
 use text::put_text;
@@ -26,20 +26,23 @@ fn put_name(line: &mut [u8], name: &[u8]) -> usize {
     put_text(line, start, name)
 }
 
-// What the system says of a file.
-pub fn failed(rt: &impl EprintBytes, name: &[u8], error: &io::Error) {
-    let mut line = [0u8; ROOM];
-    let end = put_name(&mut line, name);
-    fail(rt, &line, end, error);
+// The same of a file that is refused for it, which is the status then.
+pub fn refused(rt: &impl EprintBytes, name: &[u8], words: &[u8]) -> Status {
+    said(rt, name, words);
+    Status::Refused
 }
 
-fn fail(rt: &impl EprintBytes, line: &[u8], end: usize, error: &io::Error) {
-    let n = part::within(line, end);
-    console::failed(rt, &line[0..n], error);
+// What the system says of a file, which is the status then.
+pub fn failed(rt: &impl EprintBytes, name: &[u8], error: &io::Error) -> Status {
+    let mut line = [0u8; ROOM];
+    let end = put_name(&mut line, name);
+    let n = part::within(&line, end);
+    console::failed(rt, &line[..n], error);
+    Status::System
 }
 
 // A line that is ready.
 pub fn say(rt: &impl EprintBytes, line: &[u8], end: usize) {
     let n = part::within(line, end);
-    let _ = rt.eprint_bytes(&line[0..n]);
+    let _ = rt.eprint_bytes(&line[..n]);
 }

@@ -1,13 +1,11 @@
 -- A form as text: its family's letter and its number, as `M48`, and `-` for no form. Assumes nothing.
-use Rattle.std.specs.Prelude.{ℕ, ◌+◌, Bool, cond, ◌||◌, List, [], ◌∷◌, eqb, get_or, drop}
+use Rattle.std.specs.Prelude.{ℕ, ◌+◌, Bool, cond, ◌||◌, List, [], ◌∷◌, eqb, get_or, drop, Option, Some, None}
 use Rattle.form.specs.Form.{no_form, same_form}
 use Rattle.form.specs.declared.Form.{Form}
 use Rattle.text.specs.Ascii.{within, starts_with}
 use Rattle.text.specs.Decimal.{decimal}
 use Rattle.text.specs.Fields.{after_number}
 use Rattle.text.specs.Number.{number_of}
-use Rattle.name.specs.declared.Name.{Name}
-use Rattle.name.specs.declared.Name.TheVariants.{Read, Refused}
 
 -- a capital letter
 abbrev pub is_letter : ℕ → Bool
@@ -25,18 +23,18 @@ abbrev pub has_name : Form → Bool
 has_name form = is_letter form.family || same_form form no_form
 
 -- the form whose name stands at a place, and the place after it
-unfoldable pub name_at : List ℕ → ℕ → Name
+unfoldable pub name_at : List ℕ → ℕ → Option (Form × ℕ)
 name_at text at =
     let c = get_or text at 0 in
-    cond (eqb c dash) (Read no_form (at + 1))
-    (cond (is_letter c) (after_number (number_of text (at + 1)) (λ n next. Read (record { family = c; number = n }) next) Refused) Refused)
+    cond (eqb c dash) (Some (no_form, at + 1))
+    (cond (is_letter c) (after_number (number_of text (at + 1)) (λ n next. Some (record { family = c; number = n }, next)) None) None)
 
 -- what comes after a name, or where there is none
-abbrev pub after_name {ℓ} : {A : Type ℓ} → Name → (Form → ℕ → A) → A → A
-after_name (Read form next) more other = more form next
-after_name Refused more other = other
+abbrev pub after_name {ℓ} : {A : Type ℓ} → Option (Form × ℕ) → (Form → ℕ → A) → A → A
+after_name (Some r) more other = more r.0 r.1
+after_name None more other = other
 
 -- the form at a place whose name the byte `end` ends, and the place after that byte
-unfoldable pub named_at : List ℕ → ℕ → ℕ → Name
+unfoldable pub named_at : List ℕ → ℕ → ℕ → Option (Form × ℕ)
 named_at text at end =
-    after_name (name_at text at) (λ form next. cond (starts_with (end ∷ []) (drop next text)) (Read form (next + 1)) Refused) Refused
+    after_name (name_at text at) (λ form next. cond (starts_with (end ∷ []) (drop next text)) (Some (form, next + 1)) None) None

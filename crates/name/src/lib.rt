@@ -6,18 +6,11 @@ ghost use Rattle.text.specs.Put.{Put};
 ghost use Rattle.name.specs.Name.{is_letter, name_of, name_at, named_at};
 
 use form::{Form, NO_FORM};
-use text::{Number, put_byte};
+use text::put_byte;
 
 const DASH: u64 = b'-' as u64;
 
 const Z: u64 = b'Z' as u64;
-
-// A form and the place after its name, or that there is none.
-#[derive(Clone, Copy)]
-pub enum Name {
-    Read(Form, usize),
-    Refused,
-}
 
 pub fn put_name(out: &mut [u8], at: usize, form: Form) -> usize
     ensures { Put out.old at (name_of form) out.new result }
@@ -38,39 +31,33 @@ pub fn put_field(out: &mut [u8], at: usize, form: Form, end: u8) -> usize
     put_byte(out, next, end)
 }
 
-// The form whose name stands at a place.
-pub fn read_name(text: &[u8], at: usize) -> Name
+// The form whose name stands at a place, and the place after it.
+pub fn read_name(text: &[u8], at: usize) -> Option<(Form, usize)>
     ensures { result ≡ name_at text.now at }
 {
     if text.len() <= at {
-        return Name::Refused;
+        return None;
     }
-    let family = text[at] as u64;
+    let family = u64::from(text[at]);
     if family == DASH {
-        return Name::Read(NO_FORM, at + 1);
+        return Some((NO_FORM, at + 1));
     }
     if !is_letter(family) {
-        return Name::Refused;
+        return None;
     }
-    let read = text::read_decimal(text, at + 1);
-    let Number::Read(number, next) = read else {
-        return Name::Refused;
-    };
-    Name::Read(Form { family, number }, next)
+    let (number, next) = text::read_decimal(text, at + 1)?;
+    Some((Form { family, number }, next))
 }
 
 // The form at a place whose name the byte ends.
-pub fn read_field(text: &[u8], at: usize, end: u8) -> Name
+pub fn read_field(text: &[u8], at: usize, end: u8) -> Option<(Form, usize)>
     ensures { result ≡ named_at text.now at end }
 {
-    let name = read_name(text, at);
-    let Name::Read(form, next) = name else {
-        return Name::Refused;
-    };
+    let (form, next) = read_name(text, at)?;
     if text::is_at(text, next, end) {
-        Name::Read(form, next + 1)
+        Some((form, next + 1))
     } else {
-        Name::Refused
+        None
     }
 }
 

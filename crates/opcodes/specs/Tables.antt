@@ -1,6 +1,8 @@
 -- 000's A and B tables, in its order: which fields a word has, and the opcode and the form that it has then. Entries of 000's that have no
 -- form (its White, Cyan, Brown and Purple) are left out. Assumes nothing.
-use Rattle.std.specs.Prelude.{ℕ, List, [], ◌∷◌}
+use Rattle.std.specs.Prelude.{ℕ, cond, List, [], ◌∷◌, eqb}
+use Rattle.std.specs.declared.option.Option.{Option}
+use Rattle.std.specs.declared.option.Option.TheVariants.{None, Some}
 use Rattle.form.specs.Form.{a, b, no_form}
 use Rattle.form.specs.declared.Form.{Form}
 use Rattle.table.specs.Entry.{Field, Entry}
@@ -12,9 +14,9 @@ use Rattle.opcodes.specs.declared.Opcode.TheVariants.{No, Add, AddPlusOne, SubMi
 abbrev pub none : Opcode × Form
 none = (No, no_form)
 
--- an opcode and the form's number, as the code hands them on
-abbrev pub short : Opcode × Form → Named
-short n = record { 0 = n.0; 1 = n.1.number }
+-- an opcode and the form's number, as the code hands them on, where there is a form
+abbrev pub short : Opcode × Form → Option Named
+short n = cond (eqb n.1.number 0) None (Some (record { 0 = n.0; 1 = n.1.number }))
 
 infix 70 ◌is◌
 abbrev pub ◌is◌ : List Field → Opcode × Form → Entry (Opcode × Form)

@@ -124,8 +124,6 @@ pub enum Opcode {
     Brp_ipwh_ih,
 }
 
-// An opcode and its form's number in the table's family; 0 for none.
+// An opcode and its form's number in the table's family.
 #[derive(Clone, Copy)]
 pub struct Named(pub Opcode, pub u64);
-
-pub const NONE: Named = Named(Opcode::No, 0);

@@ -1,17 +1,9 @@
 -- A reading: the last-written position and five operands, `None` where one is not used. Assumes nothing.
-use Rattle.std.specs.Prelude.{ℕ, zero, suc, Bool, cond, List, [], ◌∷◌}
-use Rattle.std.proofs.Math.Option.{Option, none, some}
+use Rattle.std.specs.Prelude.{ℕ, zero, suc, Bool, cond, List, [], ◌∷◌, Option, Some, None}
 use Rattle.operand.specs.declared.Operand.{Operand}
 use Rattle.operand.specs.declared.Operand.TheVariants.{None as NoOperand}
-use Rattle.operand.specs.declared.Position.{Position}
-use Rattle.operand.specs.declared.Position.TheVariants.{None as NoPosition, At}
 use Rattle.operand.specs.declared.Shown.{Shown}
 use Rattle.operand.specs.declared.Reading.{Reading}
-
--- document 01's position, none or an operand's number, as the enum has it
-abbrev pub position_of : Option ℕ → Position
-position_of none = NoPosition
-position_of (some n) = At n
 
 abbrev pub shown : Operand → Shown
 shown o = record { 0 = o }
@@ -22,14 +14,14 @@ padded zero os = []
 padded (suc n) [] = shown NoOperand ∷ padded n []
 padded (suc n) (o ∷ os) = shown o ∷ padded n os
 
--- the reading with that position and those operands
-abbrev pub listed : Position → List Operand → Reading
+-- the reading with that position, none or an operand's number, and those operands
+abbrev pub listed : Option ℕ → List Operand → Reading
 listed p os = record { position = p; operands = padded 5 os }
 
 -- no position, five `None`
 abbrev pub unread : Reading
-unread = listed (position_of none) []
+unread = listed None []
 
 -- 000's `one_op`: position 0, or none
 abbrev pub one : Bool → Operand → Reading
-one dest o = listed (position_of (cond dest (some 0) none)) (o ∷ [])
+one dest o = listed (cond dest (Some 0) None) (o ∷ [])

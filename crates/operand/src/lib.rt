@@ -6,24 +6,24 @@ mod twos;
 ghost use Rattle.std.specs.Prelude.{◌≡◌, [], ◌∷◌};
 ghost use Rattle.operand.specs.Reading.{listed, one, unread};
 
-pub use twos::{integer, pattern, pattern_in};
+pub use twos::pattern_in;
 
-#[derive(Clone, Copy)]
+#[derive(Clone, Copy, PartialEq, Eq)]
 pub struct GPRegister(pub u8);
 
-#[derive(Clone, Copy)]
+#[derive(Clone, Copy, PartialEq, Eq)]
 pub struct FloatRegister(pub u8);
 
-#[derive(Clone, Copy)]
+#[derive(Clone, Copy, PartialEq, Eq)]
 pub struct PredicateRegister(pub u8);
 
-#[derive(Clone, Copy)]
+#[derive(Clone, Copy, PartialEq, Eq)]
 pub struct ControlRegister(pub u8);
 
-#[derive(Clone, Copy)]
+#[derive(Clone, Copy, PartialEq, Eq)]
 pub struct BranchRegister(pub u8);
 
-#[derive(Clone, Copy)]
+#[derive(Clone, Copy, PartialEq, Eq)]
 pub enum IndirectionReg {
     Cpuid,
     Dbr,
@@ -37,10 +37,10 @@ pub enum IndirectionReg {
     Rr,
 }
 
-#[derive(Clone, Copy)]
+#[derive(Clone, Copy, PartialEq, Eq)]
 pub struct ApplicationRegister(pub u8);
 
-#[derive(Clone, Copy)]
+#[derive(Clone, Copy, PartialEq, Eq)]
 pub enum Operand {
     None,
     GPRegister(GPRegister),
@@ -60,19 +60,13 @@ pub enum Operand {
     Indirection(IndirectionReg, GPRegister),
 }
 
-// The last operand that the instruction writes: 000's `Option<u8>`.
-#[derive(Clone, Copy)]
-pub enum Position {
-    None,
-    At(u8),
-}
-
-#[derive(Clone, Copy)]
+#[derive(Clone, Copy, PartialEq, Eq)]
 pub struct Shown(pub Operand);
 
-#[derive(Clone, Copy)]
+#[derive(Clone, Copy, PartialEq, Eq)]
 pub struct Reading {
-    pub position: Position,
+    // the last operand that the instruction writes
+    pub position: Option<u8>,
     pub operands: [Shown; 5],
 }
 
@@ -80,32 +74,32 @@ pub struct Reading {
 pub fn no_op() -> Reading
     ensures { result ≡ unread }
 {
-    two_op(Position::None, Operand::None, Operand::None)
+    two_op(None, Operand::None, Operand::None)
 }
 
 pub fn one_op(dest: bool, op: Operand) -> Reading
     ensures { result ≡ one dest op }
 {
     if dest {
-        two_op(Position::At(0), op, Operand::None)
+        two_op(Some(0), op, Operand::None)
     } else {
-        two_op(Position::None, op, Operand::None)
+        two_op(None, op, Operand::None)
     }
 }
 
-pub fn two_op(dest: Position, op1: Operand, op2: Operand) -> Reading
+pub fn two_op(dest: Option<u8>, op1: Operand, op2: Operand) -> Reading
     ensures { result ≡ listed dest (op1 ∷ op2 ∷ []) }
 {
     five_op(dest, op1, op2, Operand::None, Operand::None, Operand::None)
 }
 
-pub fn three_op(dest: Position, op1: Operand, op2: Operand, op3: Operand) -> Reading
+pub fn three_op(dest: Option<u8>, op1: Operand, op2: Operand, op3: Operand) -> Reading
     ensures { result ≡ listed dest (op1 ∷ op2 ∷ op3 ∷ []) }
 {
     five_op(dest, op1, op2, op3, Operand::None, Operand::None)
 }
 
-pub fn four_op(dest: Position, op1: Operand, op2: Operand, op3: Operand, op4: Operand) -> Reading
+pub fn four_op(dest: Option<u8>, op1: Operand, op2: Operand, op3: Operand, op4: Operand) -> Reading
     ensures { result ≡ listed dest (op1 ∷ op2 ∷ op3 ∷ op4 ∷ []) }
 {
     five_op(dest, op1, op2, op3, op4, Operand::None)
@@ -113,7 +107,7 @@ pub fn four_op(dest: Position, op1: Operand, op2: Operand, op3: Operand, op4: Op
 
 // Where 000 writes the pair out.
 pub fn five_op(
-    dest: Position,
+    dest: Option<u8>,
     op1: Operand,
     op2: Operand,
     op3: Operand,

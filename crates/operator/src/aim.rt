@@ -1,15 +1,12 @@
 // Where a command works: the bundle at an address, a slot there, and a form.
-use crate::refusal::refuse;
-use crate::{asked, place, room, source};
-use console::{REFUSED, USAGE};
-use folder::Text;
+use crate::asked::Command;
+use crate::job::Job;
+use crate::{room, source};
+use answer::Refusal;
+use console::Status;
 use form::{Form, NO_FORM};
 use guest::Guest;
-use layout::Found;
-use lines::part;
-use message::said;
-use text::Number;
-use window::Place;
+use words::Place;
 
 // The bundle's address, the slot and the form.
 #[derive(Clone, Copy)]
@@ -19,112 +16,74 @@ pub struct Aim {
     pub form: Form,
 }
 
-// What is aimed at, or why nothing is, which was said: a status that isn't 0.
-#[derive(Clone, Copy)]
-pub enum Aimed {
-    At(Aim),
-    Not(u64),
-}
-
-// An address with its slot.
-pub fn place_of(aim: Aim) -> u64 {
-    std::num::wrapping_add_u64(aim.address, aim.slot)
-}
-
-// What the words of a command aim at.
-pub fn aim_of(
-    rt: &HostRuntime,
-    asked: &[u64],
-    name: &[u8],
-    extents: &[u64],
-    guest: &Guest,
-) -> Aimed {
-    let command = asked::get(asked, asked::COMMAND);
-    if command == asked::UNDO || command == asked::FOLD {
-        return at_window(rt, asked, name);
+impl Aim {
+    // The bundle at an address.
+    fn bundle(address: u64) -> Aim {
+        Aim {
+            address,
+            slot: 0,
+            form: NO_FORM,
+        }
     }
-    let named = place::form_in(rt, asked::place(asked, asked::SECOND));
-    let words::Named::Is(form) = named else {
-        return Aimed::Not(place::no_form(rt, name));
-    };
-    at_form(rt, asked, name, extents, guest, form)
-}
 
-fn at_form(
-    rt: &HostRuntime,
-    asked: &[u64],
-    name: &[u8],
-    extents: &[u64],
-    guest: &Guest,
-    form: Form,
-) -> Aimed {
-    let word = place::place_in(rt, asked::place(asked, asked::FIRST));
-    let words::Place::At(address, slot) = word else {
-        return Aimed::Not(place::unread(rt, name));
-    };
-    let found = guest::place_of(guest, extents, address);
-    let Place::At(_) = found else {
-        return Aimed::Not(refuse(rt, name, address, answer::EXHAUSTED_INPUT, form));
-    };
-    Aimed::At(Aim {
-        address,
-        slot,
-        form,
-    })
-}
-
-fn at_window(rt: &HostRuntime, asked: &[u64], name: &[u8]) -> Aimed {
-    if !asked::has(asked, asked::FIRST) {
-        return at_only_window(rt, name);
+    // The address with its slot.
+    pub fn place(self) -> u64 {
+        self.address.wrapping_add(self.slot)
     }
-    match place::place_in(rt, asked::place(asked, asked::FIRST)) {
-        words::Place::At(address, _) => at(address),
-        words::Place::Refused => Aimed::Not(place::unread(rt, name)),
+
+    // What the words of a command aim at.
+    pub fn of(job: &Job, guest: &Guest) -> Result<Aim, Status> {
+        if job.command == Command::Undo || job.command == Command::Fold {
+            return at_window(job);
+        }
+        let form = job.form(job.asked.second)?;
+        let Place { address, slot } = job.place(job.asked.first)?;
+        if guest.place_of(address).is_none() {
+            return Err(job.refuse(address, Refusal::ExhaustedInput, form));
+        }
+        Ok(Aim {
+            address,
+            slot,
+            form,
+        })
     }
 }
 
-fn at(address: u64) -> Aimed {
-    Aimed::At(Aim {
-        address,
-        slot: 0,
-        form: NO_FORM,
-    })
+fn at_window(job: &Job) -> Result<Aim, Status> {
+    if job.asked.first.is_none() {
+        return at_only_window(job);
+    }
+    let place = job.place(job.asked.first)?;
+    Ok(Aim::bundle(place.address))
 }
 
 // The one window that has patches.
-fn at_only_window(rt: &HostRuntime, name: &[u8]) -> Aimed {
+fn at_only_window(job: &Job) -> Result<Aim, Status> {
     let mut layout = room::sheet();
-    match folder::read_layout(rt, name, &mut layout) {
-        Text::Missing => none_stands(rt, name),
-        Text::Failed => Aimed::Not(console::SYSTEM),
-        Text::Bytes(n) => only_in(rt, name, &layout, n),
+    match job.folder().read_layout(&mut layout)? {
+        Some(text) => only_in(job, text),
+        None => Err(none_stands(job)),
     }
 }
 
-fn none_stands(rt: &HostRuntime, name: &[u8]) -> Aimed {
-    said(rt, name, b"8 Empty: no patch stands in it");
-    Aimed::Not(REFUSED)
+fn none_stands(job: &Job) -> Status {
+    job.refused(b"8 Empty: no patch stands in it")
 }
 
-fn only_in(rt: &HostRuntime, name: &[u8], layout: &[u8], end: usize) -> Aimed {
-    let n = part::within(layout, end);
-    let found = layout::look(&layout[0..n]);
-    let Found::Layout(_, windows, first) = found else {
-        return Aimed::Not(source::no_layout(rt, name));
+fn only_in(job: &Job, layout: &[u8]) -> Result<Aim, Status> {
+    let Some(found) = layout::look(layout) else {
+        return Err(source::no_layout(job));
     };
-    if windows == 0 {
-        return none_stands(rt, name);
+    if found.count == 0 {
+        return Err(none_stands(job));
     }
-    if 1 < windows {
-        said(
-            rt,
-            name,
+    if 1 < found.count {
+        return Err(job.misused(
             b"patches stand in several windows: name an ADDRESS in one of them (status lists them)",
-        );
-        return Aimed::Not(USAGE);
+        ));
     }
-    match layout::window_at(layout, first) {
-        Number::Read(window, _) => at(window),
-        Number::Refused => Aimed::Not(source::no_layout(rt, name)),
-    }
+    let Some((window, _)) = layout::window_at(layout, found.first) else {
+        return Err(source::no_layout(job));
+    };
+    Ok(Aim::bundle(window))
 }

@@ -1,188 +1,143 @@
-// What an operator asks, in a slice of numbers: the command, how many words it has, and where among the arguments its words and options stand.
-use lines::part;
-
-const COMMANDS: [u8; 52] = *b"list show edit branch undo fold verify status report";
-
-pub const LIST: u64 = 0;
-
-pub const SHOW: u64 = 1;
-
-pub const EDIT: u64 = 2;
-
-pub const BRANCH: u64 = 3;
-
-pub const UNDO: u64 = 4;
-
-pub const FOLD: u64 = 5;
-
-pub const VERIFY: u64 = 6;
-
-pub const STATUS: u64 = 7;
-
-pub const REPORT: u64 = 8;
-
-// No command.
-pub const NONE: u64 = u64::MAX;
-
-const OPTIONS: [u8; 71] =
-    *b"--base --offset --length --plain --all --dry-run --raw --help --version";
-
-// What the numbers are: an option stands at its place in the list, with the place of its value, or its own; 0 where there is none.
-pub const BASE: usize = 0;
-
-pub const OFFSET: usize = 1;
-
-pub const LENGTH: usize = 2;
-
-pub const PLAIN: usize = 3;
-
-pub const ALL: usize = 4;
-
-pub const DRY: usize = 5;
-
-pub const RAW: usize = 6;
-
-pub const HELP: usize = 7;
-
-pub const VERSION: usize = 8;
-
-// An argument that isn't understood.
-pub const WRONG: usize = 9;
-
-// FILE and the words after it.
-pub const FILE: usize = 10;
-
-pub const FIRST: usize = 11;
-
-pub const SECOND: usize = 12;
-
-pub const THIRD: usize = 13;
-
-pub const COMMAND: usize = 14;
-
-// How many words stand after the command.
-pub const WORDS: usize = 15;
-
-// The option whose value comes next, counted from 1.
-const VALUED: usize = 16;
-
-pub const NUMBERS: usize = 17;
-
-pub fn get(asked: &[u64], k: usize) -> u64 {
-    if k < asked.len() {
-        return asked[k];
-    }
-    0
+// What an operator asks: the command, and where among the arguments its words and the values of its options stand.
+#[derive(Clone, Copy, PartialEq, Eq)]
+pub enum Command {
+    List,
+    Show,
+    Edit,
+    Branch,
+    Undo,
+    Fold,
+    Verify,
+    Status,
+    Report,
 }
 
-pub fn has(asked: &[u64], k: usize) -> bool {
-    get(asked, k) != 0
+// The options that have a value.
+#[derive(Clone, Copy, PartialEq, Eq)]
+enum Valued {
+    Base,
+    Offset,
+    Length,
 }
 
-// The place of a word among the arguments.
-pub fn place(asked: &[u64], k: usize) -> usize {
-    get(asked, k) as usize
+#[derive(Clone, Copy, Default)]
+pub struct Asked {
+    pub command: Option<Command>,
+    // FILE and the words after it, and how many words there are.
+    pub file: Option<usize>,
+    pub first: Option<usize>,
+    pub second: Option<usize>,
+    pub third: Option<usize>,
+    words: usize,
+    pub base: Option<usize>,
+    pub offset: Option<usize>,
+    pub length: Option<usize>,
+    pub plain: bool,
+    pub all: bool,
+    pub dry_run: bool,
+    pub raw: bool,
+    pub help: bool,
+    pub version: bool,
+    // An argument isn't understood.
+    wrong: bool,
+    // The option whose value comes next.
+    valued: Option<Valued>,
 }
 
-fn set(asked: &mut [u64], k: usize, n: u64) {
-    if k < asked.len() {
-        asked[k] = n;
+// The command of a name.
+fn command_of(word: &[u8]) -> Option<Command> {
+    match word {
+        b"list" => Some(Command::List),
+        b"show" => Some(Command::Show),
+        b"edit" => Some(Command::Edit),
+        b"branch" => Some(Command::Branch),
+        b"undo" => Some(Command::Undo),
+        b"fold" => Some(Command::Fold),
+        b"verify" => Some(Command::Verify),
+        b"status" => Some(Command::Status),
+        b"report" => Some(Command::Report),
+        _ => None,
     }
 }
 
-// What the arguments from one on ask.
-pub fn read(rt: &HostRuntime, asked: &mut [u64], first: usize) {
-    set(asked, COMMAND, NONE);
-    let count = console::arg_count(rt);
-    let mut i = first;
-    while i < count {
-        read_argument(rt, asked, i);
-        i += 1;
+impl Asked {
+    // What the arguments from one on ask.
+    pub fn read(rt: &HostRuntime, first: usize) -> Asked {
+        let mut asked = Asked::default();
+        for place in first..console::arg_count(rt) {
+            let mut word = [0u8; 4096];
+            let length = console::arg(rt, place, &mut word);
+            asked.put_word(place, &word[..length]);
+        }
+        asked.wrong |= asked.valued.is_some();
+        asked
     }
-    if has(asked, VALUED) {
-        set(asked, WRONG, count as u64);
-    }
-}
 
-fn read_argument(rt: &HostRuntime, asked: &mut [u64], i: usize) {
-    let mut word = [0u8; 4096];
-    let length = console::arg(rt, i, &mut word);
-    put_word(asked, i as u64, &word[..length]);
-}
+    fn put_word(&mut self, place: usize, word: &[u8]) {
+        if let Some(option) = self.valued {
+            self.put_value(place, option);
+        } else if word.starts_with(b"--") {
+            self.put_option(word);
+        } else if self.command.is_none() {
+            self.command = command_of(word);
+            self.wrong |= self.command.is_none();
+        } else {
+            self.put_next(place);
+        }
+    }
 
-fn put_word(asked: &mut [u64], i: u64, word: &[u8]) {
-    if has(asked, VALUED) {
-        put_value(asked, i);
-        return;
+    // The value of the option before.
+    fn put_value(&mut self, place: usize, option: Valued) {
+        self.valued = None;
+        match option {
+            Valued::Base => self.base = Some(place),
+            Valued::Offset => self.offset = Some(place),
+            Valued::Length => self.length = Some(place),
+        }
     }
-    if text::begins(word, b"--") {
-        put_option(asked, i, part::place(&OPTIONS, word));
-        return;
-    }
-    if get(asked, COMMAND) == NONE {
-        put_command(asked, i, part::place(&COMMANDS, word));
-        return;
-    }
-    put_next(asked, i);
-}
 
-// The value of the option before.
-fn put_value(asked: &mut [u64], i: u64) {
-    let option = get(asked, VALUED);
-    set(asked, VALUED, 0);
-    match option {
-        1 => set(asked, BASE, i),
-        2 => set(asked, OFFSET, i),
-        _ => set(asked, LENGTH, i),
+    fn put_option(&mut self, word: &[u8]) {
+        match word {
+            b"--base" => self.valued = Some(Valued::Base),
+            b"--offset" => self.valued = Some(Valued::Offset),
+            b"--length" => self.valued = Some(Valued::Length),
+            b"--plain" => self.plain = true,
+            b"--all" => self.all = true,
+            b"--dry-run" => self.dry_run = true,
+            b"--raw" => self.raw = true,
+            b"--help" => self.help = true,
+            b"--version" => self.version = true,
+            _ => self.wrong = true,
+        }
     }
-}
 
-fn put_option(asked: &mut [u64], i: u64, option: u64) {
-    if option < PLAIN as u64 {
-        set(asked, VALUED, option + 1);
-        return;
+    // FILE, and the words after it.
+    fn put_next(&mut self, place: usize) {
+        match self.words {
+            0 => self.file = Some(place),
+            1 => self.first = Some(place),
+            2 => self.second = Some(place),
+            _ => self.third = Some(place),
+        }
+        self.words = self.words.saturating_add(1);
     }
-    if option < WRONG as u64 {
-        set(asked, option as usize, i);
-        return;
-    }
-    set(asked, WRONG, i);
-}
 
-fn put_command(asked: &mut [u64], i: u64, command: u64) {
-    set(asked, COMMAND, command);
-    if command == NONE {
-        set(asked, WRONG, i);
+    // The command, where all is understood and it has as many words as it takes.
+    pub fn whole(&self) -> Option<Command> {
+        if self.wrong {
+            return None;
+        }
+        self.command.filter(|command| self.has_words_of(*command))
     }
-}
 
-// FILE, and the words after it.
-fn put_next(asked: &mut [u64], i: u64) {
-    let words = get(asked, WORDS);
-    set(asked, WORDS, std::num::wrapping_add_u64(words, 1));
-    match words {
-        0 => set(asked, FILE, i),
-        1 => set(asked, FIRST, i),
-        2 => set(asked, SECOND, i),
-        _ => set(asked, THIRD, i),
+    fn has_words_of(&self, command: Command) -> bool {
+        match command {
+            Command::List => matches!(self.words, 1..=3),
+            Command::Show => self.words == 3,
+            Command::Edit | Command::Branch => self.words == 4,
+            Command::Undo | Command::Fold => matches!(self.words, 1..=2),
+            Command::Report => 0 < self.words,
+            Command::Verify | Command::Status => self.words == 1,
+        }
     }
-}
-
-// Whether a command has as many words as it takes.
-pub fn is_whole(asked: &[u64]) -> bool {
-    let words = get(asked, WORDS);
-    match get(asked, COMMAND) {
-        LIST => is_within(words, 1, 3),
-        SHOW => words == 3,
-        EDIT => words == 4,
-        BRANCH => words == 4,
-        UNDO => is_within(words, 1, 2),
-        FOLD => is_within(words, 1, 2),
-        REPORT => 0 < words,
-        _ => words == 1,
-    }
-}
-
-fn is_within(n: u64, least: u64, most: u64) -> bool {
-    (least <= n) & (n <= most)
 }

@@ -1,155 +1,90 @@
 // The call of the library that a command makes, on a window's code and sheet.
 use crate::aim::Aim;
-use crate::refusal::refuse;
-use crate::{aim, asked, place, sheets};
-use by_sheet::Task;
-use form::{Edit, Form};
+use crate::asked::{Asked, Command};
+use crate::job::Job;
+use crate::sheets;
+use answer::Refusal;
+use by_sheet::{Misfit, Task, Untaken, Written};
+use console::Status;
+use form::{Edit, Form, NO_FORM};
 use journal::Act;
 use operand::Operand;
-use words::Given;
 
-// How long the window's new sheet is and how many records stand, or why not, which was said: a status that isn't 0.
-#[derive(Clone, Copy)]
-pub enum Called {
-    Done(usize, u64),
-    Not(u64),
-}
+const NOTHING_STANDS: Written = Written {
+    length: 0,
+    count: 0,
+};
 
+// How long the window's new sheet is, and how many records stand.
 pub fn call(
-    rt: &HostRuntime,
-    asked: &[u64],
-    name: &[u8],
+    job: &Job,
     code: &mut [u8],
     sheet: &[u8],
     out: &mut [u8],
     aim: Aim,
-) -> Called {
-    let form = aim.form;
-    match asked::get(asked, asked::COMMAND) {
-        asked::EDIT => edit(
-            rt,
-            asked,
-            name,
-            code,
-            sheet,
-            out,
-            aim,
-            place::value_in(rt, asked::place(asked, asked::THIRD), form),
-        ),
-        asked::BRANCH => branch(rt, asked, name, code, sheet, out, aim),
-        asked::UNDO => undo(rt, asked, name, code, sheet, out, aim),
-        _ => perform(rt, name, code, sheet, out, aim, Task::Fold),
+) -> Result<Written, Status> {
+    if job.command == Command::Undo && job.asked.all {
+        return undo_all(job, code, sheet, aim);
+    }
+    let task = task_of(job, code, aim)?;
+    let done = by_sheet::perform(code, sheet, task, out).map_err(|refusal| job.refuse(
+        aim.place(),
+        refusal,
+        aim.form,
+    ))?;
+    Ok(if done.count == 0 {
+        NOTHING_STANDS
+    } else {
+        done
+    })
+}
+
+fn task_of(job: &Job, code: &[u8], aim: Aim) -> Result<Task, Status> {
+    match job.command {
+        Command::Edit => Ok(edit(job, aim, job.value(job.asked.third, aim.form))),
+        Command::Branch => branch(job, code, aim),
+        Command::Undo => Ok(Task::Act(Act::Undo)),
+        _ => Ok(Task::Fold),
     }
 }
 
-fn edit(
-    rt: &HostRuntime,
-    asked: &[u64],
-    name: &[u8],
-    code: &mut [u8],
-    sheet: &[u8],
-    out: &mut [u8],
-    aim: Aim,
-    value: Operand,
-) -> Called {
-    let form = aim.form;
-    let spot = window::spot_of(aim.address);
+fn edit(job: &Job, aim: Aim, value: Operand) -> Task {
     let edit = Edit {
-        bundle: spot.bundle,
+        bundle: window::spot_of(aim.address).bundle,
         slot: aim.slot,
-        form,
+        form: aim.form,
         value,
     };
-    perform(
-        rt,
-        name,
-        code,
-        sheet,
-        out,
-        aim,
-        Task::Act(act_of(asked, edit)),
-    )
-}
-
-fn act_of(asked: &[u64], edit: Edit) -> Act {
-    let form = edit.form;
-    if is_checked(asked, form) {
-        return Act::Checked(edit);
+    if is_checked(job.asked, aim.form) {
+        return Task::Act(Act::Checked(edit));
     }
-    Act::Edit(edit)
+    Task::Act(Act::Edit(edit))
 }
 
 // Of A and B forms the word is looked at, unless that isn't wanted.
-pub fn is_checked(asked: &[u64], form: Form) -> bool {
-    if asked::has(asked, asked::PLAIN) {
-        return false;
-    }
-    (form.family == form::A) | (form.family == form::B)
+pub fn is_checked(asked: &Asked, form: Form) -> bool {
+    !asked.plain && ((form.family == form::A) | (form.family == form::B))
 }
 
 // The edit for a wanted target. One that can't be reached is no value.
-fn branch(
-    rt: &HostRuntime,
-    asked: &[u64],
-    name: &[u8],
-    code: &mut [u8],
-    sheet: &[u8],
-    out: &mut [u8],
-    aim: Aim,
-) -> Called {
-    let form = aim.form;
-    let wanted = place::number_in(rt, asked::place(asked, asked::THIRD));
-    let Given::Unsigned(target) = wanted else {
-        return Called::Not(place::no_number(rt, name));
-    };
+fn branch(job: &Job, code: &[u8], aim: Aim) -> Result<Task, Status> {
+    let target = job.number(job.asked.third)?;
     let spot = window::spot_of(aim.address);
-    let now = immediate::target(code, spot.bundle, aim.slot, form, aim.address);
-    if now.answer != answer::ACCEPTED {
-        return Called::Not(refuse(rt, name, aim::place_of(aim), now.answer, form));
-    }
-    let reached = displacement::displacement(form, aim.address, target);
-    let value = reached.value;
-    edit(rt, asked, name, code, sheet, out, aim, value)
+    immediate::target(code, spot.bundle, aim.slot, aim.form, aim.address).map_err(
+        |refusal| job.refuse(aim.place(), refusal, aim.form),
+    )?;
+    let value = displacement::displacement(aim.form, aim.address, target).unwrap_or(Operand::None);
+    Ok(edit(job, aim, value))
 }
 
-fn undo(
-    rt: &HostRuntime,
-    asked: &[u64],
-    name: &[u8],
-    code: &mut [u8],
-    sheet: &[u8],
-    out: &mut [u8],
-    aim: Aim,
-) -> Called {
-    if !asked::has(asked, asked::ALL) {
-        return perform(rt, name, code, sheet, out, aim, Task::Act(Act::Undo));
+fn undo_all(job: &Job, code: &mut [u8], sheet: &[u8], aim: Aim) -> Result<Written, Status> {
+    if sheet == sheets::EMPTY.as_slice() {
+        return Err(job.refuse(aim.address, Refusal::Empty, NO_FORM));
     }
-    if check::same(sheet, &sheets::EMPTY) {
-        return Called::Not(refuse(rt, name, aim.address, answer::EMPTY, form::NO_FORM));
+    match by_sheet::take_out(code, sheet) {
+        Ok(()) => Ok(NOTHING_STANDS),
+        Err(Untaken::Refused(refusal) | Untaken::Unfit(Misfit { refusal, .. })) => {
+            Err(job.refuse(aim.address, refusal, NO_FORM))
+        }
     }
-    let taken = by_sheet::take_out(code, sheet);
-    if taken.answer != answer::ACCEPTED {
-        return Called::Not(refuse(rt, name, aim.address, taken.answer, form::NO_FORM));
-    }
-    Called::Done(0, 0)
-}
-
-fn perform(
-    rt: &HostRuntime,
-    name: &[u8],
-    code: &mut [u8],
-    sheet: &[u8],
-    out: &mut [u8],
-    aim: Aim,
-    task: Task,
-) -> Called {
-    let done = by_sheet::perform(code, sheet, task, out);
-    if done.answer != answer::ACCEPTED {
-        let form = aim.form;
-        return Called::Not(refuse(rt, name, aim::place_of(aim), done.answer, form));
-    }
-    if done.count == 0 {
-        return Called::Done(0, 0);
-    }
-    Called::Done(done.length, done.count)
 }

@@ -1,178 +1,91 @@
 // `report`: the template report over the code of files.
-ghost use Rattle.std.specs.Prelude.{◌≡◌, min};
-
-use crate::refusal::refuse;
+use crate::job::Job;
+use crate::room;
 use crate::source::Source;
-use crate::{asked, place, room, source};
-use console::{DONE, SYSTEM};
+use console::Status;
+use form::NO_FORM;
 use guest::Guest;
 use lines::part;
-use message::failed;
-use std::fs::File;
 use tally::NUMBERS;
-
-// The report so far, and the last status of a file that isn't 0.
-#[derive(Clone, Copy)]
-pub struct Counted {
-    pub report: [u64; NUMBERS],
-    pub status: u64,
-}
+use window::Extent;
 
 // An image has so many bytes at most.
 const SPAN: u64 = 65536;
 
-pub fn report(rt: &HostRuntime, asked: &[u64], extents: &mut [u64]) -> u64 {
-    let count = console::arg_count(rt);
+// The report so far, and how the last of the files ended that failed.
+#[derive(Drop)]
+struct Counted {
+    report: [u64; NUMBERS],
+    ended: Result<(), Status>,
+}
+
+pub fn report(job: &Job) -> Result<(), Status> {
     let mut counted = Counted {
         report: [0; NUMBERS],
-        status: DONE,
+        ended: Ok(()),
     };
-    let mut i = asked::place(asked, asked::FILE);
-    while i < count {
-        counted = with_argument(rt, asked, counted, i, extents);
-        i += 1;
+    let first = job.asked.file.unwrap_or(usize::MAX);
+    for place in first..console::arg_count(job.rt) {
+        counted.add_argument(job, place);
     }
-    told(rt, counted)
-}
-
-fn told(rt: &HostRuntime, counted: Counted) -> u64 {
     let mut out = [0u8; tally::CAPACITY];
-    let report = counted.report;
-    let end = tally::put_report(&mut out, 0, report);
-    let written = place::printed(rt, &out, end);
-    let status = counted.status;
-    if status == DONE { written } else { status }
+    let end = tally::put_report(&mut out, 0, counted.report);
+    let written = job.printed(&out, end);
+    counted.ended.and(written)
 }
 
-// With the file that an argument names, where it isn't an option.
-fn with_argument(
-    rt: &HostRuntime,
-    asked: &[u64],
-    counted: Counted,
-    i: usize,
-    extents: &mut [u64],
-) -> Counted {
-    let mut name = [0u8; 4096];
-    let length = console::arg(rt, i, &mut name);
-    with_word(rt, asked, counted, &name[..length], extents)
-}
-
-fn with_word(
-    rt: &HostRuntime,
-    asked: &[u64],
-    counted: Counted,
-    name: &[u8],
-    extents: &mut [u64],
-) -> Counted {
-    if text::begins(name, b"--") {
-        return counted;
+impl Counted {
+    // Adds the file that an argument names, where it isn't an option.
+    fn add_argument(&mut self, job: &Job, place: usize) {
+        let mut word = [0u8; 4096];
+        let length = console::arg(job.rt, place, &mut word);
+        let name = &word[..length];
+        if !name.starts_with(b"--") {
+            self.add_file(&Job {
+                rt: job.rt,
+                asked: job.asked,
+                command: job.command,
+                name,
+            });
+        }
     }
-    let found = source::source_of(rt, asked, name, extents);
-    let Source::Is(guest, _) = found else {
-        return with_status(counted, source::status_of(found));
-    };
-    with_extents(rt, name, counted, &guest, extents)
-}
 
-fn with_status(counted: Counted, status: u64) -> Counted {
-    let report = counted.report;
-    Counted { report, status }
-}
-
-fn with_extents(
-    rt: &HostRuntime,
-    name: &[u8],
-    counted: Counted,
-    guest: &Guest,
-    extents: &[u64],
-) -> Counted {
-    let mut all = counted;
-    let count = guest.count;
-    let mut i = 0;
-    while i < count {
-        let extent = guest::extent_at(extents, i);
-        all = with_bytes(rt, name, all, &guest.file, extent.offset, extent.size);
-        i += 1;
+    fn add_file(&mut self, job: &Job) {
+        match Source::open(job) {
+            Ok(source) => self.add_extents(job, &source.guest),
+            Err(status) => self.ended = Err(status),
+        }
     }
-    all
-}
 
-// The bytes of an extent, as many at a time as an image has.
-fn with_bytes(
-    rt: &HostRuntime,
-    name: &[u8],
-    counted: Counted,
-    file: &File,
-    offset: u64,
-    size: u64,
-) -> Counted {
-    let mut all = counted;
-    let mut done = 0;
-    while done < size {
-        let n = least(size - done, SPAN);
-        all = with_image(
-            rt,
-            name,
-            all,
-            file,
-            std::num::wrapping_add_u64(offset, done),
-            n,
-        );
-        done += n;
+    fn add_extents(&mut self, job: &Job, guest: &Guest) {
+        for extent in guest.extents.as_slice() {
+            self.add_bytes(job, guest, *extent);
+        }
     }
-    all
-}
 
-fn least(a: u64, b: u64) -> u64
-    ensures { result ≡ min a b }
-{
-    if a < b { a } else { b }
-}
-
-fn with_image(
-    rt: &HostRuntime,
-    name: &[u8],
-    counted: Counted,
-    file: &File,
-    offset: u64,
-    size: u64,
-) -> Counted {
-    let mut code = room::code();
-    with_read(rt, name, counted, file, offset, size, &mut code)
-}
-
-fn with_read(
-    rt: &HostRuntime,
-    name: &[u8],
-    counted: Counted,
-    file: &File,
-    offset: u64,
-    size: u64,
-    code: &mut [u8],
-) -> Counted {
-    let n = part::within(code, size as usize);
-    if let Err(error) = guest::read_at(file, &mut code[0..n], offset) {
-        failed(rt, name, &error);
-        return with_status(counted, SYSTEM);
+    // The bytes of an extent, as many at a time as an image has.
+    fn add_bytes(&mut self, job: &Job, guest: &Guest, extent: Extent) {
+        let mut done = 0;
+        while done < extent.size {
+            let n = (extent.size - done).min(SPAN);
+            if let Err(status) = self.add_image(job, guest, extent.offset.wrapping_add(done), n) {
+                self.ended = Err(status);
+            }
+            done += n;
+        }
     }
-    with_report(rt, name, counted, offset, &code[0..n])
-}
 
-fn with_report(
-    rt: &HostRuntime,
-    name: &[u8],
-    counted: Counted,
-    offset: u64,
-    image: &[u8],
-) -> Counted {
-    let report = counted.report;
-    let sum = tally::add(report, image);
-    if sum.answer != answer::ACCEPTED {
-        return with_status(counted, refuse(rt, name, offset, sum.answer, form::NO_FORM));
-    }
-    let report = sum.report;
-    Counted {
-        report,
-        status: counted.status,
+    fn add_image(
+        &mut self,
+        job: &Job,
+        guest: &Guest,
+        offset: u64,
+        size: u64,
+    ) -> Result<(), Status> {
+        let mut code = room::code();
+        let n = part::within(&code, size as usize);
+        let image = &mut code[..n];
+        guest::read_at(&guest.file, image, offset).map_err(|error| job.failed(&error))?;
+        tally::add(&mut self.report, image).map_err(|refusal| job.refuse(offset, refusal, NO_FORM))
     }
 }

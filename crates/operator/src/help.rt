@@ -1,6 +1,6 @@
 // How the program is used.
-use crate::asked;
-use console::{DONE, USAGE};
+use crate::asked::Command;
+use console::Status;
 use std::io;
 use std::io::Print;
 
@@ -39,54 +39,64 @@ const REPORT: [u8; 85] =
 const TAIL: [u8; 399] =
     *b"\nAn ADDRESS is that of a bundle, plus 0, 1 or 2 for the slot. Numbers are decimal, or hex after 0x, with a minus sign or without.\nFILE is an ELF file for Itanium, or raw bytes: --raw --base ADDRESS --offset N --length N say more.\nPatches are kept beside it, in FILE.patches, and undone by a window of 65,536 bytes.\nExit status: 0 done, 1 refused, 2 usage, 3 the system, 4 locked. --help, --version.\n";
 
-pub fn version(rt: &HostRuntime) -> u64 {
+// The commands, in the order in which all are told.
+const COMMANDS: [Command; 9] = [
+    Command::List,
+    Command::Show,
+    Command::Edit,
+    Command::Branch,
+    Command::Undo,
+    Command::Fold,
+    Command::Verify,
+    Command::Status,
+    Command::Report,
+];
+
+pub fn version(rt: &HostRuntime) -> Result<(), Status> {
     written(rt, rt.stdout().write_all(&VERSION))
 }
 
-fn written(rt: &HostRuntime, done: io::Result<()>) -> u64 {
-    match done {
-        Ok(()) => DONE,
-        Err(error) => console::failed(rt, b"glindorsc: standard output", &error),
-    }
+fn written(rt: &HostRuntime, done: io::Result<()>) -> Result<(), Status> {
+    done.map_err(|error| console::failed(rt, b"glindorsc: standard output", &error))
 }
 
 // Says how a command is used: on standard output where that was asked, and else on standard error.
-pub fn help(rt: &HostRuntime, command: u64) -> u64 {
+pub fn help(rt: &HostRuntime, command: Option<Command>) -> Result<(), Status> {
     written(rt, tell(&rt.stdout(), command))
 }
 
-pub fn misused(rt: &HostRuntime, command: u64) -> u64 {
+pub fn misused(rt: &HostRuntime, command: Option<Command>) -> Status {
     let out = rt.stderr();
     let _ = out.write_all(b"glindorsc: usage:\n");
     let _ = tell(&out, command);
-    USAGE
+    Status::Usage
 }
 
-fn tell(out: &impl Print, command: u64) -> io::Result<()> {
+fn tell(out: &impl Print, command: Option<Command>) -> io::Result<()> {
     match command {
-        asked::LIST => out.write_all(&LIST),
-        asked::SHOW => out.write_all(&SHOW),
-        asked::EDIT => out.write_all(&EDIT),
-        asked::BRANCH => out.write_all(&BRANCH),
-        asked::UNDO => out.write_all(&UNDO),
-        asked::FOLD => out.write_all(&FOLD),
-        asked::VERIFY => out.write_all(&VERIFY),
-        asked::STATUS => out.write_all(&STATUS),
-        asked::REPORT => out.write_all(&REPORT),
-        _ => tell_all(out),
+        Some(command) => tell_one(out, command),
+        None => tell_all(out),
+    }
+}
+
+fn tell_one(out: &impl Print, command: Command) -> io::Result<()> {
+    match command {
+        Command::List => out.write_all(&LIST),
+        Command::Show => out.write_all(&SHOW),
+        Command::Edit => out.write_all(&EDIT),
+        Command::Branch => out.write_all(&BRANCH),
+        Command::Undo => out.write_all(&UNDO),
+        Command::Fold => out.write_all(&FOLD),
+        Command::Verify => out.write_all(&VERIFY),
+        Command::Status => out.write_all(&STATUS),
+        Command::Report => out.write_all(&REPORT),
     }
 }
 
 fn tell_all(out: &impl Print) -> io::Result<()> {
     out.write_all(&HEAD)?;
-    out.write_all(&LIST)?;
-    out.write_all(&SHOW)?;
-    out.write_all(&EDIT)?;
-    out.write_all(&BRANCH)?;
-    out.write_all(&UNDO)?;
-    out.write_all(&FOLD)?;
-    out.write_all(&VERIFY)?;
-    out.write_all(&STATUS)?;
-    out.write_all(&REPORT)?;
+    for command in COMMANDS {
+        tell_one(out, command)?;
+    }
     out.write_all(&TAIL)
 }

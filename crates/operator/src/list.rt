@@ -1,13 +1,13 @@
 // `list`: the bundles of FILE's code, a line each.
+use crate::job::Job;
 use crate::listed::put_line;
-use crate::refusal::refuse;
 use crate::source::Source;
-use crate::{asked, place, room, sheets, source};
-use console::{DONE, SYSTEM};
+use crate::{room, sheets};
+use answer::Refusal;
+use console::Status;
+use form::NO_FORM;
 use guest::Guest;
-use message::{failed, said};
-use window::{Extent, Place};
-use words::Given;
+use window::Extent;
 
 // A window has so many bundles.
 const BUNDLES: u64 = 4096;
@@ -15,124 +15,59 @@ const BUNDLES: u64 = 4096;
 // Output that goes on up to here has room for a line more.
 const FULL: usize = 524000;
 
-// Where a listing has come to: the next address, how many bundles are still to be listed, and the status, which was said where it isn't 0.
+// Where a listing has come to in an extent: the next address, and how many bundles are still to be listed.
 #[derive(Clone, Copy)]
-pub struct Listing {
-    pub next: u64,
-    pub left: u64,
-    pub status: u64,
+struct Listing {
+    next: u64,
+    left: u64,
 }
 
-pub fn list(rt: &HostRuntime, asked: &[u64], name: &[u8], extents: &mut [u64]) -> u64 {
-    let found = source::source_of(rt, asked, name, extents);
-    let Source::Is(guest, _) = found else {
-        return source::status_of(found);
-    };
-    if folder::stands(rt, name) {
-        said(
-            rt,
-            name,
+pub fn list(job: &Job) -> Result<(), Status> {
+    let source = Source::open(job)?;
+    if job.folder().has_redo() {
+        job.said(
             b"a commit isn't finished: what is shown may be half of it, and verify finishes it",
         );
     }
-    list_from(rt, asked, name, extents, &guest)
-}
-
-fn list_from(rt: &HostRuntime, asked: &[u64], name: &[u8], extents: &[u64], guest: &Guest) -> u64 {
-    let counted = place::number_or(rt, asked::place(asked, asked::SECOND), u64::MAX);
-    let Given::Unsigned(left) = counted else {
-        return place::no_number(rt, name);
+    let left = job.number_or(job.asked.second, u64::MAX)?;
+    if job.asked.first.is_none() {
+        return list_all(job, &source.guest, 0, None, left);
+    }
+    let address = job.place(job.asked.first)?.address;
+    let Some(first) = extent_of(&source.guest, address) else {
+        return Err(job.refuse(address, Refusal::ExhaustedInput, NO_FORM));
     };
-    if !asked::has(asked, asked::FIRST) {
-        return list_all(rt, name, extents, guest, 0, 0, left);
-    }
-    let word = place::place_in(rt, asked::place(asked, asked::FIRST));
-    let words::Place::At(address, _) = word else {
-        return place::unread(rt, name);
-    };
-    let first = extent_of(guest, extents, address);
-    if guest.count <= first {
-        return refuse(rt, name, address, answer::EXHAUSTED_INPUT, form::NO_FORM);
-    }
-    list_all(rt, name, extents, guest, first, address, left)
+    list_all(job, &source.guest, first, Some(address), left)
 }
 
-// Which extent has the bundle at an address, or past the last.
-fn extent_of(guest: &Guest, extents: &[u64], address: u64) -> usize {
-    let mut i = 0;
-    while i < guest.count {
-        if has(guest::extent_at(extents, i), guest.length, address) {
-            return i;
-        }
-        i += 1;
-    }
-    i
+// Which extent has the bundle at an address.
+fn extent_of(guest: &Guest, address: u64) -> Option<usize> {
+    guest.extents.as_slice().iter().position(|extent| window::place_of(
+        *extent,
+        guest.length,
+        address,
+    ).is_some())
 }
 
-fn has(extent: Extent, length: u64, address: u64) -> bool {
-    match window::place_of(extent, length, address) {
-        Place::At(_) => true,
-        Place::Nowhere => false,
-    }
-}
-
-// The extents from one on, of which the first is listed from an address on, where it isn't 0.
+// The extents from one on, of which the first is listed from an address on, where there is one.
 fn list_all(
-    rt: &HostRuntime,
-    name: &[u8],
-    extents: &[u64],
+    job: &Job,
     guest: &Guest,
     first: usize,
-    from: u64,
-    left: u64,
-) -> u64 {
-    let mut at = Listing {
-        next: from,
-        left,
-        status: DONE,
-    };
-    let count = guest.count;
-    let mut i = first;
-    while i < count {
-        at = list_extent(rt, name, extents, guest, guest::extent_at(extents, i), at);
-        i += 1;
+    from: Option<u64>,
+    most: u64,
+) -> Result<(), Status> {
+    let mut next = from;
+    let mut left = most;
+    for extent in guest.extents.as_slice().iter().skip(first) {
+        let at = Listing {
+            next: next.unwrap_or(rounded(extent.address)),
+            left,
+        };
+        left = list_extent(job, guest, *extent, at)?;
+        next = None;
     }
-    at.status
-}
-
-fn list_extent(
-    rt: &HostRuntime,
-    name: &[u8],
-    extents: &[u64],
-    guest: &Guest,
-    extent: Extent,
-    listing: Listing,
-) -> Listing {
-    let mut at = begun(listing, extent);
-    let mut turns = extent.size / 16384 + 2;
-    while 0 < turns {
-        at = list_next(rt, name, extents, guest, extent, at);
-        turns -= 1;
-    }
-    Listing {
-        next: 0,
-        left: at.left,
-        status: at.status,
-    }
-}
-
-// A listing that comes to an extent begins with its first bundle.
-fn begun(listing: Listing, extent: Extent) -> Listing {
-    let next = if listing.next == 0 {
-        rounded(extent.address)
-    } else {
-        listing.next
-    };
-    Listing {
-        next,
-        left: listing.left,
-        status: listing.status,
-    }
+    Ok(())
 }
 
 // The first multiple of 16 from an address on.
@@ -141,135 +76,72 @@ fn rounded(address: u64) -> u64 {
     if over == 0 {
         return address;
     }
-    std::num::wrapping_add_u64(address - over, 16)
+    (address - over).wrapping_add(16)
 }
 
-// Whether a bundle of the extent is still to be listed.
-fn goes_on(at: Listing, extent: Extent) -> bool {
-    if at.left == 0 {
-        return false;
+// How many bundles are still to be listed after an extent.
+fn list_extent(job: &Job, guest: &Guest, extent: Extent, from: Listing) -> Result<u64, Status> {
+    let mut at = from;
+    for _ in 0..extent.size / 16384 + 2 {
+        if at.goes_on(extent) {
+            at = list_next(job, guest, extent, at)?;
+        }
     }
-    if at.next < extent.address {
-        return false;
+    Ok(at.left)
+}
+
+impl Listing {
+    // Whether a bundle of the extent is still to be listed.
+    fn goes_on(self, extent: Extent) -> bool {
+        if self.left == 0 || self.next < extent.address || extent.size < 16 {
+            return false;
+        }
+        self.next - extent.address <= extent.size - 16
     }
-    if extent.size < 16 {
-        return false;
+
+    // Where it has come to after one bundle more.
+    fn after_one(self) -> Listing {
+        Listing {
+            next: self.next.wrapping_add(16),
+            left: self.left.wrapping_sub(1),
+        }
     }
-    at.next - extent.address <= extent.size - 16
 }
 
 // The extent's bundles in the window of the next address, as many as there is room for: a quarter of a window at least.
-fn list_next(
-    rt: &HostRuntime,
-    name: &[u8],
-    extents: &[u64],
-    guest: &Guest,
-    extent: Extent,
-    at: Listing,
-) -> Listing {
-    if !goes_on(at, extent) {
-        return at;
-    }
+fn list_next(job: &Job, guest: &Guest, extent: Extent, at: Listing) -> Result<Listing, Status> {
     let mut code = room::code();
     let mut marks = room::marks();
-    let spot = window::spot_of(at.next);
-    if let Err(error) = guest::load(guest, extents, spot.window, &mut code) {
-        failed(rt, name, &error);
-        return ended(at, SYSTEM);
-    }
-    let status = sheets::mark(rt, name, spot.window, &mut marks);
-    if status != DONE {
-        return ended(at, status);
-    }
-    list_window(rt, &code, &marks, extent, at, spot.window, spot.bundle)
-}
-
-fn ended(at: Listing, status: u64) -> Listing {
-    Listing {
-        next: at.next,
-        left: 0,
-        status,
-    }
-}
-
-fn list_window(
-    rt: &HostRuntime,
-    code: &[u8],
-    marks: &[u8],
-    extent: Extent,
-    at: Listing,
-    window: u64,
-    first: u64,
-) -> Listing {
+    let window = window::spot_of(at.next).window;
+    guest
+        .load(window, &mut code)
+        .map_err(|error| job.failed(&error))?;
+    sheets::mark(job, window, &mut marks)?;
     let mut out = room::text();
-    let listed = put_bundles(&mut out, code, marks, extent, at, window, first);
-    if place::printed(rt, &out, listed.end) == DONE {
-        return listed.at;
-    }
-    ended(at, SYSTEM)
+    let (end, next) = put_bundles(&mut out, &code, &marks, extent, at);
+    job.printed(&out, end).map_err(|_| Status::System)?;
+    Ok(next)
 }
 
-// Where the output and the listing have come to.
-#[derive(Clone, Copy)]
-struct Put {
-    end: usize,
-    at: Listing,
-}
-
+// Where the output ends, and where the listing has come to.
 fn put_bundles(
     out: &mut [u8],
     code: &[u8],
     marks: &[u8],
     extent: Extent,
-    at: Listing,
-    window: u64,
-    first: u64,
-) -> Put {
-    let mut put = Put { end: 0, at };
-    let mut n = first;
-    while n < BUNDLES {
-        put = put_bundle(out, code, marks, extent, put, window, n);
-        n += 1;
+    from: Listing,
+) -> (usize, Listing) {
+    let spot = window::spot_of(from.next);
+    let mut at = from;
+    let mut end = 0;
+    for n in spot.bundle..BUNDLES {
+        if FULL < end || !at.goes_on(extent) {
+            break;
+        }
+        let patched = matches!(marks.get(n as usize), Some(1));
+        let address = folder::address_of(spot.window, n);
+        end = put_line(out, end, code, address, patched);
+        at = at.after_one();
     }
-    put
-}
-
-fn put_bundle(
-    out: &mut [u8],
-    code: &[u8],
-    marks: &[u8],
-    extent: Extent,
-    put: Put,
-    window: u64,
-    n: u64,
-) -> Put {
-    let at = put.at;
-    if FULL < put.end {
-        return put;
-    }
-    if !goes_on(at, extent) {
-        return put;
-    }
-    let end = put_line(
-        out,
-        put.end,
-        code,
-        n,
-        folder::address_of(window, n),
-        is_marked(marks, n),
-    );
-    let next = Listing {
-        next: std::num::wrapping_add_u64(at.next, 16),
-        left: std::num::wrapping_sub_u64(at.left, 1),
-        status: at.status,
-    };
-    Put { end, at: next }
-}
-
-fn is_marked(marks: &[u8], n: u64) -> bool {
-    let at = n as usize;
-    if at < marks.len() {
-        return marks[at] == 1;
-    }
-    false
+    (end, at)
 }

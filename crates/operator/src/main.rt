@@ -1,8 +1,6 @@
 // The operator's program, over files: lists, patches, takes patches out again, verifies and counts (`./glindorsc`).
 #![tactic(auto)]
 
-ghost use Rattle.std.specs.Prelude.{◌<◌};
-
 mod aim;
 mod asked;
 mod call;
@@ -11,10 +9,10 @@ mod changed;
 mod count;
 mod fits;
 mod help;
+mod job;
 mod list;
 mod listed;
 mod look;
-mod place;
 mod reading;
 mod refusal;
 mod room;
@@ -22,9 +20,10 @@ mod sheets;
 mod show;
 mod source;
 
-use guest::NUMBERS;
+use asked::{Asked, Command};
+use console::Status;
+use job::Job;
 use std::fs::File;
-use std::io;
 use std::os::fd::{AsRawFd, IntoRawFd};
 use std::process::ExitCode;
 
@@ -34,65 +33,56 @@ const STDERR_FILENO: i32 = 2;
 fn main(rt: HostRuntime) -> ExitCode {
     guard(&rt);
     let started = console::started(&rt);
-    let mut asked = [0u64; asked::NUMBERS];
-    asked::read(&rt, &mut asked, started.first);
-    let status = status_of(&rt, &asked);
+    let asked = Asked::read(&rt, started.first);
+    let status = match done(&rt, &asked) {
+        Ok(()) => Status::Done,
+        Err(status) => status,
+    };
     console::end(&rt, started, status)
 }
 
 // In the place of a standard descriptor that is closed stands one that can't be written, so that no file of ours gets its number.
 fn guard(rt: &HostRuntime) {
-    let mut left = 3;
-    while 0 < left {
-        left = left_after(File::open(rt, "/dev/null"), left);
+    for _ in 0..3 {
+        if let Ok(file) = File::open(rt, "/dev/null") {
+            if STDERR_FILENO < file.as_raw_fd() {
+                return;
+            }
+            file.into_raw_fd();
+        }
     }
 }
 
-fn left_after(opened: io::Result<File>, left: u64) -> u64
-    requires { 0 < left }
-    ensures { result < left }
-{
-    let Ok(file) = opened else {
-        return left - 1;
-    };
-    if file.as_raw_fd() <= STDERR_FILENO {
-        file.into_raw_fd();
-        return left - 1;
-    }
-    0
-}
-
-fn status_of(rt: &HostRuntime, asked: &[u64]) -> u64 {
-    let command = asked::get(asked, asked::COMMAND);
-    if asked::has(asked, asked::VERSION) {
+fn done(rt: &HostRuntime, asked: &Asked) -> Result<(), Status> {
+    if asked.version {
         return help::version(rt);
     }
-    if asked::has(asked, asked::HELP) {
-        return help::help(rt, command);
+    if asked.help {
+        return help::help(rt, asked.command);
     }
-    if asked::has(asked, asked::WRONG) {
-        return help::misused(rt, command);
-    }
-    if !asked::is_whole(asked) {
-        return help::misused(rt, command);
-    }
-    done(rt, asked, command)
-}
-
-fn done(rt: &HostRuntime, asked: &[u64], command: u64) -> u64 {
+    let Some(command) = asked.whole() else {
+        return Err(help::misused(rt, asked.command));
+    };
     let mut word = [0u8; 4096];
-    let length = console::arg(rt, asked::place(asked, asked::FILE), &mut word);
-    done_of(rt, asked, command, &word[..length])
+    let length = match asked.file {
+        Some(place) => console::arg(rt, place, &mut word),
+        None => 0,
+    };
+    done_of(&Job {
+        rt,
+        asked,
+        command,
+        name: &word[..length],
+    })
 }
 
-fn done_of(rt: &HostRuntime, asked: &[u64], command: u64, name: &[u8]) -> u64 {
-    let mut extents = [0u64; NUMBERS];
-    match command {
-        asked::LIST => list::list(rt, asked, name, &mut extents),
-        asked::SHOW => show::show(rt, asked, name, &mut extents),
-        asked::VERIFY => look::verify(rt, asked, name, &mut extents),
-        asked::STATUS => look::status(rt, asked, name, &mut extents),
-        asked::REPORT => count::report(rt, asked, &mut extents),
-        _ => change::change(rt, asked, name, &mut extents),
+fn done_of(job: &Job) -> Result<(), Status> {
+    match job.command {
+        Command::List => list::list(job),
+        Command::Show => show::show(job),
+        Command::Verify => look::verify(job),
+        Command::Status => look::status(job),
+        Command::Report => count::report(job),
+        Command::Edit | Command::Branch | Command::Undo | Command::Fold => change::change(job),
     }
 }

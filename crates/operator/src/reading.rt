@@ -1,13 +1,12 @@
 // How the options say that FILE is read, and whether that is as its layout says.
-use crate::source::{ELF, RAW, Way};
-use crate::{asked, place};
-use console::{REFUSED, SYSTEM, USAGE};
-use elf::File;
-use guest::Headers;
+use crate::asked::Asked;
+use crate::job::Job;
+use crate::source::{ELF, RAW};
+use console::Status;
+use elf::Refusal;
 use layout::Reading;
-use message::{failed, said, say};
-use std::{fs, io};
-use words::Given;
+use message::say;
+use std::fs;
 
 const AS_ELF: Reading = Reading {
     kind: ELF,
@@ -18,30 +17,22 @@ const AS_ELF: Reading = Reading {
 
 // As the layout says, where no option says otherwise.
 pub fn agreed(
-    rt: &HostRuntime,
-    asked: &[u64],
-    name: &[u8],
+    job: &Job,
     file: &fs::File,
     length: u64,
     reading: Reading,
-) -> Way {
-    if !has_options(asked) {
-        return Way::Is(reading);
+) -> Result<Reading, Status> {
+    if !job.asked.raw && !has_numbers(job.asked) {
+        return Ok(reading);
     }
-    match way_of(rt, asked, name, file, length) {
-        Way::Is(wanted) => same(rt, name, wanted, reading),
-        Way::Not(status) => Way::Not(status),
-    }
-}
-
-fn same(rt: &HostRuntime, name: &[u8], wanted: Reading, reading: Reading) -> Way {
+    let wanted = way_of(job, file, length)?;
     if layout::same_reading(wanted, reading) {
-        return Way::Is(reading);
+        return Ok(reading);
     }
     let mut line = [0u8; 8192];
-    let end = put_both(&mut line, name, wanted, reading);
-    say(rt, &line, end);
-    Way::Not(REFUSED)
+    let end = put_both(&mut line, job.name, wanted, reading);
+    say(job.rt, &line, end);
+    Err(Status::Refused)
 }
 
 fn put_both(line: &mut [u8], name: &[u8], wanted: Reading, reading: Reading) -> usize {
@@ -67,84 +58,51 @@ pub fn put_reading(line: &mut [u8], at: usize, reading: Reading) -> usize {
     text::put_decimal(line, long, reading.length)
 }
 
-fn has_options(asked: &[u64]) -> bool {
-    asked::has(asked, asked::RAW) | has_numbers(asked)
-}
-
-fn has_numbers(asked: &[u64]) -> bool {
-    asked::has(asked, asked::BASE)
-        | asked::has(asked, asked::OFFSET)
-        | asked::has(asked, asked::LENGTH)
+fn has_numbers(asked: &Asked) -> bool {
+    asked.base.is_some() || asked.offset.is_some() || asked.length.is_some()
 }
 
 // How the options read the file.
-pub fn way_of(rt: &HostRuntime, asked: &[u64], name: &[u8], file: &fs::File, length: u64) -> Way {
-    if asked::has(asked, asked::RAW) {
-        return raw_way(rt, asked, name, length);
+pub fn way_of(job: &Job, file: &fs::File, length: u64) -> Result<Reading, Status> {
+    if job.asked.raw {
+        return raw_way(job, length);
     }
-    match guest::headers_of(file, length) {
-        Headers::Are(kind) => by_kind(rt, asked, name, length, kind),
-        Headers::Failed(error) => unread(rt, name, &error),
-    }
-}
-
-fn unread(rt: &HostRuntime, name: &[u8], error: &io::Error) -> Way {
-    failed(rt, name, error);
-    Way::Not(SYSTEM)
-}
-
-fn by_kind(rt: &HostRuntime, asked: &[u64], name: &[u8], length: u64, kind: File) -> Way {
-    match kind {
-        File::Raw => raw_way(rt, asked, name, length),
-        File::Refused(why) => Way::Not(refused(rt, name, why)),
-        File::Linked(_) => elf_way(rt, asked, name),
+    match guest::headers_of(file, length).map_err(|error| job.failed(&error))? {
+        Ok(None) => raw_way(job, length),
+        Ok(Some(_)) => elf_way(job),
+        Err(why) => Err(refused(job, why)),
     }
 }
 
-fn elf_way(rt: &HostRuntime, asked: &[u64], name: &[u8]) -> Way {
-    if has_numbers(asked) {
-        said(
-            rt,
-            name,
+fn elf_way(job: &Job) -> Result<Reading, Status> {
+    if has_numbers(job.asked) {
+        return Err(job.misused(
             b"an ELF file says itself where its code is; --raw reads it as raw bytes",
-        );
-        return Way::Not(USAGE);
+        ));
     }
-    Way::Is(AS_ELF)
+    Ok(AS_ELF)
 }
 
 // Why an ELF file isn't taken.
-fn refused(rt: &HostRuntime, name: &[u8], why: u8) -> u64 {
+fn refused(job: &Job, why: Refusal) -> Status {
     match why {
-        elf::NOT_CLASS_64 => said(rt, name, b"an ELF file that isn't of 64 bits"),
-        elf::NOT_LITTLE_ENDIAN => said(rt, name, b"an ELF file that isn't little-endian"),
-        elf::NOT_ITANIUM => said(rt, name, b"an ELF file of another machine than Itanium"),
-        _ => said(
-            rt,
-            name,
+        Refusal::NotClass64 => job.refused(b"an ELF file that isn't of 64 bits"),
+        Refusal::NotLittleEndian => job.refused(b"an ELF file that isn't little-endian"),
+        Refusal::NotItanium => job.refused(b"an ELF file of another machine than Itanium"),
+        Refusal::Relocatable => job.refused(
             b"a relocatable object: the linker writes its numbers; patch the linked file",
         ),
     }
-    REFUSED
 }
 
-fn raw_way(rt: &HostRuntime, asked: &[u64], name: &[u8], length: u64) -> Way {
-    let Given::Unsigned(base) = place::number_or(rt, asked::place(asked, asked::BASE), 0) else {
-        return Way::Not(place::no_number(rt, name));
-    };
-    let Given::Unsigned(offset) = place::number_or(rt, asked::place(asked, asked::OFFSET), 0) else {
-        return Way::Not(place::no_number(rt, name));
-    };
-    let rest = if offset < length { length - offset } else { 0 };
-    let Given::Unsigned(size) = place::number_or(rt, asked::place(asked, asked::LENGTH), rest)
-    else {
-        return Way::Not(place::no_number(rt, name));
-    };
+fn raw_way(job: &Job, length: u64) -> Result<Reading, Status> {
+    let base = job.number_or(job.asked.base, 0)?;
+    let offset = job.number_or(job.asked.offset, 0)?;
+    let size = job.number_or(job.asked.length, length.saturating_sub(offset))?;
     if base % 16 != 0 {
-        said(rt, name, b"a base is a multiple of 16");
-        return Way::Not(USAGE);
+        return Err(job.misused(b"a base is a multiple of 16"));
     }
-    Way::Is(Reading {
+    Ok(Reading {
         kind: RAW,
         base,
         offset,

@@ -1,18 +1,22 @@
 // What is said of a call that was refused: the file, the address, the answer by number and name, and what would be right.
-use console::REFUSED;
+use crate::job::Job;
+use answer::Refusal;
+use console::Status;
 use form::Form;
-use message::{put_answer, put_takes, say};
+use message::{put_answer, put_takes};
 use text::put_text;
 
-// Says it, which is the status then.
-pub fn refuse(rt: &HostRuntime, name: &[u8], address: u64, answer: u8, form: Form) -> u64 {
-    let mut line = [0u8; 8192];
-    let end = put_refusal(&mut line, name, address, answer, form);
-    say(rt, &line, end);
-    REFUSED
+impl Job<'_> {
+    // Says it, which is the status then.
+    pub fn refuse(&self, address: u64, answer: Refusal, form: Form) -> Status {
+        let mut line = [0u8; 8192];
+        let end = put_refusal(&mut line, self.name, address, answer, form);
+        message::say(self.rt, &line, end);
+        Status::Refused
+    }
 }
 
-fn put_refusal(line: &mut [u8], name: &[u8], address: u64, answer: u8, form: Form) -> usize {
+fn put_refusal(line: &mut [u8], name: &[u8], address: u64, answer: Refusal, form: Form) -> usize {
     let at = put_place(line, name, address);
     let number = put_answer(line, at, answer);
     let colon = put_text(line, number, b": ");
@@ -29,32 +33,32 @@ pub fn put_place(line: &mut [u8], name: &[u8], address: u64) -> usize {
     put_text(line, next, b": ")
 }
 
-fn put_right(line: &mut [u8], at: usize, answer: u8, form: Form) -> usize {
+fn put_right(line: &mut [u8], at: usize, answer: Refusal, form: Form) -> usize {
     match answer {
-        answer::EXHAUSTED_INPUT => put_text(line, at, b"no code stands there"),
-        answer::BAD_BUNDLE => put_text(line, at, b"the bundle's template is reserved"),
-        answer::BAD_FORM => put_formed(line, at, form, b" has no such number"),
-        answer::BAD_SLOT => put_formed(line, at, form, b" doesn't fit that slot"),
-        answer::BAD_VALUE => put_takes(line, at, form),
-        answer::FULL => put_text(
+        Refusal::ExhaustedInput => put_text(line, at, b"no code stands there"),
+        Refusal::BadBundle => put_text(line, at, b"the bundle's template is reserved"),
+        Refusal::BadForm => put_formed(line, at, form, b" has no such number"),
+        Refusal::BadSlot => put_formed(line, at, form, b" doesn't fit that slot"),
+        Refusal::BadValue => put_takes(line, at, form),
+        Refusal::Full => put_text(
             line,
             at,
             b"1,024 patches stand in this window: fold or undo some",
         ),
-        answer::EMPTY => put_text(line, at, b"no patch stands there"),
-        answer::BAD_OPCODE => put_formed(
+        Refusal::Empty => put_text(line, at, b"no patch stands there"),
+        Refusal::BadOpcode => put_formed(
             line,
             at,
             form,
             b" isn't the form of the word there (list shows it); --plain doesn't ask",
         ),
-        answer::RETIRED => put_formed(
+        Refusal::Retired => put_formed(
             line,
             at,
             form,
             b" is of break, nop or hint, whose numbers aren't patched any more",
         ),
-        answer::BAD_SHEET => put_text(line, at, b"the window's sheet isn't one"),
+        Refusal::BadSheet => put_text(line, at, b"the window's sheet isn't one"),
         _ => put_text(line, at, b"the window's sheet or code can't be worked with"),
     }
 }

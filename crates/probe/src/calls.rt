@@ -1,113 +1,151 @@
 // The calls on the journal's records. These functions alone reach them.
-use crate::{command, kept};
-use answer::ACCEPTED;
-use journal::{Act, Edited};
+use crate::command;
+use crate::kept::Kept;
+use answer::Refusal;
+use journal::Act;
+use lines::part;
 use record::{NONE, Record};
 use records::Counts;
 use script::Ran;
-use text::Written;
 
-// What a line calls for; where a party does, its number comes first.
+// What a line calls for; where a party does, its number comes first, and where a call is lent room, that comes last.
 #[derive(Clone, Copy)]
 pub enum Call {
-    None,
     Journal(Counts, u64),
     Place(u64, Record),
     Records,
     Act(u64, Act),
-    Sheet(u64),
-    Line(u64, u64),
-    Load(u64),
+    Sheet(u64, usize),
+    Line(u64, u64, usize),
+    Load(u64, usize),
     Fold(u64),
-    Script(u64, u64, bool),
+    Script(Part),
 }
 
-// What a call gave.
+// A part of a script: the number expected, whether it has stopped, how many bytes it has, and the room that is lent.
 #[derive(Clone, Copy)]
-pub enum Given {
-    Nothing,
-    Journal(Counts, u64),
-    Edited(Edited),
-    Written(Written),
-    Ran(Ran),
+pub struct Part {
+    pub party: u64,
+    pub next: u64,
+    pub stopped: bool,
+    pub count: usize,
+    pub room: usize,
 }
 
-// Makes a call on the parts that the code, the journal, what is lent and a script that is given have, and keeps what it gave.
-pub fn made(
-    call: Call,
-    code: &mut [u8],
-    lent: &mut [u8],
-    given: &[u8],
-    kept: &mut [u64],
-    records: &mut [Record],
-) {
-    let length = kept::within(kept, kept::LENGTH, code.len());
-    let room = kept::within(kept, kept::LENT, lent.len());
-    let count = kept::within(kept, kept::GIVEN, given.len());
-    let places = kept::within(kept, kept::PLACES, records.len());
-    let gave = make(
+// What a call gave that is told, and the room that it was lent.
+#[derive(Clone, Copy)]
+pub enum Gave {
+    Edited(Result<Counts, Refusal>),
+    Records(usize),
+    Written(Result<usize, Refusal>, usize),
+    Ran(Ran, usize),
+}
+
+// What the lines work on: the code, what a call is lent, a script that is given, the journal's places, and what is kept between the lines.
+#[derive(Drop)]
+pub struct Work<'a> {
+    pub code: &'a mut [u8],
+    pub lent: &'a mut [u8],
+    pub given: &'a mut [u8],
+    pub records: &'a mut [Record],
+    pub kept: Kept,
+}
+
+// Makes a call on the parts that the code and the journal have, and keeps the counts that it gave.
+pub fn made(call: Call, work: &mut Work<'_>) -> Option<Gave> {
+    make(
         call,
-        kept::counts(kept),
-        &mut code[0..length],
-        &mut lent[0..room],
-        &given[0..count],
-        &mut records[0..places],
-    );
-    kept::keep(kept, gave);
+        work.code,
+        work.lent,
+        work.given,
+        work.records,
+        &mut work.kept,
+    )
 }
 
-pub fn make(
+// A script is only read; it is lent as the others are, since no proof is made where one of them alone is lent to be read.
+fn make(
     call: Call,
-    counts: Counts,
     code: &mut [u8],
     lent: &mut [u8],
-    text: &[u8],
+    given: &mut [u8],
     records: &mut [Record],
-) -> Given {
+    kept: &mut Kept,
+) -> Option<Gave> {
+    let counts = kept.counts;
+    let length = part::within(code, kept.length);
+    let code = &mut code[..length];
+    let places = records.len().min(kept.places as usize);
+    let records = &mut records[..places];
     match call {
-        Call::None => Given::Nothing,
         Call::Journal(counts, places) => {
-            clear(records);
-            Given::Journal(counts, places)
+            records.fill(NONE);
+            kept.counts = counts;
+            kept.places = places;
+            None
         }
         Call::Place(i, one) => {
             records::put(records, i, one);
-            Given::Nothing
+            None
         }
-        Call::Records => Given::Written(show(records, lent)),
-        Call::Act(party, act) => Given::Edited(journal::perform(code, counts, records, party, act)),
-        Call::Sheet(party) => Given::Written(sheet::write(counts, records, party, lent)),
-        Call::Line(party, i) => {
-            Given::Written(sheet::write_line(i, counts, records, party, lent))
-        }
-        Call::Load(party) => Given::Edited(sheet::load(counts, records, party, lent)),
-        Call::Fold(party) => Given::Edited(fold::fold(counts, records, party)),
-        Call::Script(party, next, stopped) => Given::Ran(script::run(
-            code, counts, records, party, next, stopped, text, lent,
+        Call::Records => Some(Gave::Records(show(records, lent))),
+        Call::Act(party, act) => Some(edited(
+            journal::perform(code, counts, records, party, act),
+            kept,
         )),
+        Call::Load(party, count) => {
+            let n = part::within(lent, count);
+            Some(edited(sheet::load(counts, records, party, &lent[..n]), kept))
+        }
+        Call::Fold(party) => Some(edited(fold::fold(counts, records, party), kept)),
+        Call::Sheet(party, room) => {
+            let n = part::within(lent, room);
+            let written = sheet::write(counts, records, party, &mut lent[..n]);
+            Some(Gave::Written(written, room))
+        }
+        Call::Line(party, i, room) => {
+            let n = part::within(lent, room);
+            let written = sheet::write_line(i, counts, records, party, &mut lent[..n]);
+            Some(Gave::Written(written, room))
+        }
+        Call::Script(part) => Some(ran(part, code, lent, given, records, kept)),
     }
 }
 
-// Every place is free.
-pub fn clear(records: &mut [Record]) {
-    let mut left = records.len() as u64;
-    while 0 < left {
-        left -= 1;
-        records::put(records, left, NONE);
-    }
+fn edited(edited: Result<Counts, Refusal>, kept: &mut Kept) -> Gave {
+    kept.counts = edited.unwrap_or(kept.counts);
+    Gave::Edited(edited)
 }
 
-// Writes the places that aren't free.
-pub fn show(records: &[Record], out: &mut [u8]) -> Written {
+fn ran(
+    part: Part,
+    code: &mut [u8],
+    lent: &mut [u8],
+    given: &[u8],
+    records: &mut [Record],
+    kept: &mut Kept,
+) -> Gave {
+    let n = part::within(lent, part.room);
+    let m = part::within(given, part.count);
+    let ran = script::run(
+        code,
+        kept.counts,
+        records,
+        part.party,
+        part.next,
+        part.stopped,
+        &given[..m],
+        &mut lent[..n],
+    );
+    kept.counts = ran.counts;
+    Gave::Ran(ran, part.room)
+}
+
+// Writes the places that aren't free, and answers how many bytes that are.
+fn show(records: &[Record], out: &mut [u8]) -> usize {
     let mut at = 0;
-    let mut place = 0;
-    while place < records.len() {
-        let i = place as u64;
-        at = command::show_place(i, records::get(records, i), out, at);
-        place += 1;
+    for (i, one) in records.iter().enumerate() {
+        at = command::show_place(i as u64, *one, out, at);
     }
-    Written {
-        answer: ACCEPTED,
-        length: at,
-    }
+    at
 }

@@ -8,6 +8,8 @@ mod command;
 mod kept;
 mod session;
 
+use calls::Work;
+use console::Status;
 use record::{NONE, Record};
 use std::process::ExitCode;
 
@@ -32,34 +34,28 @@ fn places() -> [Record; kept::MOST_PLACES]
 
 fn main(rt: HostRuntime) -> ExitCode {
     let started = console::started(&rt);
-    if console::has_arguments(&rt, started) {
-        return console::end(
-            &rt,
-            started,
-            console::misused(&rt, b"usage: probe <LINES\n"),
-        );
-    }
-    console::end(&rt, started, run(&rt))
+    let status = if console::has_arguments(&rt, started) {
+        console::misused(&rt, b"usage: probe <LINES\n")
+    } else {
+        run(&rt)
+    };
+    console::end(&rt, started, status)
 }
 
 // Answers standard input, and tells the exit status.
-fn run(rt: &HostRuntime) -> u64 {
+fn run(rt: &HostRuntime) -> Status {
     let mut text = room();
     let mut code = code_room();
     let mut lent = room();
     let mut given = room();
-    let mut kept = kept::first();
     let mut out = room();
     let mut records = places();
-    session::run(
-        rt,
-        &mut text,
-        &mut code,
-        &mut lent,
-        &mut given,
-        &mut kept,
-        &mut out,
-        &mut records,
-    );
-    kept::get(&kept, kept::STATUS)
+    let mut work = Work {
+        code: &mut code,
+        lent: &mut lent,
+        given: &mut given,
+        records: &mut records,
+        kept: kept::first(),
+    };
+    session::run(rt, &mut text, &mut work, &mut out)
 }

@@ -1,12 +1,12 @@
 // The run over standard input: read in blocks, answered line by line, written in blocks.
-ghost use Rattle.std.specs.Prelude.{◌≤◌, ◌<◌};
+ghost use Rattle.std.specs.Prelude.{◌≤◌, IfSome, length};
 
-use crate::calls::Call;
-use crate::{calls, command, kept};
-use console::Bytes;
+use crate::calls::Work;
+use crate::command;
+use console::Status;
 use lines::part;
-use record::Record;
 use std::io;
+use std::ops::Range;
 
 // The longest line that is answered.
 const LONGEST: usize = 400000;
@@ -14,159 +14,131 @@ const LONGEST: usize = 400000;
 // Output that goes on up to here has room for an answer more.
 const FULL: usize = 131072;
 
-// A proved loop has to end, and nothing says that the input does. So the turns are counted down, from a
-// number that no run uses up.
-pub fn run(
-    rt: &HostRuntime,
-    text: &mut [u8],
-    code: &mut [u8],
-    lent: &mut [u8],
-    given: &mut [u8],
-    kept: &mut [u64],
-    out: &mut [u8],
-    records: &mut [Record],
-) {
-    let mut turns = u64::MAX;
-    while 0 < turns {
-        let call = turn(rt, text, code, lent, given, kept, out);
-        calls::made(call, code, lent, given, kept, records);
-        command::tell(lent, kept, out);
-        turns = left(kept, turns);
-    }
+// How far the run has come.
+#[derive(Drop)]
+struct Progress {
+    // how many bytes of input are held, and where those begin that are not answered yet
+    held: usize,
+    from: usize,
+    // whether the start of the line at hand is gone, since there was no room for it
+    cut: bool,
+    // how many bytes of output are not written yet
+    at: usize,
+    // the exit status, once the input has ended or the system failed
+    status: Option<Status>,
 }
 
-// The turns that are left after one: none where the input has ended.
-fn left(kept: &[u64], turns: u64) -> u64
-    requires { 0 < turns }
-    ensures { result < turns }
-{
-    if kept::get(kept, kept::OVER) == 0 {
-        turns - 1
-    } else {
+// A proved loop has to end, and nothing says that the input does: it has as many turns as no run uses up.
+pub fn run(rt: &HostRuntime, text: &mut [u8], work: &mut Work<'_>, out: &mut [u8]) -> Status {
+    let mut progress = Progress {
+        held: 0,
+        from: 0,
+        cut: false,
+        at: 0,
+        status: None,
+    };
+    for _ in 0..u64::MAX {
+        if let Some(status) = progress.status {
+            return status;
+        }
+        match progress.line(text) {
+            Some(line) => {
+                let at = progress.flushed(rt, out);
+                let line = &text[line];
+                progress.at = command::answer(line, work, out, at);
+            }
+            None => progress.more(rt, text, out),
+        }
+    }
+    Status::Done
+}
+
+impl Progress {
+    // The next line that is held, as far as it is answered: of one that is cut or too long, nothing is.
+    fn line(&mut self, text: &[u8]) -> Option<Range<usize>>
+        ensures { IfSome result (λ line. (line.start ≤ line.end) × (line.end ≤ length text.now)) }
+    {
+        let held = part::within(text, self.held);
+        let from = self.from.min(held);
+        let rest = &text[from..held];
+        let length = part::first(rest, 0, b'\n');
+        if length == rest.len() {
+            return None;
+        }
+        let skipped = self.cut || LONGEST < length;
+        self.from = from + length + 1;
+        self.cut = false;
+        Some(from..if skipped { from } else { from + length })
+    }
+
+    // Writes the answers, and reads once more where that can be done.
+    fn more(&mut self, rt: &HostRuntime, text: &mut [u8], out: &mut [u8]) {
+        self.write(rt, out, self.at);
+        self.at = 0;
+        if self.status.is_none() {
+            self.take(rt, text, out);
+        }
+    }
+
+    // Reads once after the bytes that are held and not answered.
+    fn take(&mut self, rt: &HostRuntime, text: &mut [u8], out: &mut [u8]) {
+        let left = self.moved(text);
+        let count = match read(rt, text, left) {
+            Ok(count) => count,
+            Err(error) => return self.fail(rt, b"probe: standard input", &error),
+        };
+        self.held = count;
+        self.from = 0;
+        if count == left {
+            self.last(rt, left, out);
+        }
+    }
+
+    // What isn't answered goes to the text's front; its length. Where no line ends in the whole of the text, it is dropped.
+    fn moved(&mut self, text: &mut [u8]) -> usize {
+        let held = part::within(text, self.held);
+        let from = self.from.min(held);
+        if from == 0 && held == text.len() {
+            self.cut = true;
+            return 0;
+        }
+        part::shift(&mut text[..held], from);
+        held - from
+    }
+
+    // What stands after the last newline is no line.
+    fn last(&mut self, rt: &HostRuntime, left: usize, out: &mut [u8]) {
+        self.status = Some(Status::Done);
+        if self.cut || 0 < left {
+            let to = command::ended(out, 0, None);
+            self.write(rt, out, to);
+        }
+    }
+
+    // Writes the output where it could have no room for another answer, and answers where it stands then.
+    fn flushed(&mut self, rt: &HostRuntime, out: &[u8]) -> usize {
+        if self.at < FULL {
+            return self.at;
+        }
+        self.write(rt, out, self.at);
         0
     }
-}
 
-// Answers the next line that is held, as far as it calls for no records, or reads more of the input.
-fn turn(
-    rt: &HostRuntime,
-    text: &mut [u8],
-    code: &mut [u8],
-    lent: &mut [u8],
-    given: &mut [u8],
-    kept: &mut [u64],
-    out: &mut [u8],
-) -> Call {
-    let held = kept::within(kept, kept::HELD, text.len());
-    let from = kept::within(kept, kept::FROM, held);
-    let end = part::first(&text[0..held], from, b'\n');
-    if end == held || end < from {
-        more(rt, text, held, from, kept, out);
-        return Call::None;
+    fn write(&mut self, rt: &HostRuntime, out: &[u8], at: usize) {
+        if let Err(error) = console::write_all(&mut rt.stdout(), out, at) {
+            self.fail(rt, b"probe: standard output", &error);
+        }
     }
-    let to = readable(kept::get(kept, kept::CUT), from, end);
-    kept::set(kept, kept::FROM, end as u64 + 1);
-    kept::set(kept, kept::CUT, 0);
-    let at = flushed(rt, out, kept::get(kept, kept::AT) as usize, kept);
-    command::answer(&text[from..to], code, lent, given, kept, out, at)
-}
 
-// Where what is answered of a line ends: of one that is cut or too long, nothing is.
-fn readable(cut: u64, from: usize, end: usize) -> usize
-    requires { from ≤ end }
-    ensures { (from ≤ result) × (result ≤ end) }
-{
-    if cut != 0 || LONGEST < end - from {
-        from
-    } else {
-        end
+    // The system failed, which is said, and the run is over.
+    fn fail(&mut self, rt: &HostRuntime, what: &[u8], error: &io::Error) {
+        self.status = Some(console::failed(rt, what, error));
     }
-}
-
-// Writes the answers, and reads once more where that can be done.
-fn more(
-    rt: &HostRuntime,
-    text: &mut [u8],
-    held: usize,
-    from: usize,
-    kept: &mut [u64],
-    out: &mut [u8],
-) {
-    let at = kept::get(kept, kept::AT) as usize;
-    write(rt, out, at, kept);
-    kept::set(kept, kept::AT, 0);
-    if kept::get(kept, kept::OVER) == 0 {
-        take(rt, text, held, from, kept, out);
-    }
-}
-
-// Reads once after the bytes that are held and not answered.
-fn take(
-    rt: &HostRuntime,
-    text: &mut [u8],
-    held: usize,
-    from: usize,
-    kept: &mut [u64],
-    out: &mut [u8],
-) {
-    let left = moved(text, held, from, kept);
-    let got = read(rt, text, left);
-    kept::set(kept, kept::HELD, got.count as u64);
-    kept::set(kept, kept::FROM, 0);
-    if let Some(error) = got.error {
-        fail(rt, b"probe: standard input", &error, kept);
-    } else if got.count == left {
-        last(rt, left, kept, out);
-    }
-}
-
-// What isn't answered goes to the text's front. Where no line ends in the whole of the text, it is dropped.
-fn moved(text: &mut [u8], held: usize, from: usize, kept: &mut [u64]) -> usize {
-    if from == 0 && held == text.len() {
-        kept::set(kept, kept::CUT, 1);
-        return 0;
-    }
-    let end = part::within(text, held);
-    part::shift(&mut text[0..end], from);
-    if from < held { held - from } else { 0 }
 }
 
 // Reads once after the bytes that are held, and counts those that are held then.
-fn read(rt: &HostRuntime, text: &mut [u8], held: usize) -> Bytes {
+fn read(rt: &HostRuntime, text: &mut [u8], held: usize) -> io::Result<usize> {
     let from = part::within(text, held);
-    let got = console::read(&mut rt.stdin(), &mut text[from..]);
-    Bytes {
-        error: got.error,
-        count: from + got.count,
-    }
-}
-
-// What stands after the last newline is no line.
-fn last(rt: &HostRuntime, left: usize, kept: &mut [u64], out: &mut [u8]) {
-    kept::set(kept, kept::OVER, 1);
-    if kept::get(kept, kept::CUT) != 0 || 0 < left {
-        let to = command::ended(out, 0, command::UNREAD);
-        write(rt, out, to, kept);
-    }
-}
-
-// Writes the output where it could have no room for another answer, and answers where it stands then.
-fn flushed(rt: &HostRuntime, out: &[u8], at: usize, kept: &mut [u64]) -> usize {
-    if at < FULL {
-        return at;
-    }
-    write(rt, out, at, kept);
-    0
-}
-
-fn write(rt: &HostRuntime, out: &[u8], at: usize, kept: &mut [u64]) {
-    if let Err(error) = console::write_all(&mut rt.stdout(), out, at) {
-        fail(rt, b"probe: standard output", &error, kept);
-    }
-}
-
-// The system failed, which is said, and the run is over.
-fn fail(rt: &HostRuntime, what: &[u8], error: &io::Error, kept: &mut [u64]) {
-    kept::set(kept, kept::STATUS, console::failed(rt, what, error));
-    kept::set(kept, kept::OVER, 1);
+    let count = console::read(&mut rt.stdin(), &mut text[from..])?;
+    Ok(from + count)
 }

@@ -5,19 +5,17 @@ ghost use Rattle.std.specs.Prelude.{◌≡◌};
 ghost use Rattle.reading.specs.Line.{reading_of};
 ghost use Rattle.read_a.specs.Table.{a_forms};
 
-use operand::{
-    GPRegister, Operand, Position, PredicateRegister, Reading, four_op, no_op, three_op,
-};
-use reading::{Difference, four_op_imm3, three_op_imm2};
+use operand::{GPRegister, Operand, PredicateRegister, Reading, four_op, no_op, three_op};
+use reading::{Difference, field, field_u8};
 
 fn read_a1_a9(word: u64) -> Reading
     ensures { result ≡ reading_of a_forms 1 word 0 }
 {
-    let r1 = ((word >> 6) % 128) as u8;
-    let r2 = ((word >> 13) % 128) as u8;
-    let r3 = ((word >> 20) % 128) as u8;
+    let r1 = field_u8(word, 6..13);
+    let r2 = field_u8(word, 13..20);
+    let r3 = field_u8(word, 20..27);
     three_op(
-        Position::At(0),
+        Some(0),
         Operand::GPRegister(GPRegister(r1)),
         Operand::GPRegister(GPRegister(r2)),
         Operand::GPRegister(GPRegister(r3)),
@@ -27,12 +25,12 @@ fn read_a1_a9(word: u64) -> Reading
 fn read_a2(word: u64) -> Reading
     ensures { result ≡ reading_of a_forms 2 word 0 }
 {
-    let r1 = ((word >> 6) % 128) as u8;
-    let r2 = ((word >> 13) % 128) as u8;
-    let r3 = ((word >> 20) % 128) as u8;
-    let ct = (word >> 27) % 4 + 1;
+    let r1 = field_u8(word, 6..13);
+    let r2 = field_u8(word, 13..20);
+    let r3 = field_u8(word, 20..27);
+    let ct = field(word, 27..29) + 1;
     four_op(
-        Position::At(0),
+        Some(0),
         Operand::GPRegister(GPRegister(r1)),
         Operand::GPRegister(GPRegister(r2)),
         Operand::ImmU64(ct),
@@ -43,15 +41,15 @@ fn read_a2(word: u64) -> Reading
 fn read_a3(word: u64) -> Reading
     ensures { result ≡ reading_of a_forms 3 word 0 }
 {
-    let r1 = ((word >> 6) % 128) as u8;
-    let r3 = ((word >> 20) % 128) as u8;
-    let immb = (word >> 13) % 128;
-    let s = (word >> 36) % 2;
+    let r1 = field_u8(word, 6..13);
+    let r3 = field_u8(word, 20..27);
+    let immb = field(word, 13..20);
+    let s = field(word, 36..37);
     let imm = Difference(immb, (1 << 7) * s);
-    three_op_imm2(
-        Position::At(0),
+    three_op(
+        Some(0),
         Operand::GPRegister(GPRegister(r1)),
-        imm,
+        imm.operand(),
         Operand::GPRegister(GPRegister(r3)),
     )
 }
@@ -59,16 +57,16 @@ fn read_a3(word: u64) -> Reading
 fn read_a4(word: u64) -> Reading
     ensures { result ≡ reading_of a_forms 4 word 0 }
 {
-    let r1 = ((word >> 6) % 128) as u8;
-    let r3 = ((word >> 20) % 128) as u8;
-    let immb = (word >> 13) % 128;
-    let immd = (word >> 27) % 64;
-    let s = (word >> 36) % 2;
+    let r1 = field_u8(word, 6..13);
+    let r3 = field_u8(word, 20..27);
+    let immb = field(word, 13..20);
+    let immd = field(word, 27..33);
+    let s = field(word, 36..37);
     let imm = Difference(immb + (1 << 7) * immd, (1 << 13) * s);
-    three_op_imm2(
-        Position::At(0),
+    three_op(
+        Some(0),
         Operand::GPRegister(GPRegister(r1)),
-        imm,
+        imm.operand(),
         Operand::GPRegister(GPRegister(r3)),
     )
 }
@@ -76,17 +74,17 @@ fn read_a4(word: u64) -> Reading
 fn read_a5(word: u64) -> Reading
     ensures { result ≡ reading_of a_forms 5 word 0 }
 {
-    let r1 = ((word >> 6) % 128) as u8;
-    let r3 = ((word >> 20) % 4) as u8;
-    let immb = (word >> 13) % 128;
-    let immc = (word >> 22) % 32;
-    let immd = (word >> 27) % 512;
-    let s = (word >> 36) % 2;
+    let r1 = field_u8(word, 6..13);
+    let r3 = field_u8(word, 20..22);
+    let immb = field(word, 13..20);
+    let immc = field(word, 22..27);
+    let immd = field(word, 27..36);
+    let s = field(word, 36..37);
     let imm = Difference(immb + (1 << 7) * (immd + (1 << 9) * immc), (1 << 21) * s);
-    three_op_imm2(
-        Position::At(0),
+    three_op(
+        Some(0),
         Operand::GPRegister(GPRegister(r1)),
-        imm,
+        imm.operand(),
         Operand::GPRegister(GPRegister(r3)),
     )
 }
@@ -94,12 +92,12 @@ fn read_a5(word: u64) -> Reading
 fn read_a6(word: u64) -> Reading
     ensures { result ≡ reading_of a_forms 6 word 0 }
 {
-    let p1 = ((word >> 6) % 64) as u8;
-    let r2 = ((word >> 13) % 128) as u8;
-    let r3 = ((word >> 20) % 128) as u8;
-    let p2 = ((word >> 27) % 64) as u8;
+    let p1 = field_u8(word, 6..12);
+    let r2 = field_u8(word, 13..20);
+    let r3 = field_u8(word, 20..27);
+    let p2 = field_u8(word, 27..33);
     four_op(
-        Position::At(1),
+        Some(1),
         Operand::PredicateRegister(PredicateRegister(p1)),
         Operand::PredicateRegister(PredicateRegister(p2)),
         Operand::GPRegister(GPRegister(r2)),
@@ -110,11 +108,11 @@ fn read_a6(word: u64) -> Reading
 fn read_a7(word: u64) -> Reading
     ensures { result ≡ reading_of a_forms 7 word 0 }
 {
-    let p1 = ((word >> 6) % 64) as u8;
-    let r3 = ((word >> 20) % 128) as u8;
-    let p2 = ((word >> 27) % 64) as u8;
+    let p1 = field_u8(word, 6..12);
+    let r3 = field_u8(word, 20..27);
+    let p2 = field_u8(word, 27..33);
     four_op(
-        Position::At(1),
+        Some(1),
         Operand::PredicateRegister(PredicateRegister(p1)),
         Operand::PredicateRegister(PredicateRegister(p2)),
         Operand::GPRegister(GPRegister(0)),
@@ -125,17 +123,17 @@ fn read_a7(word: u64) -> Reading
 fn read_a8(word: u64) -> Reading
     ensures { result ≡ reading_of a_forms 8 word 0 }
 {
-    let p1 = ((word >> 6) % 64) as u8;
-    let imm7b = (word >> 13) % 128;
-    let s = (word >> 36) % 2;
+    let p1 = field_u8(word, 6..12);
+    let imm7b = field(word, 13..20);
+    let s = field(word, 36..37);
     let imm = Difference(imm7b, (1 << 7) * s);
-    let r3 = ((word >> 20) % 128) as u8;
-    let p2 = ((word >> 27) % 64) as u8;
-    four_op_imm3(
-        Position::At(1),
+    let r3 = field_u8(word, 20..27);
+    let p2 = field_u8(word, 27..33);
+    four_op(
+        Some(1),
         Operand::PredicateRegister(PredicateRegister(p1)),
         Operand::PredicateRegister(PredicateRegister(p2)),
-        imm,
+        imm.operand(),
         Operand::GPRegister(GPRegister(r3)),
     )
 }
@@ -143,12 +141,12 @@ fn read_a8(word: u64) -> Reading
 fn read_a10(word: u64) -> Reading
     ensures { result ≡ reading_of a_forms 10 word 0 }
 {
-    let r1 = ((word >> 6) % 128) as u8;
-    let r2 = ((word >> 13) % 128) as u8;
-    let r3 = ((word >> 20) % 128) as u8;
-    let ct = (word >> 27) % 4 + 1;
+    let r1 = field_u8(word, 6..13);
+    let r2 = field_u8(word, 13..20);
+    let r3 = field_u8(word, 20..27);
+    let ct = field(word, 27..29) + 1;
     four_op(
-        Position::At(0),
+        Some(0),
         Operand::GPRegister(GPRegister(r1)),
         Operand::GPRegister(GPRegister(r2)),
         Operand::GPRegister(GPRegister(r3)),
@@ -160,8 +158,7 @@ pub fn read_a_operands(number: u64, word: u64) -> Reading
     ensures { result ≡ reading_of a_forms number word 0 }
 {
     match number {
-        1 => read_a1_a9(word),
-        9 => read_a1_a9(word),
+        1 | 9 => read_a1_a9(word),
         2 => read_a2(word),
         3 => read_a3(word),
         4 => read_a4(word),

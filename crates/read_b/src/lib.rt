@@ -5,21 +5,21 @@ ghost use Rattle.std.specs.Prelude.{◌≡◌};
 ghost use Rattle.reading.specs.Line.{reading_of};
 ghost use Rattle.read_b.specs.Table.{b_forms};
 
-use operand::{BranchRegister, Operand, Position, Reading, five_op, four_op, no_op, one_op};
-use reading::{Difference, five_op_imm2, four_op_imm1};
+use operand::{BranchRegister, Operand, Reading, five_op, four_op, no_op, one_op};
+use reading::{Difference, field, field_u8};
 
 fn read_b1_b2(word: u64) -> Reading
     ensures { result ≡ reading_of b_forms 1 word 0 }
 {
-    let imm20b = (word >> 13) % (1 << 20);
-    let s = (word >> 36) % 2;
+    let imm20b = field(word, 13..33);
+    let s = field(word, 36..37);
     let imm = Difference((1 << 4) * imm20b, (1 << 24) * s);
-    let wh = (word >> 33) % 4;
-    let d = (word >> 35) % 2;
-    let p = (word >> 12) % 2;
-    four_op_imm1(
-        Position::None,
-        imm,
+    let wh = field(word, 33..35);
+    let d = field(word, 35..36);
+    let p = field(word, 12..13);
+    four_op(
+        None,
+        imm.operand(),
         Operand::ImmU64(p),
         Operand::ImmU64(wh),
         Operand::ImmU64(d),
@@ -29,17 +29,17 @@ fn read_b1_b2(word: u64) -> Reading
 fn read_b3(word: u64) -> Reading
     ensures { result ≡ reading_of b_forms 3 word 0 }
 {
-    let imm20b = (word >> 13) % (1 << 20);
-    let s = (word >> 36) % 2;
+    let imm20b = field(word, 13..33);
+    let s = field(word, 36..37);
     let imm = Difference((1 << 4) * imm20b, (1 << 24) * s);
-    let wh = (word >> 33) % 4;
-    let d = (word >> 35) % 2;
-    let p = (word >> 12) % 2;
-    let b1 = ((word >> 6) % 8) as u8;
-    five_op_imm2(
-        Position::None,
+    let wh = field(word, 33..35);
+    let d = field(word, 35..36);
+    let p = field(word, 12..13);
+    let b1 = field_u8(word, 6..9);
+    five_op(
+        None,
         Operand::BranchRegister(BranchRegister(b1)),
-        imm,
+        imm.operand(),
         Operand::ImmU64(p),
         Operand::ImmU64(wh),
         Operand::ImmU64(d),
@@ -49,12 +49,12 @@ fn read_b3(word: u64) -> Reading
 fn read_b4(word: u64) -> Reading
     ensures { result ≡ reading_of b_forms 4 word 0 }
 {
-    let b2 = ((word >> 13) % 8) as u8;
-    let wh = (word >> 33) % 4;
-    let d = (word >> 35) % 2;
-    let p = (word >> 12) % 2;
+    let b2 = field_u8(word, 13..16);
+    let wh = field(word, 33..35);
+    let d = field(word, 35..36);
+    let p = field(word, 12..13);
     four_op(
-        Position::None,
+        None,
         Operand::BranchRegister(BranchRegister(b2)),
         Operand::ImmU64(p),
         Operand::ImmU64(wh),
@@ -65,13 +65,13 @@ fn read_b4(word: u64) -> Reading
 fn read_b5(word: u64) -> Reading
     ensures { result ≡ reading_of b_forms 5 word 0 }
 {
-    let b2 = ((word >> 13) % 8) as u8;
-    let wh = (word >> 33) % 4;
-    let d = (word >> 35) % 2;
-    let p = (word >> 12) % 2;
-    let b1 = ((word >> 6) % 8) as u8;
+    let b2 = field_u8(word, 13..16);
+    let wh = field(word, 33..35);
+    let d = field(word, 35..36);
+    let p = field(word, 12..13);
+    let b1 = field_u8(word, 6..9);
     five_op(
-        Position::None,
+        None,
         Operand::BranchRegister(BranchRegister(b1)),
         Operand::BranchRegister(BranchRegister(b2)),
         Operand::ImmU64(p),
@@ -83,17 +83,17 @@ fn read_b5(word: u64) -> Reading
 fn read_b6(word: u64) -> Reading
     ensures { result ≡ reading_of b_forms 6 word 0 }
 {
-    let timm7a = (word >> 6) % 128;
-    let imm20b = (word >> 13) % (1 << 20);
-    let wh = (word >> 3) % 4;
-    let t2e = (word >> 33) % 4;
+    let timm7a = field(word, 6..13);
+    let imm20b = field(word, 13..33);
+    let wh = field(word, 3..5);
+    let t2e = field(word, 33..35);
     let tag = timm7a + (1 << 7) * t2e;
-    let ih = (word >> 33) % 4;
-    let s = (word >> 36) % 2;
+    let ih = field(word, 33..35);
+    let s = field(word, 36..37);
     let imm = Difference(imm20b + (1 << 20) * s, 0);
-    four_op_imm1(
-        Position::None,
-        imm,
+    four_op(
+        None,
+        imm.operand(),
         Operand::ImmU64(tag),
         Operand::ImmU64(ih),
         Operand::ImmU64(wh),
@@ -103,14 +103,14 @@ fn read_b6(word: u64) -> Reading
 fn read_b7(word: u64) -> Reading
     ensures { result ≡ reading_of b_forms 7 word 0 }
 {
-    let timm7a = (word >> 6) % 128;
-    let b2 = ((word >> 13) % 8) as u8;
-    let wh = (word >> 3) % 4;
-    let t2e = (word >> 33) % 4;
+    let timm7a = field(word, 6..13);
+    let b2 = field_u8(word, 13..16);
+    let wh = field(word, 3..5);
+    let t2e = field(word, 33..35);
     let tag = timm7a + (1 << 7) * t2e;
-    let ih = (word >> 35) % 2;
+    let ih = field(word, 35..36);
     four_op(
-        Position::None,
+        None,
         Operand::BranchRegister(BranchRegister(b2)),
         Operand::ImmU64(tag),
         Operand::ImmU64(ih),
@@ -121,8 +121,8 @@ fn read_b7(word: u64) -> Reading
 fn read_b9(word: u64) -> Reading
     ensures { result ≡ reading_of b_forms 9 word 0 }
 {
-    let imm20b = (word >> 6) % (1 << 20);
-    let imm = imm20b + (1 << 20) * ((word >> 20) % 2);
+    let imm20b = field(word, 6..26);
+    let imm = imm20b + (1 << 20) * field(word, 20..21);
     one_op(false, Operand::ImmU64(imm))
 }
 
@@ -130,8 +130,7 @@ pub fn read_b_operands(number: u64, word: u64) -> Reading
     ensures { result ≡ reading_of b_forms number word 0 }
 {
     match number {
-        1 => read_b1_b2(word),
-        2 => read_b1_b2(word),
+        1 | 2 => read_b1_b2(word),
         3 => read_b3(word),
         4 => read_b4(word),
         5 => read_b5(word),

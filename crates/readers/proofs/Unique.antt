@@ -4,8 +4,7 @@ use mathlib.Core.Path.{◌≡◌}
 use Prim.Native.Nat.{ℕ}
 use Rattle.answer.proofs.Laws.{one-outcome}
 use Rattle.form.specs.declared.Form.{Form}
-use Rattle.readers.specs.declared.outcome.Operands.{Operands}
-use Rattle.readers.specs.Call.{operands_of}
+use Rattle.readers.specs.Call.{Operands, operands_of}
 
 pub operands-unique : (form : Form) (word l : ℕ) {r s : Operands} → r ≡ operands_of form word l → s ≡ operands_of form word l → r ≡ s
 operands-unique form word l = one-outcome

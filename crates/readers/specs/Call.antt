@@ -1,12 +1,14 @@
 -- The call `operands`: what is refused, and what is read. Assumes nothing.
 use Rattle.std.specs.Prelude.{ℕ, ◌^◌, Bool, cond, not, ◌||◌, List, [], ◌∷◌, eqb, leb}
+use Rattle.std.specs.declared.result.Result.{Result}
+use Rattle.std.specs.declared.result.Result.TheVariants.{Ok, Err}
 use Rattle.table.specs.Table.{select}
-use Rattle.answer.specs.Answer.{accepted, bad_form, bad_word, first, outcome}
+use Rattle.answer.specs.Answer.{accepted, bad_form, bad_word, first, outcome, number_of}
+use Rattle.answer.specs.declared.Refusal.{Refusal}
 use Rattle.operand.specs.Reading.{unread}
 use Rattle.operand.specs.declared.Reading.{Reading}
 use Rattle.form.specs.Form.{A, B, F, I, M, X, is_form}
 use Rattle.form.specs.declared.Form.{Form}
-use Rattle.readers.specs.declared.outcome.Operands.{Operands}
 use Rattle.reading.specs.Line.{Forms, reading_of, ◌⇒◌}
 use Rattle.read_a.specs.Table.{a_forms}
 use Rattle.read_b.specs.Table.{b_forms}
@@ -34,6 +36,11 @@ is_bad form word l = leb (2 ^ 41) word || leb (2 ^ 41) (l_of form l)
 abbrev pub read_of : Form → ℕ → ℕ → Reading
 read_of form word l = reading_of (table_of form.family) form.number word (l_of form l)
 
+-- what `operands` comes to: an answer, and a reading
+pub record Operands : Type 0 where
+  pub answer : ℕ
+  pub reading : Reading
+
 -- a refusal: its number, no position, five `None`
 abbrev pub refused_of : ℕ → Operands
 refused_of answer = record { answer = answer; reading = unread }
@@ -41,6 +48,11 @@ refused_of answer = record { answer = answer; reading = unread }
 -- an accepted call: the reading
 abbrev pub accepted_of : Reading → Operands
 accepted_of reading = record { answer = accepted; reading = reading }
+
+-- what `operands` hands back, as that
+abbrev pub as_operands : Result Reading Refusal → Operands
+as_operands (Ok reading) = accepted_of reading
+as_operands (Err refusal) = refused_of (number_of refusal)
 
 -- what is said no to, in this order
 abbrev pub operands_answer : Form → ℕ → ℕ → ℕ

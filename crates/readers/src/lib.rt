@@ -1,39 +1,25 @@
 // The call `operands`, over 000's readers of each family.
 #![tactic(auto)]
 
-mod outcome;
-
 ghost use Rattle.std.specs.Prelude.{◌≡◌};
-ghost use Rattle.readers.specs.Call.{is_bad, read_of, refused_of, operands_of};
+ghost use Rattle.readers.specs.Call.{is_bad, read_of, as_operands, operands_of};
 
-use answer::{ACCEPTED, BAD_FORM, BAD_WORD};
+use answer::Refusal;
 use form::{A, B, F, Form, I, M, X};
 use operand::Reading;
-pub use outcome::Operands;
 
 // The operands of a form in a word and, for X forms, the L word.
 #[tactic(auto, unfolding(crate::specs::Call::operands_of))]
-pub fn operands(form: Form, word: u64, l: u64) -> Operands
-    ensures { result ≡ operands_of form word l }
+pub fn operands(form: Form, word: u64, l: u64) -> Result<Reading, Refusal>
+    ensures { as_operands result ≡ operands_of form word l }
 {
     if !form::is_form(form) {
-        return refused(BAD_FORM);
+        return Err(Refusal::BadForm);
     }
     if is_bad(form, word, l) {
-        return refused(BAD_WORD);
+        return Err(Refusal::BadWord);
     }
-    let reading = read(form, word, l);
-    Operands {
-        answer: ACCEPTED,
-        reading,
-    }
-}
-
-fn refused(answer: u8) -> Operands
-    ensures { result ≡ refused_of answer }
-{
-    let reading = operand::no_op();
-    Operands { answer, reading }
+    Ok(read(form, word, l))
 }
 
 const WORD: u64 = 1 << 41;

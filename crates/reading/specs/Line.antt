@@ -1,10 +1,9 @@
 -- The words of the readers' tables: a line has a form's number, the last-written position, and for each operand what it is and from
 -- which bits. Assumes nothing.
-use Rattle.std.specs.Prelude.{ℕ, zero, suc, ◌+◌, ◌-◌, ◌*◌, ◌^◌, List, [], ◌∷◌, ℤ, pos, negsuc, ◌+ℤ◌}
-use Rattle.std.proofs.Math.Option.{none, some}
+use Rattle.std.specs.Prelude.{ℕ, zero, suc, ◌+◌, ◌-◌, ◌*◌, ◌^◌, List, [], ◌∷◌, Some, None, ℤ, pos, negsuc, ◌+ℤ◌}
 use Rattle.table.specs.Table.{select}
 use Rattle.bits.specs.Part.{part, above, bit}
-use Rattle.operand.specs.Reading.{listed, position_of, unread}
+use Rattle.operand.specs.Reading.{listed, unread}
 use Rattle.operand.specs.declared.Operand.{Operand}
 use Rattle.operand.specs.declared.Operand.TheVariants as op
 use Rattle.operand.specs.declared.IndirectionReg.{IndirectionReg}
@@ -130,10 +129,10 @@ operands_read (f ∷ fs) word l = f word l ∷ operands_read fs word l
 
 -- those operands, of which the last that is written stands at a position; or none is written
 abbrev pub dest : ℕ → List (Of Operand) → Of Reading
-dest n fs word l = listed (position_of (some n)) (operands_read fs word l)
+dest n fs word l = listed (Some n) (operands_read fs word l)
 
 abbrev pub no-dest : List (Of Operand) → Of Reading
-no-dest fs word l = listed (position_of none) (operands_read fs word l)
+no-dest fs word l = listed None (operands_read fs word l)
 
 -- a family's table: its lines
 abbrev pub Forms : Type 0

@@ -18,8 +18,7 @@ use Rattle.meaning.specs.Meaning.{operand_for}
 use Rattle.meaning.proofs.Patterns.{operand-of-pattern}
 use Rattle.row.specs.Row.{row_of}
 use Rattle.row.proofs.Lettered.{row-lettered}
-use Rattle.immediate.specs.Immediate.{change_refusals, changed_number, changed_of}
-use Rattle.immediate.specs.declared.outcome.Changed.{Changed}
+use Rattle.immediate.specs.Immediate.{change_refusals, changed_number, Changed, changed_of}
 use Rattle.immediate.proofs.Laws.{Stands, stands, changed-answer, changed-taken, change-read, change-sound, change-raw}
 use Rattle.record.specs.Record.{highest, edit_record, whole_record, is_whole, same_halves, no_record, no_halves, is_free, recorded_edit, gives, passes, may_stand}
 use Rattle.record.specs.declared.Record.{Record}

@@ -6,8 +6,7 @@ use Rattle.bundle.specs.declared.half.Halves.{Halves}
 use Rattle.form.specs.Form.{no_form, same_form}
 use Rattle.form.specs.declared.Edit.{Edit}
 use Rattle.operand.specs.Pattern.{pattern_in}
-use Rattle.immediate.specs.Immediate.{changed_number, changed_of, edit_by_pattern}
-use Rattle.immediate.specs.declared.outcome.Changed.{Changed}
+use Rattle.immediate.specs.Immediate.{changed_number, Changed, changed_of, edit_by_pattern}
 use Rattle.record.specs.declared.Record.{Record}
 
 -- the highest number of a bundle

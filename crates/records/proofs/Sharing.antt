@@ -16,12 +16,10 @@ use mir.Facts.{and_yes, or_yes}
 use denote.Floats.{is_true}
 use Rattle.record.specs.Record.{no_record, fits64}
 use Rattle.record.specs.declared.Record.{Record}
-use Rattle.records.specs.Journal.{Journal, limit, lent, all, standing, journal_of, valid_of, view_if, view_of, record_at}
+use Rattle.records.specs.Journal.{Journal, Shown, limit, lent, all, standing, journal_of, valid_of, view_if, view_of, record_at}
 use Rattle.records.specs.Shared.{Shared, seam, sharing, first_of, places_of, count_of, own_of, with_own, is_opened, fresh, shared_valid, serves, served_of, SharedFits64, OpenedIsFresh, FreshServes, SharingInjective}
-use Rattle.records.specs.inner.Shows.{with_count, own_view, Shows, ShowsPart}
+use Rattle.records.specs.inner.Shows.{with_count, OwnView, own_view, Shows, ShowsPart}
 use Rattle.records.specs.declared.Counts.{Counts}
-use Rattle.records.specs.declared.Own.{Own}
-use Rattle.records.specs.declared.View.{View}
 use Rattle.records.proofs.Standing.{journal-valid, valid-places, view-shown, view-shows, view-counts}
 
 pub both : (a b : Bool) → (a && b) ≡ true → (a ≡ true) × (b ≡ true)
@@ -99,7 +97,7 @@ module _ (s : Shared) (party : ℕ) where
   -- and where it shows a valid one it serves it
   pub shown-serves : (places : ℕ) → (view_of party places (served_of s party)).valid ≡ true → serves s party ≡ true
   shown-serves places v =
-      (elim (serves s party) as (λ t. serves s party ≡ t → t ≡ true) [ true ↦ λ e. refl | false ↦ λ e. sym (ap (λ (w : View). w.valid) (not-shown places e)) ∙ v ]) refl
+      (elim (serves s party) as (λ t. serves s party ≡ t → t ≡ true) [ true ↦ λ e. refl | false ↦ λ e. sym (ap (λ (w : Shown). w.valid) (not-shown places e)) ∙ v ]) refl
 
 -- the slice that a valid journal is in
 module _ (c : Counts) (rs : List Record) where
@@ -170,7 +168,7 @@ module _ (c : Counts) (rs : List Record) where
     own_held h = by-party (sharing c rs) party v (λ q. T (all fits64 (standing (own_of (sharing c rs) q)))) h.lower (λ _. h.upper)
 
 -- a party's part as it is shown to a call, where the journal serves the party
-module _ (c : Counts) (rs : List Record) (party : ℕ) (o : Own) (is : o ≡ own_view (sharing c rs) party) (served : serves (sharing c rs) party ≡ true) where
+module _ (c : Counts) (rs : List Record) (party : ℕ) (o : OwnView) (is : o ≡ own_view (sharing c rs) party) (served : serves (sharing c rs) party ≡ true) where
   abbrev s : Shared
   s = sharing c rs
 
@@ -178,13 +176,13 @@ module _ (c : Counts) (rs : List Record) (party : ℕ) (o : Own) (is : o ≡ own
   it-serves = serving s party served
 
   part-first : o.first ≡ first_of c.parties party
-  part-first = ap (λ (o : Own). o.first) is
+  part-first = ap (λ (o : OwnView). o.first) is
 
   part-places : o.first + o.places - o.first ≡ places_of c.parties party
-  part-places = omega (arith, ap (λ (o : Own). o.places) is)
+  part-places = omega (arith, ap (λ (o : OwnView). o.places) is)
 
   pub part-within : o.first + o.places ≤ length rs
-  part-within = omega (arith, part-first, ap (λ (o : Own). o.places) is, own-within c rs party it-serves, served-sized c rs party it-serves)
+  part-within = omega (arith, part-first, ap (λ (o : OwnView). o.places) is, own-within c rs party it-serves, served-sized c rs party it-serves)
 
   pub part-short : o.first + o.places ≤ limit
   part-short = omega (arith, part-within, served-sized c rs party it-serves)
@@ -202,7 +200,7 @@ module _ (c : Counts) (rs : List Record) (party : ℕ) (o : Own) (is : o ≡ own
 
   part-counts : o.view.count ≡ (served_of s party).count
   part-counts =
-      ap (λ (o : Own). o.view.count) is ∙ view-counts party (places_of c.parties party) (served_of s party) served-valid
+      ap (λ (o : OwnView). o.view.count) is ∙ view-counts party (places_of c.parties party) (served_of s party) served-valid
 
   pub part-journal : lent o.view.count (mid_of o.first (o.first + o.places - o.first) rs) ≡ served_of s party
   part-journal = λ i. record { count = part-counts i; records = part-lent i }
@@ -213,11 +211,11 @@ module _ (c : Counts) (rs : List Record) (party : ℕ) (o : Own) (is : o ≡ own
   part-put n ys long = (λ i. sharing (with_count c party n) (put_mid (part-first i) (part-places i) rs ys)) ∙ own_put c rs party it-serves n ys long
 
 -- what a call is shown of its part, said once for all calls
-pub shows_part : (c : Counts) (rs : List Record) (party : ℕ) (o : Own) → o ≡ own_view (sharing c rs) party → ShowsPart c rs party o
+pub shows_part : (c : Counts) (rs : List Record) (party : ℕ) (o : OwnView) → o ≡ own_view (sharing c rs) party → ShowsPart c rs party o
 shows_part c rs party o is =
     let s = sharing c rs in
     let n = places_of c.parties party in
-    let valid = ap (λ (o : Own). o.view.valid) is in
+    let valid = ap (λ (o : OwnView). o.view.valid) is in
     record {
       is = is;
       valid-is = valid ∙ view-shows party n (served_of s party);
@@ -233,7 +231,7 @@ shows_part c rs party o is =
     }
 
 -- and that its numbers are below 2^64
-pub shows : (c : Counts) (rs : List Record) (party : ℕ) (o : Own) → o ≡ own_view (sharing c rs) party → (serves (sharing c rs) party ≡ true → SharedFits64 (sharing c rs)) → Shows c rs party o
+pub shows : (c : Counts) (rs : List Record) (party : ℕ) (o : OwnView) → o ≡ own_view (sharing c rs) party → (serves (sharing c rs) party ≡ true → SharedFits64 (sharing c rs)) → Shows c rs party o
 shows c rs party o is held =
     let of_part = shows_part c rs party o is in
     record {
@@ -251,7 +249,7 @@ shows c rs party o is held =
           };
     }
 
-pub part-shown : (c : Counts) (rs : List Record) (party : ℕ) (o : Own) → Shows c rs party o → ShowsPart c rs party o
+pub part-shown : (c : Counts) (rs : List Record) (party : ℕ) (o : OwnView) → Shows c rs party o → ShowsPart c rs party o
 part-shown c rs party o s = shows_part c rs party o s.is
 
 -- free places

@@ -15,8 +15,7 @@ use mir.Facts.{and_yes}
 use Rattle.record.specs.Record.{no_record, is_free, may_stand}
 use Rattle.record.specs.declared.Record.{Record}
 use Rattle.record.proofs.Laws.{free-is-none}
-use Rattle.records.specs.Journal.{Journal, all, standing, journal_of, valid_of, view_if, view_of, record_at, with_record, JournalStands, JournalValid, ValidIsJournal, JournalReads, JournalPushes, JournalPops}
-use Rattle.records.specs.declared.View.{View}
+use Rattle.records.specs.Journal.{Journal, Shown, all, standing, journal_of, valid_of, view_if, view_of, record_at, with_record, JournalStands, JournalValid, ValidIsJournal, JournalReads, JournalPushes, JournalPops}
 
 -- the free ones of so many places after n records
 abbrev free : ℕ → ℕ → List Record
@@ -225,7 +224,7 @@ view-shown party places j =
 
 -- a valid one shows its count
 pub view-counts : (party places : ℕ) (j : Journal) → valid_of party places j ≡ true → (view_of party places j).count ≡ j.count
-view-counts party places j v = ap (λ (w : View). w.count) (valid-view party places j v)
+view-counts party places j v = ap (λ (w : Shown). w.count) (valid-view party places j v)
 
 -- what a valid journal of some records shows
 pub journal-shows : (party places : ℕ) (rs : List Record) → valid_of party places (journal_of places rs) ≡ true → view_of party places (journal_of places rs) ≡ record { valid = true; count = length rs; last = get_last_d rs no_record }
@@ -249,11 +248,11 @@ module _ (party places : ℕ) (j : Journal) (v : (view_of party places j).valid 
 
   pub view-pushes : (r : Record) → (view_of party places j).count < places → with_record j (view_of party places j).count r ((view_of party places j).count + 1) ≡ journal_of places (standing j ++ (r ∷ []))
   view-pushes r h =
-      let count = ap (λ (w : View). w.count) valid-shown in
+      let count = ap (λ (w : Shown). w.count) valid-shown in
       ap₂ (λ (j : Journal) (n : ℕ). with_record j n r (n + 1)) (sym (valid-is-journal party places j view-valid)) count
       ∙ journal-pushes places (standing j) r (subst (λ (n : ℕ). n < places) count h)
 
   pub view-pops : with_record j ((view_of party places j).count - 1) no_record ((view_of party places j).count - 1) ≡ journal_of places (drop_last (standing j))
   view-pops =
-      ap₂ (λ (j : Journal) (n : ℕ). with_record j (n - 1) no_record (n - 1)) (sym (valid-is-journal party places j view-valid)) (ap (λ (w : View). w.count) valid-shown)
+      ap₂ (λ (j : Journal) (n : ℕ). with_record j (n - 1) no_record (n - 1)) (sym (valid-is-journal party places j view-valid)) (ap (λ (w : Shown). w.count) valid-shown)
       ∙ journal-pops places (standing j) (valid-few party places j view-valid)

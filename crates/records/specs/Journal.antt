@@ -5,7 +5,6 @@ use Rattle.std.specs.Prelude.{ℕ, ◌+◌, ◌-◌, ◌≤◌, ◌<◌, ◌≡�
 use mathlib.Core.List.{List, [], ◌∷◌, ◌++◌, drop_last, get_last_d}
 use Rattle.record.specs.Record.{no_record, is_free, may_stand}
 use Rattle.record.specs.declared.Record.{Record}
-use Rattle.records.specs.declared.View.{View}
 
 -- so many places has the slice that the code works on
 abbrev pub limit : ℕ
@@ -37,11 +36,17 @@ journal_of places rs = record { count = length rs; records = rs ++ replicate (pl
 unfoldable pub valid_of : ℕ → ℕ → Journal → Bool
 valid_of party places j = eqb (length j.records) places && leb j.count places && all (may_stand party) (standing j) && all is_free (drop j.count j.records)
 
--- what is shown of a journal: that it is valid, how many records stand and the last of them; nothing of one that isn't valid
-abbrev pub view_if : Bool → ℕ → Record → View
+-- what is shown of a journal: whether it is valid, how many records stand and the last of them
+pub record Shown : Type 0 where
+  pub valid : Bool
+  pub count : ℕ
+  pub last : Record
+
+-- nothing of one that isn't valid
+abbrev pub view_if : Bool → ℕ → Record → Shown
 view_if valid count last = cond valid (record { valid = true; count = count; last = last }) (record { valid = false; count = 0; last = no_record })
 
-unfoldable pub view_of : ℕ → ℕ → Journal → View
+unfoldable pub view_of : ℕ → ℕ → Journal → Shown
 view_of party places j = view_if (valid_of party places j) (length (standing j)) (get_last_d (standing j) no_record)
 
 -- the record at a place

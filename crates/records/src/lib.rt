@@ -2,11 +2,11 @@
 // In each part the first `count` places stand, the oldest first, and the others are free.
 #![tactic(auto)]
 
-ghost use Rattle.std.specs.Prelude.{◌≡◌, true, false, ◌-◌, ◌<◌, T, eqb, length, get_or, set, replicate};
+ghost use Rattle.std.specs.Prelude.{◌≡◌, true, ◌-◌, T, eqb, length, get_or, set, replicate};
 ghost use Rattle.record.specs.Record.{no_record, is_free, may_stand, fits64};
-ghost use Rattle.records.specs.Journal.{limit, lent, all, standing, valid_of, view_if};
+ghost use Rattle.records.specs.Journal.{limit, lent, all, standing, valid_of};
 ghost use Rattle.records.specs.Shared.{sharing, seam, is_opened, serves, opened_for, SharedFits64};
-ghost use Rattle.records.specs.inner.Shows.{share_of, with_count, own_view, Shows};
+ghost use Rattle.records.specs.inner.Shows.{share_of, with_count, as_own_view, own_view, Shows};
 
 use record::{NONE, Record};
 
@@ -25,20 +25,19 @@ pub struct Counts {
     pub upper: u64,
 }
 
-// What a journal shows: whether it is valid, how many records stand, and the last of them.
+// What a valid journal shows: how many records stand, and the last of them.
 #[derive(Clone, Copy)]
 pub struct View {
-    pub valid: bool,
     pub count: u64,
     pub last: Record,
 }
 
-// A party's part of the slice: its first place, how many places it has, and what the journal there shows.
+// A party's part of the slice: its first place, how many places it has, and what the journal there shows, if it is valid.
 #[derive(Clone, Copy)]
 pub struct Own {
     pub first: u64,
     pub places: u64,
-    pub view: View,
+    pub view: Option<View>,
 }
 
 // A party's first place, how many places it has, and how many of its records stand.
@@ -67,35 +66,11 @@ pub fn opened(parties: u64) -> Counts
     }
 }
 
-fn get_at(records: &[Record], place: usize) -> Record
-    requires { place < length records.now }
-    ensures { result ≡ get_or records.now place no_record }
-{
-    records[place]
-}
-
-fn put_at(records: &mut [Record], place: usize, one: Record)
-    requires { place < length records.old }
-    ensures { records.new ≡ set records.old place one }
-{
-    records[place] = one;
-}
-
 // The record at a place; past the last place nothing is recorded.
 pub fn get(records: &[Record], place: u64) -> Record
     ensures { result ≡ get_or records.now place no_record }
 {
-    let at = place as usize;
-    if at < records.len() {
-        return get_at(records, at);
-    }
-    nothing()
-}
-
-fn nothing() -> Record
-    ensures { result ≡ no_record }
-{
-    NONE
+    records.get(place as usize).copied().unwrap_or(NONE)
 }
 
 // Sets the record at a place; past the last place nothing is set.
@@ -104,7 +79,7 @@ pub fn put(records: &mut [Record], place: u64, one: Record)
 {
     let at = place as usize;
     if at < records.len() {
-        put_at(records, at, one);
+        records[at] = one;
     }
 }
 
@@ -119,11 +94,8 @@ fn all_stand(party: u64, records: &[Record]) -> bool
     ensures { (result ≡ all (may_stand party) records.now) × T (all fits64 records.now) }
 {
     let mut stand = true;
-    let mut place = 0;
-    while place < records.len() {
-        let one = get_at(records, place);
-        stand = stand & stands(party, one);
-        place += 1;
+    for one in records {
+        stand &= stands(party, *one);
     }
     stand
 }
@@ -133,11 +105,8 @@ fn all_free(records: &[Record]) -> bool
     ensures { result ≡ all is_free records.now }
 {
     let mut free = true;
-    let mut place = 0;
-    while place < records.len() {
-        let one = get_at(records, place);
-        free = free & record::is_free(one);
-        place += 1;
+    for one in records {
+        free &= record::is_free(*one);
     }
     free
 }
@@ -146,13 +115,10 @@ fn all_free(records: &[Record]) -> bool
 fn is_valid(party: u64, count: u64, records: &[Record]) -> bool
     ensures { (result ≡ valid_of party (length records.now) (lent count records.now)) × (result ≡ true → T (all fits64 (standing (lent count records.now)))) }
 {
-    if records.len() < count as usize {
+    let Some((standing, others)) = records.split_at_checked(count as usize) else {
         return false;
-    }
-    let seam = count as usize;
-    let stand = all_stand(party, &records[0..seam]);
-    let free = all_free(&records[seam..]);
-    stand & free
+    };
+    all_stand(party, standing) & all_free(others)
 }
 
 // Where party 1's places begin.
@@ -169,10 +135,11 @@ fn is_served(counts: Counts, records: &[Record], party: u64) -> bool
     if !is_sized(records.len()) {
         return false;
     }
-    let seam = seam_of(counts.parties) as usize;
-    let lower = is_valid(0, counts.lower, &records[0..seam]);
-    let upper = is_valid(1, counts.upper, &records[seam..]);
-    is_opened(counts.parties) & lower & upper & (party < counts.parties)
+    let (lower, upper) = records.split_at(seam_of(counts.parties) as usize);
+    let valid = is_opened(counts.parties)
+        & is_valid(0, counts.lower, lower)
+        & is_valid(1, counts.upper, upper);
+    valid & (party < counts.parties)
 }
 
 fn is_sized(places: usize) -> bool
@@ -184,7 +151,7 @@ fn is_sized(places: usize) -> bool
 fn is_opened(parties: u64) -> bool
     ensures { result ≡ is_opened parties }
 {
-    (parties == 1) | (parties == 2)
+    matches!(parties, 1 | 2)
 }
 
 // Where a party's places are, and how many of its records stand there.
@@ -213,15 +180,13 @@ pub fn with_count(counts: Counts, party: u64, count: u64) -> Counts
 {
     if party == 0 {
         Counts {
-            parties: counts.parties,
             lower: count,
-            upper: counts.upper,
+            ..counts
         }
     } else {
         Counts {
-            parties: counts.parties,
-            lower: counts.lower,
             upper: count,
+            ..counts
         }
     }
 }
@@ -230,30 +195,19 @@ pub fn with_count(counts: Counts, party: u64, count: u64) -> Counts
 pub fn place_before(count: u64) -> u64
     ensures { result ≡ count - 1 }
 {
-    if count == 0 { 0 } else { count - 1 }
-}
-
-// What a journal that isn't valid shows.
-fn nothing_shown() -> View
-    ensures { result ≡ view_if false 0 no_record }
-{
-    View {
-        valid: false,
-        count: 0,
-        last: NONE,
-    }
+    count.saturating_sub(1)
 }
 
 // A party's part of the slice; it shows nothing where all of the slice isn't valid, or the party isn't one of those that share it.
 pub fn own_of(counts: Counts, records: &[Record], party: u64) -> Own
-    ensures { Shows counts records.now party result }
+    ensures { Shows counts records.now party (as_own_view result) }
 {
     if !is_served(counts, records, party) {
         let share = share_of(counts, party);
         return Own {
             first: share.first,
             places: share.places,
-            view: nothing_shown(),
+            view: None,
         };
     }
     own_served(counts, records, party)
@@ -262,18 +216,17 @@ pub fn own_of(counts: Counts, records: &[Record], party: u64) -> Own
 // The same where that is known: nothing is tested, and one record is read.
 pub fn own_served(counts: Counts, records: &[Record], party: u64) -> Own
     requires { serves (sharing counts records.now) party ≡ true }
-    ensures { result ≡ own_view (sharing counts records.now) party }
+    ensures { as_own_view result ≡ own_view (sharing counts records.now) party }
 {
     let share = share_of(counts, party);
     let last = get(records, share.first + place_before(share.count));
     let view = View {
-        valid: true,
         count: share.count,
         last,
     };
     Own {
         first: share.first,
         places: share.places,
-        view,
+        view: Some(view),
     }
 }

@@ -1,24 +1,22 @@
 -- A change's line is read where it stands, and what is read stands there: what text's fields do, and so of lines one after the other.
 -- Assumes nothing.
 use mathlib.Core.Path.{◌≡◌, refl, sym, ap, ◌∙◌, subst}
-use mathlib.Core.Bool.{Bool, true, false}
 use mathlib.Core.List.{List, [], ◌∷◌}
 use Prim.Native.Nat.{ℕ, zero, suc, ◌+◌}
 use native.Mathlib.Nat.{add-zero}
 use native.Mathlib.Omega.{arith}
 use lib.ListN.{length}
+use Rattle.std.specs.Prelude.{Option, Some, None}
 use Rattle.bundle.proofs.Elements.{listed}
 use Rattle.text.specs.Fields.{fields, Words, fields_of}
+use Rattle.text.proofs.Numbers.{no_number, some-parts}
 use Rattle.text.proofs.RoundTrip.{fields_back}
 use Rattle.text.proofs.Stands.{Stands, stands-then, stands_parts}
 use Rattle.text.proofs.Stored.{all_read}
-use Rattle.redo.specs.Read.{change_of, change_at, after_lines, changes_at}
+use Rattle.redo.specs.Read.{change_of, line_in, change_at, after_lines, changes_at}
 use Rattle.redo.specs.Redo.{line_ends, numbers_of, line_of, lines_of}
 use Rattle.redo.specs.RoundTrip.{WordsIn}
 use Rattle.redo.specs.declared.Change.{Change}
-use Rattle.redo.specs.declared.reader.After.TheVariants.{At, Missing}
-use Rattle.redo.specs.declared.reader.Line.{Line}
-use Rattle.redo.specs.declared.reader.Line.TheVariants as line
 
 -- a line that was read stands there
 record LineRead (text : List ℕ) (at : ℕ) (c : Change) (next : ℕ) : Type 0 where
@@ -26,36 +24,30 @@ record LineRead (text : List ℕ) (at : ℕ) (c : Change) (next : ℕ) : Type 0 
   stands : Stands text at (line_of c) next
 
 module _ (text : List ℕ) where
-  line-back : (at : ℕ) (c : Change) (next : ℕ) → Words (numbers_of c) → Stands text at (line_of c) next → change_at text at ≡ line.Read c next
+  line-back : (at : ℕ) (c : Change) (next : ℕ) → Words (numbers_of c) → Stands text at (line_of c) next → change_at text at ≡ Some (c, next)
   unfolding change_at fields_of
   line-back at c next w s =
       rw (fields_back text line_ends (numbers_of c) at next (refl, (refl, (refl, (refl, (refl, tt))))) (record { count = refl; words = w; piece = s }))
 
-  no_line : {c : Change} {next : ℕ} → line.Refused ≡ line.Read c next → ⊥
-  no_line e = let z : ◌≡◌ {A = ℕ} 0 1 = cc in omega arith
-
-  line_read : (at : ℕ) (c : Change) (next : ℕ) → change_at text at ≡ line.Read c next → LineRead text at c next
+  line_read : (at : ℕ) (c : Change) (next : ℕ) → change_at text at ≡ Some (c, next) → LineRead text at c next
   unfolding change_at
-  line_read at c next = go (fields_of text at line_ends).read refl
+  line_read at c next = go (fields_of text at line_ends) refl
     where
-      go : (t : Bool) → (fields_of text at line_ends).read ≡ t → change_at text at ≡ line.Read c next → LineRead text at c next
-      go false t e = absurd (no_line (rw t at e))
-      go true t e =
-          let f = fields_of text at line_ends in
-          let g : line.Read (change_of f.of) f.next ≡ line.Read c next = rw t at e in
-          let v : change_of f.of ≡ c = cc in
-          let p : f.next ≡ next = cc in
-          let a = all_read text at line_ends f refl (omega arith) t in
+      go : (o : Option (List ℕ × ℕ)) → fields_of text at line_ends ≡ o → line_in o ≡ Some (c, next) → LineRead text at c next
+      go None t e = absurd (no_number e)
+      go (Some f) t e =
+          let q = some-parts e in
+          let a = all_read text at line_ends f.0 f.1 (omega arith) (sym t) in
           let s = a.stand in
           let n = a.looked in
-          let same : numbers_of (change_of f.of) ≡ a.numbers = (λ i. n 0 i ∷ n 1 i ∷ n 2 i ∷ n 3 i ∷ n 4 i ∷ []) ∙ sym (listed a.numbers 0 5 s.count) in
-          rw (← v, ← p) (record { words = subst Words (sym same) s.words; stands = subst (λ (ms : List ℕ). Stands text at (fields ms line_ends) f.next) (sym same) s.piece })
+          let same : numbers_of (change_of f.0) ≡ a.numbers = (λ i. n 0 i ∷ n 1 i ∷ n 2 i ∷ n 3 i ∷ n 4 i ∷ []) ∙ sym (listed a.numbers 0 5 s.count) in
+          rw (← q.0, ← q.1) (record { words = subst Words (sym same) s.words; stands = subst (λ (ms : List ℕ). Stands text at (fields ms line_ends) f.1) (sym same) s.piece })
 
   -- the lines of some changes are read as those changes
   pub lines-back : (cs : List Change) (at next : ℕ) → WordsIn cs → Stands text at (lines_of cs) next
-      → (after_lines text at (length cs) ≡ At next) × (changes_at text at (length cs) ≡ cs)
+      → (after_lines text at (length cs) ≡ Some next) × (changes_at text at (length cs) ≡ cs)
   unfolding after_lines changes_at
-  lines-back [] at next w s = (ap At (sym (s.place ∙ add-zero at)), refl)
+  lines-back [] at next w s = (ap Some (sym (s.place ∙ add-zero at)), refl)
   lines-back (c ∷ cs) at next w s =
       let p = stands_parts (line_of c) s in
       let e = line-back at c _ w.0 p.0 in
@@ -66,8 +58,8 @@ module _ (text : List ℕ) where
 record First (text : List ℕ) (at left next : ℕ) : Type 0 where
   change : Change
   middle : ℕ
-  line-is : change_at text at ≡ line.Read change middle
-  others : after_lines text middle left ≡ At next
+  line-is : change_at text at ≡ Some (change, middle)
+  others : after_lines text middle left ≡ Some next
 
 -- lines that were read stand there
 pub record LinesRead (text : List ℕ) (at left next : ℕ) : Type 0 where
@@ -76,18 +68,15 @@ pub record LinesRead (text : List ℕ) (at left next : ℕ) : Type 0 where
   pub stands : Stands text at (lines_of (changes_at text at left)) next
 
 module _ (text : List ℕ) where
-  missing : {next : ℕ} → Missing ≡ At next → ⊥
-  missing e = let z : ◌≡◌ {A = ℕ} 0 1 = cc in omega arith
-
-  first : (at left next : ℕ) → after_lines text at (suc left) ≡ At next → First text at left next
+  first : (at left next : ℕ) → after_lines text at (suc left) ≡ Some next → First text at left next
   unfolding after_lines
   first at left next = go (change_at text at) refl
     where
-      go : (m : Line) → change_at text at ≡ m → after_lines text at (suc left) ≡ At next → First text at left next
-      go line.Refused l e = absurd (missing (rw l at e))
-      go (line.Read c middle) l e = record { change = c; middle = middle; line-is = l; others = rw l at e }
+      go : (m : Option (Change × ℕ)) → change_at text at ≡ m → after_lines text at (suc left) ≡ Some next → First text at left next
+      go None l e = absurd (no_number (rw l at e))
+      go (Some r) l e = record { change = r.0; middle = r.1; line-is = l; others = rw l at e }
 
-  pub lines-read : (left at next : ℕ) → after_lines text at left ≡ At next → LinesRead text at left next
+  pub lines-read : (left at next : ℕ) → after_lines text at left ≡ Some next → LinesRead text at left next
   unfolding after_lines changes_at
   lines-read zero at next e =
       let p : at ≡ next = cc in

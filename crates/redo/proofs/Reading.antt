@@ -7,22 +7,21 @@ use native.Mathlib.Decide.{ℕ_discrete, dec_lt}
 use native.Mathlib.Omega.{arith}
 use lib.ListN.{length, drop, length-drop, drop_of_length-le}
 use lib.Seq.{drop-length}
+use Rattle.std.specs.Prelude.{Some, None}
 use Rattle.text.specs.Ascii.{same_text}
 use Rattle.redo.specs.Read.{change_at, after_lines}
 use Rattle.redo.specs.Redo.{end_line}
 use Rattle.redo.specs.declared.Change.{Change}
-use Rattle.redo.specs.declared.reader.After.TheVariants.{Missing}
-use Rattle.redo.specs.declared.reader.Line.TheVariants as line
 
 -- the place after some lines, by the first of them
 module _ (text : List ℕ) (at left : ℕ) (some : 0 < left) where
-  pub after_more : {c : Change} {next : ℕ} → change_at text at ≡ line.Read c next → after_lines text at left ≡ after_lines text next (left - 1)
+  pub after_more : {c : Change} {next : ℕ} → change_at text at ≡ Some (c, next) → after_lines text at left ≡ after_lines text next (left - 1)
   unfolding after_lines
   after_more {c} {next} e =
       let more : left ≡ suc (left - 1) = omega arith in
       ap (after_lines text at) more ∙ rw e
 
-  pub after_none : change_at text at ≡ line.Refused → after_lines text at left ≡ Missing
+  pub after_none : change_at text at ≡ None → after_lines text at left ≡ None
   unfolding after_lines
   after_none e =
       let more : left ≡ suc (left - 1) = omega arith in

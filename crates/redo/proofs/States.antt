@@ -1,15 +1,19 @@
 -- Bundles by their bytes: sixteen bytes are mixed where both halves are, and where a bundle isn't another's each byte is the old or the
 -- new one's. Assumes nothing.
 use mathlib.Core.Path.{◌≡◌, refl, sym, ap, ◌∙◌, subst}
-use mathlib.Core.Bool.{Bool, true, false, ◌&&◌, ◌||◌}
+use mathlib.Core.Bool.{Bool, true, false, false≢true, ◌&&◌, ◌||◌}
 use mathlib.Core.List.{List, [], ◌∷◌, ◌++◌}
 use mathlib.Core.Logic.{◌⊎◌, inl, inr}
-use Prim.Native.Nat.{ℕ, zero, suc, ◌-◌, ◌/◌, ◌%◌, ◌<◌, ◌^◌}
+use Prim.Native.Nat.{ℕ, zero, suc, ◌*◌, ◌/◌, ◌%◌, ◌<◌, ◌^◌}
 use native.Mathlib.Omega.{arith}
-use borrow.Author.Tests.{eqb-true, eq-eqb}
+use borrow.Author.Tests.{eqb-true, eq-eqb, ne_eqb}
 use lib.Dec.{T, eqb, eqb→eq}
 use lib.ListN.{length, get_or}
 use mir.Facts.{and_yes}
+use mathlib.Core.Path.{ap₂}
+use native.Mathlib.Nat.{div-one, div-div-eq-div-mul}
+use Rattle.std.specs.Int.{w64, byte_at, bytes_low_first, to_le_bytes}
+use Rattle.std.specs.List.{list_all, zip}
 use Rattle.bundle.specs.Bytes.{bytes}
 use Rattle.bundle.specs.Bundle.{whole}
 use Rattle.bundle.specs.declared.half.Halves.{Halves}
@@ -17,32 +21,46 @@ use Rattle.bundle.proofs.Bytes.{bytes-above, length-bytes}
 use Rattle.redo.specs.State.{bytes_of, of_either, state_of, OneOf, NoOtherByte, TornIsKnown}
 use Rattle.redo.specs.declared.state.State.TheVariants.{Old, New, Torn, Other}
 
--- no byte, and one more
-pub mixed-none : (now old new : ℕ) → of_either (bytes 0 now) (bytes 0 old) (bytes 0 new) ≡ true
+-- a number's bytes, as std has them
+byte-is : (i n : ℕ) → byte_at i n ≡ n / 256 ^ i % 2 ^ 8
+byte-is zero n = rw div-one
+byte-is (suc i) n = refl
+
+next-byte : (i n : ℕ) → n / 256 ^ suc i ≡ n / 256 ^ i / 2 ^ 8
+next-byte i n = let more : 256 ^ suc i ≡ 256 ^ i * 256 = omega arith in ap (λ (m : ℕ). n / m) more ∙ sym (div-div-eq-div-mul n (256 ^ i) 256)
+
+low-bytes : (i k n : ℕ) → bytes_low_first i k n ≡ bytes k (n / 256 ^ i)
 unfolding bytes
-mixed-none now old new = refl
+low-bytes i zero n = refl
+low-bytes i (suc k) n = ap₂ ◌∷◌ (byte-is i n) (low-bytes (suc i) k n ∙ ap (bytes k) (next-byte i n))
 
-mixed-more : (k now old new : ℕ)
-    → of_either (bytes (suc k) now) (bytes (suc k) old) (bytes (suc k) new)
-    ≡ ((eqb (now % 256) (old % 256) || eqb (now % 256) (new % 256)) && of_either (bytes k (now / 256)) (bytes k (old / 256)) (bytes k (new / 256)))
+pub bytes-are : (n : ℕ) → to_le_bytes w64 n ≡ bytes 8 n
+bytes-are n = low-bytes 0 8 n ∙ ap (bytes 8) (div-one n)
+
+-- a byte of either, and its pairs
+abbrev pub is_either : ℕ × (ℕ × ℕ) → Bool
+is_either p = eqb p.0 p.1.0 || eqb p.0 p.1.1
+
+pub mixed-pairs : (k now old new : ℕ) → list_all is_either (zip (bytes k now) (zip (bytes k old) (bytes k new))) ≡ of_either (bytes k now) (bytes k old) (bytes k new)
 unfolding bytes
-mixed-more k now old new = refl
+mixed-pairs zero now old new = refl
+mixed-pairs (suc k) now old new =
+    ap (λ (t : Bool). is_either (now % 256, (old % 256, new % 256)) && t) (mixed-pairs k (now / 256) (old / 256) (new / 256))
 
--- some bytes, by the first of them
-module _ (k now old new : ℕ) (some : 0 < k) where
-  abbrev first : Bool
-  first = eqb (now % 256) (old % 256) || eqb (now % 256) (new % 256)
+-- two bundles are the same where both halves are
+module _ (a b : Halves) (few : a.low < 2 ^ 64) (few₁ : b.low < 2 ^ 64) where
+  by-high : a.low ≡ b.low → (t : Bool) → eqb a.high b.high ≡ t → t ≡ eqb (whole a) (whole b)
+  by-high l true h = sym (eq-eqb (whole a) (whole b) (omega (arith, l, eqb-true a.high b.high h)))
+  by-high l false h =
+      sym (ne_eqb (whole a) (whole b) (λ e. let same : a.high ≡ b.high = omega (arith, l, e) in false≢true (sym h ∙ eq-eqb a.high b.high same)))
 
-  by_first : of_either (bytes k now) (bytes k old) (bytes k new) ≡ (first && of_either (bytes (k - 1) (now / 256)) (bytes (k - 1) (old / 256)) (bytes (k - 1) (new / 256)))
-  by_first =
-      let more : k ≡ suc (k - 1) = omega arith in
-      ap (λ (n : ℕ). of_either (bytes n now) (bytes n old) (bytes n new)) more ∙ mixed-more (k - 1) now old new
+  by-low : (t : Bool) → eqb a.low b.low ≡ t → (t && eqb a.high b.high) ≡ eqb (whole a) (whole b)
+  by-low true l = by-high (eqb-true a.low b.low l) (eqb a.high b.high) refl
+  by-low false l =
+      sym (ne_eqb (whole a) (whole b) (λ e. let same : a.low ≡ b.low = omega (arith, e) in false≢true (sym l ∙ eq-eqb a.low b.low same)))
 
-  pub mixed-not : first ≡ false → of_either (bytes k now) (bytes k old) (bytes k new) ≡ false
-  mixed-not t = by_first ∙ rw t
-
-  pub mixed-on : first ≡ true → of_either (bytes k now) (bytes k old) (bytes k new) ≡ of_either (bytes (k - 1) (now / 256)) (bytes (k - 1) (old / 256)) (bytes (k - 1) (new / 256))
-  mixed-on t = by_first ∙ rw t
+  pub same-whole : (eqb a.low b.low && eqb a.high b.high) ≡ eqb (whole a) (whole b)
+  same-whole = by-low (eqb a.low b.low) refl
 
 and_assoc : (a b c : Bool) → (a && (b && c)) ≡ ((a && b) && c)
 and_assoc true b c = refl

@@ -8,7 +8,7 @@ ghost use Rattle.redo.specs.Redo.{first_line, line_of, end_line};
 ghost use Rattle.text.specs.Put.{Put};
 
 use bundle::Halves;
-pub use reader::{Found, Line, Parts, line_at, look};
+pub use reader::{Parts, line_at, look};
 pub use state::{State, state_of};
 
 // A changed bundle: its place in the file, in bytes, and what it was and is to be.

@@ -6,14 +6,7 @@ ghost use Rattle.redo.specs.Read.{change_at, after_lines, parts_at, look_of};
 
 use crate::Change;
 use bundle::Halves;
-use text::{Fields, read_fields};
-
-// A change and the place after its line, or that there is none.
-#[derive(Clone, Copy)]
-pub enum Line {
-    Read(Change, usize),
-    Refused,
-}
+use text::read_fields;
 
 // The window, how many changes there are and where the first one's line begins; where the sheet begins, where it ends and the layout
 // begins, and where that ends.
@@ -27,66 +20,40 @@ pub struct Parts {
     pub end: usize,
 }
 
-// Where the parts of a redo file stand, or that the text is none.
-#[derive(Clone, Copy)]
-pub enum Found {
-    Redo(Parts),
-    Refused,
-}
-
-// The place after some lines.
-#[derive(Clone, Copy)]
-pub enum After {
-    At(usize),
-    Missing,
-}
-
-// Looks through the whole text.
-pub fn look(text: &[u8]) -> Found
+// Looks through the whole text: where the parts of a redo file stand in it, where it is one.
+pub fn look(text: &[u8]) -> Option<Parts>
     ensures { result ≡ look_of text.now }
 {
     if !text::begins(text, b"redo\t") {
-        return Found::Refused;
+        return None;
     }
-    let head = read_fields(text, 5, b"\t\t\t\n");
-    if !head.read {
-        return Found::Refused;
-    }
-    let of = head.of;
-    let after = after_lines(text, head.next, of[0]);
-    parts_at(text, of, head.next, after)
+    let (of, lines) = read_fields(text, 5, b"\t\t\t\n")?;
+    let sheet = after_lines(text, lines, of[0])?;
+    parts_at(text, of, lines, sheet)
 }
 
 // The place after so many lines.
-fn after_lines(text: &[u8], first: usize, count: u64) -> After
+fn after_lines(text: &[u8], first: usize, count: u64) -> Option<usize>
     ensures { result ≡ after_lines text.now first count }
 {
     let mut at = first;
-    let mut left = count;
-    while 0 < left {
-        let line = line_at(text, at);
-        let Line::Read(_, next) = line else {
-            return After::Missing;
-        };
+    for _ in 0..count {
+        let (_, next) = line_at(text, at)?;
         at = next;
-        left -= 1;
     }
-    After::At(at)
+    Some(at)
 }
 
 // The parts by the numbers of the first line, the place after it and the place after the lines.
-fn parts_at(text: &[u8], of: [u64; 8], lines: usize, after: After) -> Found
-    ensures { result ≡ parts_at text.now of lines after }
+fn parts_at(text: &[u8], of: [u64; 8], lines: usize, sheet: usize) -> Option<Parts>
+    ensures { result ≡ parts_at text.now of lines sheet }
 {
-    let After::At(sheet) = after else {
-        return Found::Refused;
-    };
     let layout = past(text, sheet, of[2]);
     let end = past(text, layout, of[3]);
     if !is_last(text, end) {
-        return Found::Refused;
+        return None;
     }
-    Found::Redo(Parts {
+    Some(Parts {
         window: of[1],
         count: of[0],
         lines,
@@ -100,14 +67,8 @@ fn parts_at(text: &[u8], of: [u64; 8], lines: usize, after: After) -> Found
 fn past(text: &[u8], at: usize, count: u64) -> usize
     ensures { result ≡ min (at + count) (length text.now) }
 {
-    let length = text.len();
-    if length < at {
-        return length;
-    }
-    if ((length - at) as u64) < count {
-        return length;
-    }
-    at + count as usize
+    let end = (at as u64).saturating_add(count);
+    end.min(text.len() as u64) as usize
 }
 
 // Whether the last line is all that stands from a place on.
@@ -118,15 +79,11 @@ fn is_last(text: &[u8], at: usize) -> bool
     check::same(&text[at..], b"end\n")
 }
 
-// The change whose line stands at a place.
-pub fn line_at(text: &[u8], at: usize) -> Line
+// The change whose line stands at a place, and the place after it.
+pub fn line_at(text: &[u8], at: usize) -> Option<(Change, usize)>
     ensures { result ≡ change_at text.now at }
 {
-    let line = read_fields(text, at, b"\t\t\t\t\n");
-    if !line.read {
-        return Line::Refused;
-    }
-    let of = line.of;
+    let (of, next) = read_fields(text, at, b"\t\t\t\t\n")?;
     let old = Halves {
         low: of[1],
         high: of[2],
@@ -135,12 +92,6 @@ pub fn line_at(text: &[u8], at: usize) -> Line
         low: of[3],
         high: of[4],
     };
-    Line::Read(
-        Change {
-            place: of[0],
-            old,
-            new,
-        },
-        line.next,
-    )
+    let place = of[0];
+    Some((Change { place, old, new }, next))
 }

@@ -18,25 +18,16 @@ pub enum State {
 pub fn state_of(now: Halves, old: Halves, new: Halves) -> State
     ensures { result ≡ state_of now old new }
 {
-    if are_same(now, old) {
+    if now == old {
         return State::Old;
     }
-    if are_same(now, new) {
+    if now == new {
         return State::New;
     }
     if is_torn(now, old, new) {
         return State::Torn;
     }
     State::Other
-}
-
-fn are_same(a: Halves, b: Halves) -> bool
-    ensures { result ≡ eqb (whole a) (whole b) }
-{
-    if a.low != b.low {
-        return false;
-    }
-    a.high == b.high
 }
 
 fn is_torn(now: Halves, old: Halves, new: Halves) -> bool
@@ -49,24 +40,11 @@ fn is_torn(now: Halves, old: Halves, new: Halves) -> bool
 fn is_mixed(now: u64, old: u64, new: u64) -> bool
     ensures { result ≡ of_either (bytes 8 now) (bytes 8 old) (bytes 8 new) }
 {
-    let mut byte = now;
-    let mut before = old;
-    let mut after = new;
-    let mut left: u64 = 8;
-    while 0 < left {
-        if !is_either(byte % 256, before % 256, after % 256) {
-            return false;
-        }
-        byte /= 256;
-        before /= 256;
-        after /= 256;
-        left -= 1;
-    }
-    true
-}
-
-fn is_either(byte: u64, one: u64, other: u64) -> bool
-    ensures { result ≡ (eqb byte one || eqb byte other) }
-{
-    (byte == one) | (byte == other)
+    let befores = old.to_le_bytes();
+    let afters = new.to_le_bytes();
+    let olds_and_news = befores.iter().zip(&afters);
+    now.to_le_bytes()
+        .iter()
+        .zip(olds_and_news)
+        .all(|(byte, (old, new))| byte == old || byte == new)
 }

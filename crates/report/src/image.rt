@@ -2,13 +2,12 @@
 ghost use Rattle.std.specs.Prelude.{◌≡◌, length};
 ghost use Rattle.std.specs.Counts.{IsPrefixLen};
 
-use crate::said;
+use answer::Refusal;
 use bundle::LONGEST_CODE;
-use console::{Bytes, EprintBytes};
 use lines::part;
 use std::rt::{Env, Files};
 use std::{fs, io, str};
-use tally::{Added, NUMBERS};
+use tally::NUMBERS;
 
 // Room for the longest name of a file.
 pub const PATH_MAX: usize = 4096;
@@ -32,23 +31,10 @@ pub fn put_name(rt: &impl Env, i: usize, name: &mut [u8; PATH_MAX]) -> usize
     rt.arg(i, name).unwrap_or(PATH_MAX)
 }
 
-// Reads image `i`, the file of that name; one that can't be read is named on standard error.
-pub fn read(rt: &(impl Files + EprintBytes), i: u64, name: &[u8], bytes: &mut [u8]) -> Bytes {
-    let read = read_file(rt, name, bytes);
-    if let Some(error) = &read.error {
-        said::failed(rt, i, name, error);
-    }
-    read
-}
-
-fn read_file(rt: &impl Files, name: &[u8], bytes: &mut [u8]) -> Bytes {
-    match open(rt, name) {
-        Ok(mut file) => console::read_all(&mut file, bytes),
-        Err(error) => Bytes {
-            error: Some(error),
-            count: 0,
-        },
-    }
+// Reads the file of that name, and answers how many bytes it has.
+pub fn read(rt: &impl Files, name: &[u8], bytes: &mut [u8]) -> io::Result<usize> {
+    let mut file = open(rt, name)?;
+    console::read_all(&mut file, bytes).map_err(|cut| cut.error)
 }
 
 fn open<R: Files>(rt: &R, name: &[u8]) -> io::Result<R::File> {
@@ -65,8 +51,8 @@ fn text_of(name: &[u8]) -> io::Result<&str> {
     }
 }
 
-// The report with the first bytes added.
-pub fn add(report: [u64; NUMBERS], bytes: &[u8], count: usize) -> Added {
+// Adds the first bytes to the report.
+pub fn add(report: &mut [u64; NUMBERS], bytes: &[u8], count: usize) -> Result<(), Refusal> {
     let n = part::within(bytes, count);
     tally::add(report, &bytes[0..n])
 }

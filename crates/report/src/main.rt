@@ -5,110 +5,80 @@
 mod image;
 mod said;
 
-use console::{DONE, Started};
+use console::{Started, Status};
 use hex_text::Ending;
 use std::process::ExitCode;
 use tally::NUMBERS;
 
-// What images come to: the report of those that aren't left out, and the exit status.
-#[derive(Clone, Copy)]
-struct Sum {
-    report: [u64; NUMBERS],
-    status: u64,
-}
-
 fn main(rt: HostRuntime) -> ExitCode {
     let started = console::started(&rt);
-    console::end(&rt, started, write(&rt, sum_of(&rt, started)))
+    console::end(&rt, started, run(&rt, started))
 }
 
-fn sum_of(rt: &HostRuntime, started: Started) -> Sum {
-    if console::has_arguments(rt, started) {
-        return named(rt, started.first, console::arg_count(rt));
-    }
-    typed(rt)
-}
-
-// The files that the arguments name from `first` on, added up.
-fn named(rt: &HostRuntime, first: usize, count: usize) -> Sum {
-    let mut sum = Sum {
-        report: [0; NUMBERS],
-        status: DONE,
+fn run(rt: &HostRuntime, started: Started) -> Status {
+    let mut report = [0; NUMBERS];
+    let status = if console::has_arguments(rt, started) {
+        add_named(rt, &mut report, started.first, console::arg_count(rt))
+    } else {
+        add_typed(rt, &mut report).err().unwrap_or(Status::Done)
     };
-    let mut image: u64 = 0;
-    let mut i = first;
-    while i < count {
-        image += 1;
-        sum = with_file(rt, sum, image, i);
-        i += 1;
-    }
-    sum
+    write(rt, report, status)
 }
 
-// The sum with an image added, the file that argument `i` names, where it can be read and isn't refused.
-fn with_file(rt: &HostRuntime, sum: Sum, image: u64, i: usize) -> Sum {
+// Adds the files that the arguments name from `first` on, and answers the exit status that says most: what can't be read goes before what
+// is refused.
+fn add_named(rt: &HostRuntime, report: &mut [u64; NUMBERS], first: usize, count: usize) -> Status {
+    let mut worst = Status::Done;
+    for i in first..count {
+        let image = (i - first) as u64 + 1;
+        if let Err(status) = add_file(rt, report, image, i) {
+            worst = worst.max(status);
+        }
+    }
+    worst
+}
+
+// Adds an image, the file that argument `i` names, where it can be read and isn't refused.
+fn add_file(
+    rt: &HostRuntime,
+    report: &mut [u64; NUMBERS],
+    image: u64,
+    i: usize,
+) -> Result<(), Status> {
     let mut name = [0u8; image::PATH_MAX];
     let length = image::put_name(rt, i, &mut name);
+    let name = &name[..length];
     let mut bytes = image::room();
-    let read = image::read(rt, image, &name[..length], &mut bytes);
-    let report = sum.report;
-    if read.error.is_some() {
-        return Sum {
-            report,
-            status: console::SYSTEM,
-        };
-    }
-    let added = image::add(report, &bytes, read.count);
-    let report = added.report;
-    Sum {
-        report,
-        status: worse(
-            sum.status,
-            said::refused(rt, image, &name[..length], added.answer),
-        ),
-    }
+    let count = match image::read(rt, name, &mut bytes) {
+        Ok(count) => count,
+        Err(error) => {
+            said::failed(rt, image, name, &error);
+            return Err(Status::System);
+        }
+    };
+    image::add(report, &bytes, count).map_err(|refusal| said::refused(rt, image, name, refusal))
 }
 
-// The image that standard input gives in hex, as the listing takes it.
-fn typed(rt: &HostRuntime) -> Sum {
+// Adds the image that standard input gives in hex, as the listing takes it.
+fn add_typed(rt: &HostRuntime, report: &mut [u64; NUMBERS]) -> Result<(), Status> {
     let mut given = [0u8; lister::ENOUGH];
     let mut bytes = image::room();
-    let report = [0u64; NUMBERS];
-    let read = console::read_all(&mut rt.stdin(), &mut given);
-    if let Some(error) = read.error {
-        return Sum {
-            report,
-            status: said::failed(rt, 1, b"-", &error),
-        };
-    }
-    let count = read.count;
+    let count = match console::read_all(&mut rt.stdin(), &mut given) {
+        Ok(count) => count,
+        Err(cut) => return Err(said::failed(rt, 1, b"-", &cut.error)),
+    };
     let decoded = hex_text::decode(&given[..count], &mut bytes);
-    let ending = decoded.ending;
-    if let Ending::BadHex = ending {
-        return Sum {
-            report,
-            status: said::bad_hex(rt),
-        };
+    if let Ending::BadHex = decoded.ending {
+        return Err(said::bad_hex(rt));
     }
-    let added = image::add(report, &bytes, decoded.count);
-    let report = added.report;
-    Sum {
-        report,
-        status: said::refused(rt, 1, b"-", added.answer),
-    }
+    image::add(report, &bytes, decoded.count).map_err(|refusal| said::refused(rt, 1, b"-", refusal))
 }
 
-// Of two exit statuses the one that says more: what can't be read goes before what is refused.
-fn worse(a: u64, b: u64) -> u64 {
-    if a < b { b } else { a }
-}
-
-fn write(rt: &HostRuntime, sum: Sum) -> u64 {
-    let report = sum.report;
+fn write(rt: &HostRuntime, report: [u64; NUMBERS], status: Status) -> Status {
     let mut out = [0u8; tally::CAPACITY];
     let length = tally::put_report(&mut out, 0, report);
     match console::write_all(&mut rt.stdout(), &out, length) {
-        Ok(()) => sum.status,
+        Ok(()) => status,
         Err(error) => console::failed(rt, b"report: standard output", &error),
     }
 }

@@ -9,14 +9,8 @@ use form::{B, F, Form, I, M, X};
 pub fn is_retired(form: Form) -> bool
     ensures { result ≡ is_retired form }
 {
-    let family = form.family;
-    let number = form.number;
-    match family {
-        B => number == 9,
-        F => (number == 15) | (number == 16),
-        I => (number == 18) | (number == 19),
-        M => (number == 37) | (number == 48),
-        X => (number == 1) | (number == 5),
-        _ => false,
-    }
+    matches!(
+        (form.family, form.number),
+        (B, 9) | (F, 15 | 16) | (I, 18 | 19) | (M, 37 | 48) | (X, 1 | 5)
+    )
 }

@@ -14,7 +14,7 @@ use Rattle.bits.specs.Parts.{separate}
 use Rattle.form.specs.Form.{X, same_form}
 use Rattle.form.specs.declared.Form.{Form}
 use Rattle.parts.specs.Placed.{no_part, placed, width_of, in_words, readable}
-use Rattle.parts.specs.inner.Numbers.{Ended}
+use Rattle.parts.specs.inner.Standing.{Ended}
 use Rattle.parts.specs.declared.Part.{Part}
 use Rattle.row.specs.Row.{Row, Line, lines, among, row_in, row_of, no_row, is_none, only_times16, target_row_of}
 use Rattle.table.proofs.Check.{below, checked}
@@ -49,8 +49,8 @@ fits (Complement top) w t = search (and_l, and_r, leb→le, ltb→lt)
 abbrev ended_at : List Part → ℕ → Bool
 ended_at ps i = cond (eqb (get_or ps i no_part).width 0) (eqb (width_of (drop i ps)) 0) true
 
-ends : (ps : List Part) → T (below (ended_at ps) 6) → Ended ps
-ends ps t i h none = eqb→eq _ _ (rw (eq-eqb _ 0 none) at (checked (ended_at ps) 6 t i h))
+ends : (ps : List Part) → T (below (ended_at ps) (length ps)) → Ended ps
+ends ps t i h none = eqb→eq _ _ (rw (eq-eqb _ 0 none) at (checked (ended_at ps) (length ps) t i h))
 
 -- no two of its parts meet, in any slot that it can stand in: an X form's in slot 2 alone
 abbrev pub separate_in : ℕ → Row → Bool
@@ -63,7 +63,7 @@ apart family row = cond (eqb family X) (separate_in 2 row) (separate_in 0 row &&
 abbrev whole : ℕ → Row → Bool
 whole family row =
     readable row.parts
-    && (below (ended_at row.parts) 6 && (meant row.meaning (width_of row.parts) && (apart family row && in_words (eqb family X) row.parts)))
+    && (below (ended_at row.parts) (length row.parts) && (meant row.meaning (width_of row.parts) && (apart family row && in_words (eqb family X) row.parts)))
 
 abbrev pub good : ℕ → Row → Bool
 good family row = cond (is_none row) true (whole family row)

@@ -2,337 +2,316 @@
 #![tactic(auto)]
 
 ghost use Rattle.std.specs.Prelude.{◌≡◌};
+ghost use Rattle.std.specs.Option.{option_copied};
 ghost use Rattle.form.specs.Form.{a, b, f, i, m, x};
 ghost use Rattle.row.specs.Row.{row_of, target_row_of};
-ghost use Rattle.row.specs.inner.Packed.{meaning_of, Packs};
+ghost use Rattle.row.specs.inner.Packed.{Packs};
 
 use form::{A, B, F, Form, M, X};
 use meaning::{INCREMENTS, Meaning, SHIFTS};
-use parts::L;
+use parts::{L, Part};
 
-// A row, in numbers, so that the compiler has a family's rows in tables: the kind of the meaning and its own number, how many bits the parts
-// have, and the parts, lowest first, 16 bits each, the place below the width; four in `low` and two in `high`. The last have no width.
+// A row: what its number means, how many bits its parts have, and its parts, lowest first; the last have no width.
 #[derive(Clone, Copy)]
 pub struct Packed {
-    pub kind: u64,
-    pub number: u64,
+    pub meaning: Meaning,
     pub width: u32,
-    pub low: u64,
-    pub high: u64,
+    pub parts: &'static [Part],
 }
 
-const WIDTH: u64 = 8;
-
-const SECOND: u64 = 16;
-
-const THIRD: u64 = 32;
-
-const FOURTH: u64 = 48;
-
-// The kinds of meanings; of the two that choose, the second has a sign.
-pub const NONE: u64 = 0;
-
-const UNSIGNED: u64 = 1;
-
-const SIGNED: u64 = 2;
-
-const CHOSEN: u64 = 3;
-
-const COMPLEMENT: u64 = 4;
-
-const CHOSEN_SIGNED: u64 = 5;
-
-const NO_PACKED: Packed = Packed {
-    kind: NONE,
-    number: 0,
-    width: 0,
-    low: 0,
-    high: 0,
-};
+const NONE: Part = Part { place: 0, width: 0 };
 
 // The manual's names of the parts: S is its s, or i where the number has no sign.
-const CT2D: u64 = 27 + (2 << WIDTH);
+const CT2D: Part = Part {
+    place: 27,
+    width: 2,
+};
 
 // I1's.
-const CT2D_30: u64 = 30 + (2 << WIDTH);
+const CT2D_30: Part = Part {
+    place: 30,
+    width: 2,
+};
 
-const IMM7A: u64 = 6 + (7 << WIDTH);
+const IMM7A: Part = Part { place: 6, width: 7 };
 
-const IMM7B: u64 = 13 + (7 << WIDTH);
+const IMM7B: Part = Part {
+    place: 13,
+    width: 7,
+};
 
-const IMM6D: u64 = 27 + (6 << WIDTH);
+const IMM6D: Part = Part {
+    place: 27,
+    width: 6,
+};
 
-const COUNT5B: u64 = 14 + (5 << WIDTH);
+const COUNT5B: Part = Part {
+    place: 14,
+    width: 5,
+};
 
-const CCOUNT5C: u64 = 20 + (5 << WIDTH);
+const CCOUNT5C: Part = Part {
+    place: 20,
+    width: 5,
+};
 
-const POS6B: u64 = 14 + (6 << WIDTH);
+const POS6B: Part = Part {
+    place: 14,
+    width: 6,
+};
 
-const TIMM9C: u64 = 24 + (9 << WIDTH);
+const TIMM9C: Part = Part {
+    place: 24,
+    width: 9,
+};
 
-const MASK8C: u64 = 24 + (8 << WIDTH);
+const MASK8C: Part = Part {
+    place: 24,
+    width: 8,
+};
 
-const IMM27A: u64 = 6 + (27 << WIDTH);
+const IMM27A: Part = Part {
+    place: 6,
+    width: 27,
+};
 
-const IMM9D: u64 = 27 + (9 << WIDTH);
+const IMM9D: Part = Part {
+    place: 27,
+    width: 9,
+};
 
-const IMM5C: u64 = 22 + (5 << WIDTH);
+const IMM5C: Part = Part {
+    place: 22,
+    width: 5,
+};
 
-const IMM13C: u64 = 20 + (13 << WIDTH);
+const IMM13C: Part = Part {
+    place: 20,
+    width: 13,
+};
 
-const IMM20A: u64 = 6 + (20 << WIDTH);
+const IMM20A: Part = Part {
+    place: 6,
+    width: 20,
+};
 
-const IMM20B: u64 = 13 + (20 << WIDTH);
+const IMM20B: Part = Part {
+    place: 13,
+    width: 20,
+};
 
-const IMM21A: u64 = 6 + (21 << WIDTH);
+const IMM21A: Part = Part {
+    place: 6,
+    width: 21,
+};
 
-const I2D: u64 = 31 + (2 << WIDTH);
+const I2D: Part = Part {
+    place: 31,
+    width: 2,
+};
 
 // i2b, and above it M17's own s.
-const I2B_S: u64 = 13 + (3 << WIDTH);
+const I2B_S: Part = Part {
+    place: 13,
+    width: 3,
+};
 
-const I: u64 = 27 + (1 << WIDTH);
+const I: Part = Part {
+    place: 27,
+    width: 1,
+};
 
-const IC: u64 = 21 + (1 << WIDTH);
+const IC: Part = Part {
+    place: 21,
+    width: 1,
+};
 
-const S: u64 = 36 + (1 << WIDTH);
+const S: Part = Part {
+    place: 36,
+    width: 1,
+};
 
-const IMM41: u64 = L as u64 + (41 << WIDTH);
+const IMM41: Part = Part {
+    place: L,
+    width: 41,
+};
 
-const IMM39: u64 = L as u64 + 2 + (39 << WIDTH);
+const IMM39: Part = Part {
+    place: L + 2,
+    width: 39,
+};
 
 // A2, A10
-const COUNT2: Packed = Packed {
-    kind: UNSIGNED,
-    number: 1,
+static COUNT2: Packed = Packed {
+    meaning: Meaning::Unsigned(1),
     width: 2,
-    low: CT2D,
-    high: 0,
+    parts: &[CT2D, NONE, NONE, NONE, NONE, NONE],
 };
 
 // A3, A8, M30, I27
-const IMM8: Packed = Packed {
-    kind: SIGNED,
-    number: 1,
+static IMM8: Packed = Packed {
+    meaning: Meaning::Signed(1),
     width: 8,
-    low: IMM7B + (S << SECOND),
-    high: 0,
+    parts: &[IMM7B, S, NONE, NONE, NONE, NONE],
 };
 
 // A4
-const IMM14: Packed = Packed {
-    kind: SIGNED,
-    number: 1,
+static IMM14: Packed = Packed {
+    meaning: Meaning::Signed(1),
     width: 14,
-    low: IMM7B + (IMM6D << SECOND) + (S << THIRD),
-    high: 0,
+    parts: &[IMM7B, IMM6D, S, NONE, NONE, NONE],
 };
 
 // A5
-const IMM22: Packed = Packed {
-    kind: SIGNED,
-    number: 1,
+static IMM22: Packed = Packed {
+    meaning: Meaning::Signed(1),
     width: 22,
-    low: IMM7B + (IMM9D << SECOND) + (IMM5C << THIRD) + (S << FOURTH),
-    high: 0,
+    parts: &[IMM7B, IMM9D, IMM5C, S, NONE, NONE],
 };
 
 // M3, M8, M15
-const IMM9B: Packed = Packed {
-    kind: SIGNED,
-    number: 1,
+static IMM9B: Packed = Packed {
+    meaning: Meaning::Signed(1),
     width: 9,
-    low: IMM7B + (I << SECOND) + (S << THIRD),
-    high: 0,
+    parts: &[IMM7B, I, S, NONE, NONE, NONE],
 };
 
 // M5, M10
-const IMM9A: Packed = Packed {
-    kind: SIGNED,
-    number: 1,
+static IMM9A: Packed = Packed {
+    meaning: Meaning::Signed(1),
     width: 9,
-    low: IMM7A + (I << SECOND) + (S << THIRD),
-    high: 0,
+    parts: &[IMM7A, I, S, NONE, NONE, NONE],
 };
 
 // M17
-const INCREMENT: Packed = Packed {
-    kind: CHOSEN_SIGNED,
-    number: INCREMENTS,
+static INCREMENT: Packed = Packed {
+    meaning: Meaning::Chosen(true, INCREMENTS),
     width: 3,
-    low: I2B_S,
-    high: 0,
+    parts: &[I2B_S, NONE, NONE, NONE, NONE, NONE],
 };
 
 // M20, M21, I20
-const TARGET25B: Packed = Packed {
-    kind: SIGNED,
-    number: 16,
+static TARGET25B: Packed = Packed {
+    meaning: Meaning::Signed(16),
     width: 21,
-    low: IMM7A + (IMM13C << SECOND) + (S << THIRD),
-    high: 0,
+    parts: &[IMM7A, IMM13C, S, NONE, NONE, NONE],
 };
 
 // M22, M23, B1, B2, B3
-const TARGET25C: Packed = Packed {
-    kind: SIGNED,
-    number: 16,
+static TARGET25C: Packed = Packed {
+    meaning: Meaning::Signed(16),
     width: 21,
-    low: IMM20B + (S << SECOND),
-    high: 0,
+    parts: &[IMM20B, S, NONE, NONE, NONE, NONE],
 };
 
 // F14
-const TARGET25: Packed = Packed {
-    kind: SIGNED,
-    number: 16,
+static TARGET25: Packed = Packed {
+    meaning: Meaning::Signed(16),
     width: 21,
-    low: IMM20A + (S << SECOND),
-    high: 0,
+    parts: &[IMM20A, S, NONE, NONE, NONE, NONE],
 };
 
 // M37, M48, F15, F16, B9, I18, I19
-const IMM21: Packed = Packed {
-    kind: UNSIGNED,
-    number: 0,
+static IMM21: Packed = Packed {
+    meaning: Meaning::Unsigned(0),
     width: 21,
-    low: IMM20A + (S << SECOND),
-    high: 0,
+    parts: &[IMM20A, S, NONE, NONE, NONE, NONE],
 };
 
 // M44
-const IMM24: Packed = Packed {
-    kind: UNSIGNED,
-    number: 0,
+static IMM24: Packed = Packed {
+    meaning: Meaning::Unsigned(0),
     width: 24,
-    low: IMM21A + (I2D << SECOND) + (S << THIRD),
-    high: 0,
+    parts: &[IMM21A, I2D, S, NONE, NONE, NONE],
 };
 
 // X1, X5
-const IMM62: Packed = Packed {
-    kind: UNSIGNED,
-    number: 0,
+static IMM62: Packed = Packed {
+    meaning: Meaning::Unsigned(0),
     width: 62,
-    low: IMM20A + (S << SECOND) + (IMM41 << THIRD),
-    high: 0,
+    parts: &[IMM20A, S, IMM41, NONE, NONE, NONE],
 };
 
 // X2
-const IMM64: Packed = Packed {
-    kind: UNSIGNED,
-    number: 0,
+static IMM64: Packed = Packed {
+    meaning: Meaning::Unsigned(0),
     width: 64,
-    low: IMM7B + (IMM9D << SECOND) + (IMM5C << THIRD) + (IC << FOURTH),
-    high: IMM41 + (S << SECOND),
+    parts: &[IMM7B, IMM9D, IMM5C, IC, IMM41, S],
 };
 
 // X3, X4
-const TARGET64: Packed = Packed {
-    kind: SIGNED,
-    number: 16,
+static TARGET64: Packed = Packed {
+    meaning: Meaning::Signed(16),
     width: 60,
-    low: IMM20B + (IMM39 << SECOND) + (S << THIRD),
-    high: 0,
+    parts: &[IMM20B, IMM39, S, NONE, NONE, NONE],
 };
 
 // I1
-const SHIFT: Packed = Packed {
-    kind: CHOSEN,
-    number: SHIFTS,
+static SHIFT: Packed = Packed {
+    meaning: Meaning::Chosen(false, SHIFTS),
     width: 2,
-    low: CT2D_30,
-    high: 0,
+    parts: &[CT2D_30, NONE, NONE, NONE, NONE, NONE],
 };
 
 // I6
-const COUNT5: Packed = Packed {
-    kind: UNSIGNED,
-    number: 0,
+static COUNT5: Packed = Packed {
+    meaning: Meaning::Unsigned(0),
     width: 5,
-    low: COUNT5B,
-    high: 0,
+    parts: &[COUNT5B, NONE, NONE, NONE, NONE, NONE],
 };
 
 // I8
-const CCOUNT5: Packed = Packed {
-    kind: COMPLEMENT,
-    number: 31,
+static CCOUNT5: Packed = Packed {
+    meaning: Meaning::Complement(31),
     width: 5,
-    low: CCOUNT5C,
-    high: 0,
+    parts: &[CCOUNT5C, NONE, NONE, NONE, NONE, NONE],
 };
 
 // I10, whose count6d stands where imm6d does
-const COUNT6: Packed = Packed {
-    kind: UNSIGNED,
-    number: 0,
+static COUNT6: Packed = Packed {
+    meaning: Meaning::Unsigned(0),
     width: 6,
-    low: IMM6D,
-    high: 0,
+    parts: &[IMM6D, NONE, NONE, NONE, NONE, NONE],
 };
 
 // I16
-const POS6: Packed = Packed {
-    kind: UNSIGNED,
-    number: 0,
+static POS6: Packed = Packed {
+    meaning: Meaning::Unsigned(0),
     width: 6,
-    low: POS6B,
-    high: 0,
+    parts: &[POS6B, NONE, NONE, NONE, NONE, NONE],
 };
 
 // I21
-const TAG13: Packed = Packed {
-    kind: SIGNED,
-    number: 16,
+static TAG13: Packed = Packed {
+    meaning: Meaning::Signed(16),
     width: 9,
-    low: TIMM9C,
-    high: 0,
+    parts: &[TIMM9C, NONE, NONE, NONE, NONE, NONE],
 };
 
 // I23, whose mask7a stands where imm7a does
-const MASK17: Packed = Packed {
-    kind: SIGNED,
-    number: 2,
+static MASK17: Packed = Packed {
+    meaning: Meaning::Signed(2),
     width: 16,
-    low: IMM7A + (MASK8C << SECOND) + (S << THIRD),
-    high: 0,
+    parts: &[IMM7A, MASK8C, S, NONE, NONE, NONE],
 };
 
 // I24
-const IMM44: Packed = Packed {
-    kind: SIGNED,
-    number: 65536,
+static IMM44: Packed = Packed {
+    meaning: Meaning::Signed(65536),
     width: 28,
-    low: IMM27A + (S << SECOND),
-    high: 0,
+    parts: &[IMM27A, S, NONE, NONE, NONE, NONE],
 };
 
 // I30, whose imm5b stands where count5b does
-const IMM5: Packed = Packed {
-    kind: UNSIGNED,
-    number: 32,
+static IMM5: Packed = Packed {
+    meaning: Meaning::Unsigned(32),
     width: 5,
-    low: COUNT5B,
-    high: 0,
+    parts: &[COUNT5B, NONE, NONE, NONE, NONE, NONE],
 };
 
-pub fn meaning_of(kind: u64, number: u64) -> Meaning
-    ensures { result ≡ meaning_of kind number }
-{
-    match kind {
-        UNSIGNED => Meaning::Unsigned(number),
-        SIGNED => Meaning::Signed(number),
-        CHOSEN => Meaning::Chosen(false, number),
-        COMPLEMENT => Meaning::Complement(number),
-        CHOSEN_SIGNED => Meaning::Chosen(true, number),
-        _ => Meaning::None,
-    }
-}
-
-// A form's row; no row where it has none.
-pub fn packed_of(form: Form) -> Packed
-    ensures { Packs result (row_of form) }
+// A form's row.
+pub fn packed_of(form: Form) -> Option<&'static Packed>
+    ensures { Packs (option_copied result) (row_of form) }
 {
     let family = form.family;
     let number = form.number;
@@ -343,119 +322,102 @@ pub fn packed_of(form: Form) -> Packed
         form::I => row_i(number),
         M => row_m(number),
         X => row_x(number),
-        _ => NO_PACKED,
+        _ => None,
     }
 }
 
 // The row of a form that has a target: its values are times 16, with a sign.
-pub fn packed_target_of(form: Form) -> Packed
-    ensures { Packs result (target_row_of form) }
+pub fn packed_target_of(form: Form) -> Option<&'static Packed>
+    ensures { Packs (option_copied result) (target_row_of form) }
 {
-    let packed = packed_of(form);
-    if packed.kind != SIGNED {
-        return NO_PACKED;
-    }
-    if packed.number != 16 {
-        return NO_PACKED;
-    }
-    packed
-}
-
-#[tactic(auto, unfolding(crate::specs::Row::row_of, crate::specs::Row::lines))]
-fn row_a(number: u64) -> Packed
-    ensures { Packs result (row_of (a number)) }
-{
-    match number {
-        2 => COUNT2,
-        3 => IMM8,
-        4 => IMM14,
-        5 => IMM22,
-        8 => IMM8,
-        10 => COUNT2,
-        _ => NO_PACKED,
+    let packed = packed_of(form)?;
+    match packed.meaning {
+        Meaning::Signed(16) => Some(packed),
+        _ => None,
     }
 }
 
 #[tactic(auto, unfolding(crate::specs::Row::row_of, crate::specs::Row::lines))]
-fn row_b(number: u64) -> Packed
-    ensures { Packs result (row_of (b number)) }
+fn row_a(number: u64) -> Option<&'static Packed>
+    ensures { Packs (option_copied result) (row_of (a number)) }
 {
     match number {
-        1 => TARGET25C,
-        2 => TARGET25C,
-        3 => TARGET25C,
-        9 => IMM21,
-        _ => NO_PACKED,
+        2 | 10 => Some(&COUNT2),
+        3 | 8 => Some(&IMM8),
+        4 => Some(&IMM14),
+        5 => Some(&IMM22),
+        _ => None,
     }
 }
 
 #[tactic(auto, unfolding(crate::specs::Row::row_of, crate::specs::Row::lines))]
-fn row_f(number: u64) -> Packed
-    ensures { Packs result (row_of (f number)) }
+fn row_b(number: u64) -> Option<&'static Packed>
+    ensures { Packs (option_copied result) (row_of (b number)) }
 {
     match number {
-        14 => TARGET25,
-        15 => IMM21,
-        16 => IMM21,
-        _ => NO_PACKED,
+        1 | 2 | 3 => Some(&TARGET25C),
+        9 => Some(&IMM21),
+        _ => None,
     }
 }
 
 #[tactic(auto, unfolding(crate::specs::Row::row_of, crate::specs::Row::lines))]
-fn row_i(number: u64) -> Packed
-    ensures { Packs result (row_of (i number)) }
+fn row_f(number: u64) -> Option<&'static Packed>
+    ensures { Packs (option_copied result) (row_of (f number)) }
 {
     match number {
-        1 => SHIFT,
-        6 => COUNT5,
-        8 => CCOUNT5,
-        10 => COUNT6,
-        16 => POS6,
-        18 => IMM21,
-        19 => IMM21,
-        20 => TARGET25B,
-        21 => TAG13,
-        23 => MASK17,
-        24 => IMM44,
-        27 => IMM8,
-        30 => IMM5,
-        _ => NO_PACKED,
+        14 => Some(&TARGET25),
+        15 | 16 => Some(&IMM21),
+        _ => None,
     }
 }
 
 #[tactic(auto, unfolding(crate::specs::Row::row_of, crate::specs::Row::lines))]
-fn row_m(number: u64) -> Packed
-    ensures { Packs result (row_of (m number)) }
+fn row_i(number: u64) -> Option<&'static Packed>
+    ensures { Packs (option_copied result) (row_of (i number)) }
 {
     match number {
-        3 => IMM9B,
-        5 => IMM9A,
-        8 => IMM9B,
-        10 => IMM9A,
-        15 => IMM9B,
-        17 => INCREMENT,
-        20 => TARGET25B,
-        21 => TARGET25B,
-        22 => TARGET25C,
-        23 => TARGET25C,
-        30 => IMM8,
-        37 => IMM21,
-        44 => IMM24,
-        48 => IMM21,
-        _ => NO_PACKED,
+        1 => Some(&SHIFT),
+        6 => Some(&COUNT5),
+        8 => Some(&CCOUNT5),
+        10 => Some(&COUNT6),
+        16 => Some(&POS6),
+        18 | 19 => Some(&IMM21),
+        20 => Some(&TARGET25B),
+        21 => Some(&TAG13),
+        23 => Some(&MASK17),
+        24 => Some(&IMM44),
+        27 => Some(&IMM8),
+        30 => Some(&IMM5),
+        _ => None,
     }
 }
 
 #[tactic(auto, unfolding(crate::specs::Row::row_of, crate::specs::Row::lines))]
-fn row_x(number: u64) -> Packed
-    ensures { Packs result (row_of (x number)) }
+fn row_m(number: u64) -> Option<&'static Packed>
+    ensures { Packs (option_copied result) (row_of (m number)) }
 {
     match number {
-        1 => IMM62,
-        2 => IMM64,
-        3 => TARGET64,
-        4 => TARGET64,
-        5 => IMM62,
-        _ => NO_PACKED,
+        3 | 8 | 15 => Some(&IMM9B),
+        5 | 10 => Some(&IMM9A),
+        17 => Some(&INCREMENT),
+        20 | 21 => Some(&TARGET25B),
+        22 | 23 => Some(&TARGET25C),
+        30 => Some(&IMM8),
+        37 | 48 => Some(&IMM21),
+        44 => Some(&IMM24),
+        _ => None,
+    }
+}
+
+#[tactic(auto, unfolding(crate::specs::Row::row_of, crate::specs::Row::lines))]
+fn row_x(number: u64) -> Option<&'static Packed>
+    ensures { Packs (option_copied result) (row_of (x number)) }
+{
+    match number {
+        1 | 5 => Some(&IMM62),
+        2 => Some(&IMM64),
+        3 | 4 => Some(&TARGET64),
+        _ => None,
     }
 }

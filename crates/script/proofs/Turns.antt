@@ -3,17 +3,15 @@
 use Rattle.std.proofs.Common.{◌≡◌, ℕ, ◌+◌, ◌-◌, ◌%◌, ◌^◌, ◌<◌, ◌≤◌, Bool, true, false, cond, not, ◌&&◌, ltb, leb, ◌⊎◌, List, [], ◌∷◌, ◌++◌, length, take, drop, sym, refl, ap, ◌∙◌, subst, ap₂, inl, inr, ⊎_elim, arith, length-append, drop_of_length-le, length-take-le, take_at, drop_at, ltb-false, le-leb}
 use mathlib.Core.Bool.{false≢true}
 use Rattle.record.specs.declared.Record.{Record}
-use Rattle.records.specs.Journal.{Journal, limit, view_of, valid_of, view_if, record_at}
+use Rattle.records.specs.Journal.{Journal, Shown, limit, view_of, valid_of, view_if, record_at}
 use Rattle.records.specs.Shared.{Shared, sharing, places_of, served_of}
+use Rattle.records.specs.declared.Counts.{Counts}
 use Rattle.records.specs.declared.Own.{Own}
-use Rattle.records.specs.declared.View.{View}
-use Rattle.records.specs.inner.Shows.{ShowsPart}
+use Rattle.records.specs.inner.Shows.{OwnView, as_shown, as_own_view, ShowsPart}
 use Rattle.records.proofs.Sharing.{places-within}
 use Rattle.records.proofs.Standing.{view-shown, view-counts, valid-counts, valid-few}
 use Rattle.journal.specs.Edit.{SharedOutcome, act_by}
-use Rattle.journal.specs.inner.Acted.{acted_of}
 use Rattle.journal.specs.declared.Act.{Act}
-use Rattle.journal.specs.declared.Acted.{Acted}
 use Rattle.journal.proofs.Kept.{act-answer}
 use Rattle.text.specs.Ascii.{tab, newline}
 use Rattle.text.specs.Decimal.{decimal}
@@ -22,10 +20,9 @@ use Rattle.text.proofs.Numerals.{decimal-length}
 use Rattle.text.proofs.Writing.{written_is, put-length}
 use Rattle.script.specs.Line.{lines_of, asked_in}
 use Rattle.script.specs.Script.{SoFar, standing_of, answer_line, bad_script, gone_on, asked, line_by, lines_by, longest_line, fitting, run_by}
-use Rattle.script.specs.inner.Going.{line_at, so_far, stopped_with, gone_with, Keeps, Goes}
+use Rattle.script.specs.inner.Going.{line_at, so_far, stopped_with, Keeps, Goes}
 use Rattle.script.specs.declared.State.{State}
-use Rattle.script.specs.declared.line.Asked.{Asked}
-use Rattle.script.specs.declared.line.Asked.TheVariants.{Does, Nothing}
+use Rattle.std.specs.Prelude.{Option, Some, None}
 use Rattle.script.proofs.Lines.{line_first}
 
 -- a line that is written isn't longer than the longest
@@ -55,7 +52,7 @@ stand-few s party = go (valid_of party places j) refl
 
     go : (t : Bool) → valid_of party places j ≡ t → (view_of party places j).count ≤ limit
     go true e = omega (arith, view-counts party places j e, valid-counts party places j e, valid-few party places j e, places-within s.parties party)
-    go false e = subst (λ (n : ℕ). n ≤ limit) (sym (ap (λ (w : View). w.count) (view-shown party places j ∙ ap (λ (t : Bool). view_if t j.count (record_at j (j.count - 1))) e))) (omega arith)
+    go false e = subst (λ (n : ℕ). n ≤ limit) (sym (ap (λ (w : Shown). w.count) (view-shown party places j ∙ ap (λ (t : Bool). view_if t j.count (record_at j (j.count - 1))) e))) (omega arith)
 
 -- a text that was written where there is room
 module _ {out out' text : List ℕ} {at next : ℕ} (p : Put out at text out' next) (room : at + length text ≤ length out) (short : length out < 2 ^ 64) where
@@ -83,49 +80,49 @@ unfolding line_by
 line-running party s l e = ap (λ (t : Bool). cond t s (asked party s l (asked_in s.next l))) e
 
 -- what is kept, before a line for which there is room
-module _ (party : ℕ) (t : State) (records : List Record) (code out : List ℕ) (l : List ℕ) (k : Keeps party t records out) (running : t.stopped ≡ false)
-    (room : t.length + longest_line ≤ length out) (next_fits : t.next < 2 ^ 64) (short : length out < 2 ^ 64) where
+module _ (party : ℕ) (t : State) (records : List Record) (code out : List ℕ) (l : List ℕ) (k : Keeps party t records out) (running : t.ran.stopped ≡ false)
+    (room : t.ran.length + longest_line ≤ length out) (next_fits : t.ran.next < 2 ^ 64) (short : length out < 2 ^ 64) where
   abbrev s : SoFar
   s = so_far t records code out
 
-  shown-count : {c : _} {rs : List Record} {o : Own} → ShowsPart c rs party o → o.view.count ≡ standing_of (sharing c rs) party
-  shown-count h = ap (λ (o : Own). o.view.count) h.is
+  shown-count : {c : _} {rs : List Record} {o : OwnView} → ShowsPart c rs party o → o.view.count ≡ standing_of (sharing c rs) party
+  shown-count h = ap (λ (o : OwnView). o.view.count) h.is
 
   -- it stops the script
-  pub stopped-right : (r : State) (out' : List ℕ) → asked_in t.next l ≡ Nothing → r ≡ stopped_with t r.length
-      → Put out t.length (answer_line t.next bad_script t.own.view.count) out' r.length
+  pub stopped-right : (r : State) (out' : List ℕ) → asked_in t.ran.next l ≡ None → r ≡ stopped_with t r.ran.length
+      → Put out t.ran.length (answer_line t.ran.next bad_script (as_shown t.own.view).count) out' r.ran.length
       → Keeps party r records out' × Goes t r out out' × (so_far r records code out' ≡ line_by party s l)
   stopped-right r out' nothing is p =
-      let few = subst (λ (n : ℕ). n ≤ limit) (sym (shown-count k.shows)) (stand-few (sharing t.counts records) party) in
-      let fits : t.length + length (answer_line t.next bad_script t.own.view.count) ≤ length out =
-      omega (arith, answer-length t.next bad_script t.own.view.count next_fits (omega arith) few) in
+      let few = subst (λ (n : ℕ). n ≤ limit) (sym (shown-count k.shows)) (stand-few (sharing t.ran.counts records) party) in
+      let fits : t.ran.length + length (answer_line t.ran.next bad_script (as_shown t.own.view).count) ≤ length out =
+      omega (arith, answer-length t.ran.next bad_script (as_shown t.own.view).count next_fits (omega arith) few) in
       let ends = put-end p fits short in
-      let written = put_front p fits short ∙ ap (λ (n : ℕ). take t.length out ++ answer_line t.next bad_script n) (shown-count k.shows) in (
-        record { shows = subst (λ (u : State). ShowsPart u.counts records party u.own) (sym is) k.shows; within = omega (arith, put-length p) },
+      let written = put_front p fits short ∙ ap (λ (n : ℕ). take t.ran.length out ++ answer_line t.ran.next bad_script n) (shown-count k.shows) in (
+        record { shows = subst (λ (u : State). ShowsPart u.ran.counts records party (as_own_view u.own)) (sym is) k.shows; within = omega (arith, put-length p) },
         record { more = omega arith; rest = put_rest p fits short },
         (λ i. so_far (is i) records code out')
-            ∙ (λ i. record { journal = s.journal; code = code; next = t.next; stopped = true; done = t.done; written = written i })
+            ∙ (λ i. record { journal = s.journal; code = code; next = t.ran.next; stopped = true; done = t.ran.done; written = written i })
             ∙ sym (line-running party s l running ∙ ap (asked party s l) nothing),
       )
 
   -- or it is done
-  pub gone-right : (act : Act) (a : Acted) (records' : List Record) (code' : List ℕ) (r : State) (end : ℕ) (out' : List ℕ)
-      → asked_in t.next l ≡ Does act → acted_of a records' code' ≡ act_by code (sharing t.counts records) party act → ShowsPart a.counts records' party a.own
-      → end ≡ t.done + length l → r ≡ gone_with t a end r.length
-      → Put out t.length (answer_line t.next a.answer a.own.view.count) out' r.length
+  pub gone-right : (act : Act) (answer : ℕ) (counts : Counts) (own : Own) (records' : List Record) (code' : List ℕ) (r : State) (end : ℕ) (out' : List ℕ)
+      → asked_in t.ran.next l ≡ Some act → record { answer = answer; journal = sharing counts records'; code = code' } ≡ act_by code (sharing t.ran.counts records) party act
+      → ShowsPart counts records' party (as_own_view own)
+      → end ≡ t.ran.done + length l → r ≡ record { ran = record { counts = counts; next = (t.ran.next + 1) % 2 ^ 64; stopped = false; done = end; length = r.ran.length }; own = own }
+      → Put out t.ran.length (answer_line t.ran.next answer (as_shown own.view).count) out' r.ran.length
       → Keeps party r records' out' × Goes t r out out' × (so_far r records' code' out' ≡ line_by party s l)
-  gone-right act a records' code' r end out' does comes shows ends is p =
-      let few = subst (λ (n : ℕ). n ≤ limit) (sym (shown-count shows)) (stand-few (sharing a.counts records') party) in
-      let answer = ap (λ (u : SharedOutcome). u.answer) comes in
-      let small = subst (λ (n : ℕ). n < 100) (sym answer) (act-answer party code (sharing t.counts records) act) in
-      let fits : t.length + length (answer_line t.next a.answer a.own.view.count) ≤ length out =
-      omega (arith, answer-length t.next a.answer a.own.view.count next_fits small few) in
+  gone-right act answer counts own records' code' r end out' does comes shows ends is p =
+      let few = subst (λ (n : ℕ). n ≤ limit) (sym (shown-count shows)) (stand-few (sharing counts records') party) in
+      let small = subst (λ (n : ℕ). n < 100) (sym (ap (λ (u : SharedOutcome). u.answer) comes)) (act-answer party code (sharing t.ran.counts records) act) in
+      let fits : t.ran.length + length (answer_line t.ran.next answer (as_shown own.view).count) ≤ length out =
+      omega (arith, answer-length t.ran.next answer (as_shown own.view).count next_fits small few) in
       let end_is = put-end p fits short in
-      let written = put_front p fits short ∙ ap (λ (n : ℕ). take t.length out ++ answer_line t.next a.answer n) (shown-count shows) in (
-        record { shows = subst (λ (u : State). ShowsPart u.counts records' party u.own) (sym is) shows; within = omega (arith, put-length p) },
+      let written = put_front p fits short ∙ ap (λ (n : ℕ). take t.ran.length out ++ answer_line t.ran.next answer n) (shown-count shows) in (
+        record { shows = subst (λ (u : State). ShowsPart u.ran.counts records' party (as_own_view u.own)) (sym is) shows; within = omega (arith, put-length p) },
         record { more = omega arith; rest = put_rest p fits short },
         (λ i. so_far (is i) records' code' out')
-            ∙ (λ i. record { journal = sharing a.counts records'; code = code'; next = (t.next + 1) % 2 ^ 64; stopped = false; done = ends i; written = written i })
+            ∙ (λ i. record { journal = sharing counts records'; code = code'; next = (t.ran.next + 1) % 2 ^ 64; stopped = false; done = ends i; written = written i })
             ∙ ap (gone_on party s l) comes
             ∙ sym (line-running party s l running ∙ ap (asked party s l) does),
       )
@@ -141,9 +138,9 @@ module _ (party : ℕ) (s : SoFar) (l : List ℕ) (running : s.stopped ≡ false
   pub line-moves : Stops (line_by party s l) ⊎ Moves (line_by party s l)
   line-moves = subst (λ (u : SoFar). Stops u ⊎ Moves u) (sym (line-running party s l running)) (go (asked_in s.next l))
     where
-      go : (a : Asked) → Stops (asked party s l a) ⊎ Moves (asked party s l a)
-      go (Does act) = inr (refl, refl)
-      go Nothing = inl (refl, refl)
+      go : (a : Option Act) → Stops (asked party s l a) ⊎ Moves (asked party s l a)
+      go (Some act) = inr (refl, refl)
+      go None = inl (refl, refl)
 
 -- a script that stopped stays so
 pub lines-stopped : (party : ℕ) (s : SoFar) → s.stopped ≡ true → (ls : List (List ℕ)) → lines_by party s ls ≡ s

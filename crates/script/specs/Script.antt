@@ -1,7 +1,8 @@
 -- A script run: its lines one after the other, each in turn an edit or an undo of the party as it is on its own, and a line of output for
 -- each. A line that doesn't read or is out of turn stops it. Assumes nothing.
-use Rattle.std.specs.Prelude.{ℕ, ◌+◌, ◌%◌, ◌^◌, Bool, true, false, cond, List, [], ◌∷◌, ◌++◌, length, drop, nat_le}
+use Rattle.std.specs.Prelude.{ℕ, ◌+◌, ◌%◌, ◌^◌, Bool, true, false, cond, List, [], ◌∷◌, ◌++◌, length, drop, nat_le, Option, Some, None}
 use Rattle.journal.specs.Edit.{SharedOutcome, act_by}
+use Rattle.journal.specs.declared.Act.{Act}
 use Rattle.record.specs.declared.Record.{Record}
 use Rattle.records.specs.Journal.{view_of}
 use Rattle.records.specs.Shared.{Shared, sharing, places_of, served_of}
@@ -9,8 +10,6 @@ use Rattle.text.specs.Ascii.{line}
 use Rattle.text.specs.Decimal.{decimal}
 use Rattle.script.specs.Line.{lines_of, asked_in}
 use Rattle.script.specs.declared.Ran.{Ran}
-use Rattle.script.specs.declared.line.Asked.{Asked}
-use Rattle.script.specs.declared.line.Asked.TheVariants.{Does, Nothing}
 
 -- what there is after some lines: the journal and the code, the number expected, whether the script stopped, how many bytes of it are done,
 -- and the lines written
@@ -57,9 +56,9 @@ stopped_at party s =
       written = s.written ++ answer_line s.next bad_script (standing_of s.journal party);
     }
 
-abbrev pub asked : ℕ → SoFar → List ℕ → Asked → SoFar
-asked party s l (Does act) = gone_on party s l (act_by s.code s.journal party act)
-asked party s l Nothing = stopped_at party s
+abbrev pub asked : ℕ → SoFar → List ℕ → Option Act → SoFar
+asked party s l (Some act) = gone_on party s l (act_by s.code s.journal party act)
+asked party s l None = stopped_at party s
 
 -- after one line; a script that stopped stays stopped
 unfoldable pub line_by : ℕ → SoFar → List ℕ → SoFar

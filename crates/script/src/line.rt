@@ -6,23 +6,15 @@ ghost use Rattle.text.specs.Ascii.{starts_with};
 ghost use Rattle.script.specs.Line.{edit_at, act_at, asked_in};
 ghost use Rattle.script.specs.inner.Going.{line_at};
 
-use form::{Edit, Form};
+use form::{Edit, Form, NO_FORM};
 use journal::Act;
-use name::Name;
 use operand::Operand;
-use text::{NEWLINE, Number, TAB};
+use text::{NEWLINE, TAB};
 
-// What a line asks for, or that it stops the script.
-#[derive(Clone, Copy)]
-pub enum Asked {
-    Does(Act),
-    Nothing,
-}
-
-// What the line at a place of a text asks, and the place after it.
+// What the line at a place of a text asks, where it doesn't stop the script, and the place after it.
 #[derive(Clone, Copy)]
 pub struct Turn {
-    pub asked: Asked,
+    pub asked: Option<Act>,
     pub end: usize,
 }
 
@@ -47,30 +39,27 @@ fn end_of(text: &[u8], at: usize) -> usize
 }
 
 // What a line asks while that number is expected.
-fn asked_in(line: &[u8], next: u64) -> Asked
+fn asked_in(line: &[u8], next: u64) -> Option<Act>
     ensures { result ≡ asked_in next line.now }
 {
-    let first = text::read_field(line, 0, TAB);
-    let Number::Read(number, at) = first else {
-        return Asked::Nothing;
-    };
+    let (number, at) = text::read_field(line, 0, TAB)?;
     if (number == next) & (number != 0) {
         act_at(line, at)
     } else {
-        Asked::Nothing
+        None
     }
 }
 
-fn act_at(line: &[u8], at: usize) -> Asked
+fn act_at(line: &[u8], at: usize) -> Option<Act>
     ensures { result ≡ act_at line.now at }
 {
     if is_word(line, at, b"edit\t") {
         return edit_at(line, at + 5);
     }
     if is_word(line, at, b"undo\n") {
-        return Asked::Does(Act::Undo);
+        return Some(Act::Undo);
     }
-    Asked::Nothing
+    None
 }
 
 // Whether the word stands at a place.
@@ -83,38 +72,25 @@ fn is_word(line: &[u8], at: usize, word: &[u8]) -> bool
     text::begins(&line[at..], word)
 }
 
-fn edit_at(line: &[u8], at: usize) -> Asked
+fn edit_at(line: &[u8], at: usize) -> Option<Act>
     ensures { result ≡ edit_at line.now at }
 {
-    let first = text::read_field(line, at, TAB);
-    let Number::Read(bundle, second) = first else {
-        return Asked::Nothing;
-    };
-    let then = text::read_field(line, second, TAB);
-    let Number::Read(slot, third) = then else {
-        return Asked::Nothing;
-    };
-    let named = name::read_field(line, third, TAB);
-    let Name::Read(form, fourth) = named else {
-        return Asked::Nothing;
-    };
-    if (form.family == 0) & (form.number == 0) {
-        return Asked::Nothing; // `-`
+    let (bundle, second) = text::read_field(line, at, TAB)?;
+    let (slot, third) = text::read_field(line, second, TAB)?;
+    let (form, fourth) = name::read_field(line, third, TAB)?;
+    if form == NO_FORM {
+        return None; // `-`
     }
-    let last = text::read_field(line, fourth, NEWLINE);
-    let Number::Read(pattern, _) = last else {
-        return Asked::Nothing;
-    };
-    Asked::Does(Act::Edit(edit_of(bundle, slot, form, pattern)))
+    let (pattern, _) = text::read_field(line, fourth, NEWLINE)?;
+    Some(Act::Edit(edit_of(bundle, slot, form, pattern)))
 }
 
 // The edit whose value has that pattern, with the sign that the form's values have.
 fn edit_of(bundle: u64, slot: u64, form: Form, pattern: u64) -> Edit
     ensures { result ≡ edit_by_pattern bundle slot form pattern }
 {
-    let packed = row::packed_of(form);
-    let meaning = row::meaning_of(packed.kind, packed.number);
-    let value = value_of(meaning::has_sign(meaning), pattern);
+    let signed = row::packed_of(form).is_some_and(|row| meaning::has_sign(row.meaning));
+    let value = value_of(signed, pattern);
     Edit {
         bundle,
         slot,
@@ -127,7 +103,7 @@ fn value_of(signed: bool, pattern: u64) -> Operand
     ensures { result ≡ patterned signed pattern }
 {
     if signed {
-        Operand::ImmI64(operand::integer(pattern))
+        Operand::ImmI64(pattern.cast_signed())
     } else {
         Operand::ImmU64(pattern)
     }

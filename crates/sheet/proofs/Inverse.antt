@@ -3,7 +3,9 @@
 use mathlib.Core.Path.{◌≡◌, refl, sym, ap, ◌∙◌, subst}
 use mathlib.Core.Bool.{Bool, true, false, decide_iff}
 use mathlib.Core.List.{List, [], ◌∷◌, ◌++◌, append-nil, List-discrete}
-use mathlib.Core.Option.{Option, none, some, none-ne-some}
+use mathlib.Core.Option.{none, some, none-ne-some}
+use mathlib.Core.Option as maybe
+use Rattle.std.specs.Prelude.{Option, Some, None}
 use Prim.Native.Nat.{ℕ, zero, suc, ◌+◌, ◌≤◌, ◌<◌, ◌^◌}
 use native.Mathlib.Omega.{arith}
 use native.Mathlib.Decide.{dec_lt, ℕ_discrete}
@@ -21,8 +23,7 @@ use Rattle.record.specs.declared.Record.{Record}
 use Rattle.table.specs.Ascii.{ascii}
 use Rattle.text.specs.Ascii.{newline, starts_with}
 use Rattle.text.specs.Decimal.{decimal}
-use Rattle.text.specs.declared.number.Number.{Number}
-use Rattle.text.specs.declared.number.Number.TheVariants.{Read, Refused}
+use Rattle.text.proofs.Numbers.{no_number, some-parts}
 use Rattle.text.proofs.RoundTrip.{starts_is, field-read, field_back}
 use Rattle.text.proofs.Stands.{Stands, whole-stands, stands-then, stands_parts}
 use Rattle.sheet.specs.RoundTrip.{HasSheet, LoadsWritten, LoadsOnlyWritten, RefusesOther, RefusesMore, RefusesFull, RefusesInvalid}
@@ -52,7 +53,7 @@ counted count = decimal count ++ (newline ∷ [])
 -- a text that begins with the first line and goes on with the lines
 record Begun (text : List ℕ) (count : ℕ) (rest : List ℕ) : Type 0 where
   at : ℕ
-  head : head_of text ≡ Read count at
+  head : head_of text ≡ Some (count, at)
   lines : Stands text at rest (length text)
 
 begun : (text : List ℕ) (count : ℕ) (rest : List ℕ) → count < 2 ^ 64 → text ≡ header_of count ++ rest → Begun text count rest
@@ -94,12 +95,12 @@ record Headed (text : List ℕ) (count at : ℕ) : Type 0 where
   starts : text ≡ ascii "patches\t" ++ drop 8 text
   counts : Stands text 8 (counted count) at
 
-headed : (text : List ℕ) (count at : ℕ) → head_of text ≡ Read count at → Headed text count at
+headed : (text : List ℕ) (count at : ℕ) → head_of text ≡ Some (count, at) → Headed text count at
 unfolding head_of
 headed text count at e = go (starts_with (ascii "patches\t") text) refl
   where
     go : (t : Bool) → starts_with (ascii "patches\t") text ≡ t → Headed text count at
-    go false s = absurd (let f : Refused ≡ Read count at = rw s at e in let z : ◌≡◌ {A = ℕ} 0 1 = cc in omega arith)
+    go false s = absurd (no_number (rw s at e))
     go true s = record { starts = starts_is (ascii "patches\t") text s; counts = (field-read text 8 10 count at (rw s at e)).piece }
 
 -- sheets of at most so many records, and a party's
@@ -128,16 +129,16 @@ module _ (most party : ℕ) where
     count : ℕ
     at : ℕ
     few : count ≤ most
-    head : head_of text ≡ Read count at
+    head : head_of text ≡ Some (count, at)
     lines : records_at party kind text at count ≡ some rs
 
   gave : (kind : Kind) (text : List ℕ) (rs : List Record) → records_as most party kind text ≡ some rs → Gave kind text rs
   unfolding records_as
   gave kind text rs = go (head_of text) refl
     where
-      go : (m : Number) → head_of text ≡ m → records_as most party kind text ≡ some rs → Gave kind text rs
-      go Refused e f = absurd (none-ne-some rs (rw e at f))
-      go (Read count at) e f =
+      go : (m : Option (ℕ × ℕ)) → head_of text ≡ m → records_as most party kind text ≡ some rs → Gave kind text rs
+      go None e f = absurd (none-ne-some rs (rw e at f))
+      go (Some (count, at)) e f =
           elim (dec_lt most count) [
             | yes h ↦ absurd (none-ne-some rs (rw (e, lt-leb count most h) at f))
             | no h ↦
@@ -173,23 +174,23 @@ module _ (most party : ℕ) where
   both text rs qs f g =
       let a = gave Full text rs f in
       let b = gave Old text qs g in
-      let e : Read b.count b.at ≡ Read a.count a.at = sym b.head ∙ a.head in
-      let n : b.count ≡ a.count = cc in
-      let p : b.at ≡ a.at = cc in
+      let e : ◌≡◌ {A = Option (ℕ × ℕ)} (Some (b.count, b.at)) (Some (a.count, a.at)) = sym b.head ∙ a.head in
+      let n = (some-parts e).0 in
+      let p = (some-parts e).1 in
       one-kind party text a.at a.count rs qs a.lines (rw (n, p) at b.lines)
 
   given-as : (kind : Kind) (text : List ℕ) (rs : List Record) → records_as most party kind text ≡ some rs → records_in most party text ≡ some rs
   given-as Full text rs e = rw e
   given-as Old text rs e = go (records_as most party Full text) refl
     where
-      go : (o : Option (List Record)) → records_as most party Full text ≡ o → or_else o (records_as most party Old text) ≡ some rs
+      go : (o : maybe.Option (List Record)) → records_as most party Full text ≡ o → or_else o (records_as most party Old text) ≡ some rs
       go none q = e
       go (some qs) q = ap some (both text qs rs q e)
 
   of-kind : (text : List ℕ) (rs : List Record) → records_in most party text ≡ some rs → (kind : Kind) × (records_as most party kind text ≡ some rs)
   of-kind text rs = go (records_as most party Full text) refl
     where
-      go : (o : Option (List Record)) → records_as most party Full text ≡ o → or_else o (records_as most party Old text) ≡ some rs → (kind : Kind) × (records_as most party kind text ≡ some rs)
+      go : (o : maybe.Option (List Record)) → records_as most party Full text ≡ o → or_else o (records_as most party Old text) ≡ some rs → (kind : Kind) × (records_as most party kind text ≡ some rs)
       go none q e = (Old, e)
       go (some qs) q e = (Full, q ∙ e)
 
@@ -229,7 +230,7 @@ pub load-taken : (most party places : ℕ) (given : Journal) (text : List ℕ) �
 unfolding load_of
 load-taken most party places given text = by (valid_of party places given) refl (records_in most party text) refl
   where
-    by : (v : Bool) → valid_of party places given ≡ v → (o : Option (List Record)) → records_in most party text ≡ o → (load_of most party places given text).answer ≡ accepted → Taken most party places given text
+    by : (v : Bool) → valid_of party places given ≡ v → (o : maybe.Option (List Record)) → records_in most party text ≡ o → (load_of most party places given text).answer ≡ accepted → Taken most party places given text
     by false v o q a = absurd (omega (arith, rw v at a))
     by true v none q a = absurd (omega (arith, rw (v, q) at a))
     by true v (some rs) q a =
@@ -250,7 +251,7 @@ load-only-written most party places given text e =
 pub refuses-other : RefusesOther
 refuses-other most party places given text valid none_is = loads-valid most party places given text valid ∙ go (records_in most party text) refl
   where
-    go : (o : Option (List Record)) → records_in most party text ≡ o → loaded_with places given o ≡ record { answer = bad_sheet; journal = given }
+    go : (o : maybe.Option (List Record)) → records_in most party text ≡ o → loaded_with places given o ≡ record { answer = bad_sheet; journal = given }
     go none q = refl
     go (some rs) q =
         let k = of-kind most party text rs q in

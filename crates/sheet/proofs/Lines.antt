@@ -4,7 +4,9 @@ use mathlib.Core.Path.{◌≡◌, refl, sym, ap, ap₂, ◌∙◌, subst}
 use mathlib.Core.Bool.{Bool, true, false, cond}
 use mathlib.Core.List.{List, [], ◌∷◌, ◌++◌, append_assoc}
 use mathlib.Core.Logic.{inl, inr}
-use mathlib.Core.Option.{Option, none, some}
+use mathlib.Core.Option.{none, some}
+use mathlib.Core.Option as maybe
+use Rattle.std.specs.Prelude.{Option, Some, None}
 use Prim.Native.Nat.{ℕ, zero, suc, ◌+◌, ◌≤◌}
 use native.Mathlib.Omega.{arith}
 use lib.Dec.{T}
@@ -14,8 +16,6 @@ use lib.Seq.{append_snoc, drop-cons, take_all}
 use borrow.Author.Tests.{le-leb}
 use Rattle.form.specs.declared.Form.{Form}
 use Rattle.name.specs.Name.{name_of, has_name, named_at}
-use Rattle.name.specs.declared.Name.{Name}
-use Rattle.name.specs.declared.Name.TheVariants as name
 use Rattle.name.proofs.Names.{named-read, named_back}
 use Rattle.record.specs.Record.{whole_record, is_whole, passes, may_stand, fits64, line_numbers}
 use Rattle.record.specs.declared.Record.{Record}
@@ -27,8 +27,7 @@ use Rattle.text.proofs.RoundTrip.{fields_read, fields_back}
 use Rattle.text.proofs.Stands.{Stands, stands-then, stands_parts}
 use Rattle.sheet.specs.declared.line.Kind.{Kind}
 use Rattle.sheet.specs.declared.line.Kind.TheVariants.{Full, Old}
-use Rattle.sheet.specs.declared.line.Line.{Line}
-use Rattle.sheet.specs.declared.line.Line.TheVariants.{Read, Refused}
+use Rattle.text.proofs.Numbers.{no_number, some-parts}
 use Rattle.sheet.specs.Load.{front_ends, ends, full_record, old_record, read_as, tested, line_at}
 use Rattle.sheet.specs.Sheet.{line_as, tells}
 use Rattle.sheet.proofs.Held.{words, are_words}
@@ -88,21 +87,18 @@ pub record FullRead (party : ℕ) (text : List ℕ) (at : ℕ) (r : Record) (nex
   pub numbers : List ℕ
   pub last : ℕ
   pub first : fields_at text at front_ends ≡ some (front, second)
-  pub named : named_at text second tab ≡ name.Read form third
+  pub named : named_at text second tab ≡ Some (form, third)
   pub rest : fields_at text third ends ≡ some (numbers, last)
-  pub is : Read (full_record party front form numbers) last ≡ Read r next
-
-pub no_line : {r : Record} {next : ℕ} → Refused ≡ Read r next → ⊥
-no_line e = let z : ◌≡◌ {A = ℕ} 0 1 = cc in omega arith
+  pub is : ◌≡◌ {A = Option (Record × ℕ)} (Some (full_record party front form numbers, last)) (Some (r, next))
 
 module _ (party : ℕ) (text : List ℕ) (at : ℕ) (r : Record) (next : ℕ) where
-  old-read : (o : Option (List ℕ × ℕ)) → fields_at text at ends ≡ o → read_as party Old text at ≡ Read r next → LineRead Old text at r next
+  old-read : (o : maybe.Option (List ℕ × ℕ)) → fields_at text at ends ≡ o → read_as party Old text at ≡ Some (r, next) → LineRead Old text at r next
   unfolding read_as
-  old-read none e f = absurd (no_line (rw e at f))
+  old-read none e f = absurd (no_number (rw e at f))
   old-read (some q) e f =
-      let g : Read (old_record party q.0) q.1 ≡ Read r next = rw e at f in
-      let v : old_record party q.0 ≡ r = cc in
-      let p : q.1 ≡ next = cc in
+      let g : ◌≡◌ {A = Option (Record × ℕ)} (Some (old_record party q.0, q.1)) (Some (r, next)) = rw e at f in
+      let v = (some-parts g).0 in
+      let p = (some-parts g).1 in
       let s = fields_read text ends at q.0 q.1 e in
       let same = sym (all_of 5 q.0 s.count) in
       let w = subst Words same s.words in
@@ -116,8 +112,8 @@ module _ (party : ℕ) (text : List ℕ) (at : ℕ) (r : Record) (next : ℕ) wh
   full-stands : FullRead party text at r next → LineRead Full text at r next
   full-stands f =
       let one = full_record party f.front f.form f.numbers in
-      let v : one ≡ r = cc f.is in
-      let p : f.last ≡ next = cc f.is in
+      let v = (some-parts f.is).0 in
+      let p = (some-parts f.is).1 in
       let s = fields_read text front_ends at f.front f.second f.first in
       let t = named-read text f.second tab f.form f.third f.named in
       let u = fields_read text ends f.third f.numbers f.last f.rest in
@@ -134,29 +130,29 @@ module _ (party : ℕ) (text : List ℕ) (at : ℕ) (r : Record) (next : ℕ) wh
         told = tt;
       })
 
-  pub full-read : read_as party Full text at ≡ Read r next → FullRead party text at r next
+  pub full-read : read_as party Full text at ≡ Some (r, next) → FullRead party text at r next
   unfolding read_as
   full-read f = by_front (fields_at text at front_ends) refl
     where
-      by-tail : (q : List ℕ × ℕ) → fields_at text at front_ends ≡ some q → (form : Form) (b : ℕ) → named_at text q.1 tab ≡ name.Read form b → (o : Option (List ℕ × ℕ)) → fields_at text b ends ≡ o → FullRead party text at r next
-      by-tail q e form b n none t = absurd (no_line (rw (e, n, t) at f))
+      by-tail : (q : List ℕ × ℕ) → fields_at text at front_ends ≡ some q → (form : Form) (b : ℕ) → named_at text q.1 tab ≡ Some (form, b) → (o : maybe.Option (List ℕ × ℕ)) → fields_at text b ends ≡ o → FullRead party text at r next
+      by-tail q e form b n none t = absurd (no_number (rw (e, n, t) at f))
       by-tail q e form b n (some u) t =
           record { front = q.0; second = q.1; form = form; third = b; numbers = u.0; last = u.1; first = e; named = n; rest = t; is = rw (e, n, t) at f }
 
-      by_name : (q : List ℕ × ℕ) → fields_at text at front_ends ≡ some q → (m : Name) → named_at text q.1 tab ≡ m → FullRead party text at r next
-      by_name q e name.Refused n = absurd (no_line (rw (e, n) at f))
-      by_name q e (name.Read form b) n = by-tail q e form b n (fields_at text b ends) refl
+      by_name : (q : List ℕ × ℕ) → fields_at text at front_ends ≡ some q → (m : Option (Form × ℕ)) → named_at text q.1 tab ≡ m → FullRead party text at r next
+      by_name q e None n = absurd (no_number (rw (e, n) at f))
+      by_name q e (Some (form, b)) n = by-tail q e form b n (fields_at text b ends) refl
 
-      by_front : (o : Option (List ℕ × ℕ)) → fields_at text at front_ends ≡ o → FullRead party text at r next
-      by_front none e = absurd (no_line (rw e at f))
+      by_front : (o : maybe.Option (List ℕ × ℕ)) → fields_at text at front_ends ≡ o → FullRead party text at r next
+      by_front none e = absurd (no_number (rw e at f))
       by_front (some q) e = by_name q e (named_at text q.1 tab) refl
 
-  read-stands : (kind : Kind) → read_as party kind text at ≡ Read r next → LineRead kind text at r next
+  read-stands : (kind : Kind) → read_as party kind text at ≡ Some (r, next) → LineRead kind text at r next
   read-stands Full f = full-stands (full-read f)
   read-stands Old f = old-read (fields_at text at ends) refl f
 
   -- what stands there is read
-  full_back : T (may_stand party r) → T (fits64 r) → Stands text at (line_as Full r) next → read_as party Full text at ≡ Read r next
+  full_back : T (may_stand party r) → T (fits64 r) → Stands text at (line_as Full r) next → read_as party Full text at ≡ Some (r, next)
   unfolding read_as
   full_back m h s =
       let w = words (line_numbers r) h in
@@ -167,35 +163,35 @@ module _ (party : ℕ) (text : List ℕ) (at : ℕ) (r : Record) (next : ℕ) wh
         fields_back text front_ends (front_of r) at _ (refl, (refl, tt)) (record { count = refl; words = (w.0, (w.1.0, tt)); piece = p.0 }),
         named_back text _ tab r.form _ refl (record { middle = _; name = record { named = may-named party r m; below = w.1.1.0; piece = t.0 }; byte = t.1 }),
         fields_back text ends (tail_of r.value r) _ next (refl, (refl, (refl, (refl, (refl, tt))))) (record { count = refl; words = w.1.1.1; piece = q.1 }),
-      ) (ap (λ (p : ℕ). Read (full_record p (front_of r) r.form (tail_of r.value r)) next) (sym (may-party party r m)))
+      ) (ap (λ (p : ℕ). Some (full_record p (front_of r) r.form (tail_of r.value r), next)) (sym (may-party party r m)))
 
-  old-back : T (may_stand party r) → T (is_whole r) → T (fits64 r) → Stands text at (line_as Old r) next → read_as party Old text at ≡ Read r next
+  old-back : T (may_stand party r) → T (is_whole r) → T (fits64 r) → Stands text at (line_as Old r) next → read_as party Old text at ≡ Some (r, next)
   unfolding read_as
   old-back m t h s =
       let w = words (line_numbers r) h in
       rw (fields_back text ends (tail_of r.bundle r) at next (refl, (refl, (refl, (refl, (refl, tt))))) (record { count = refl; words = (w.0, w.1.1.1.1); piece = subst (λ (l : List ℕ). Stands text at l next) (sym (old-line r)) s }))
-      (ap (λ (p : ℕ). Read (whole_record p r.bundle r.old r.new) next) (sym (may-party party r m)) ∙ ap (λ (q : Record). Read q next) (sym (whole_is r t)))
+      (ap (λ (p : ℕ). Some (whole_record p r.bundle r.old r.new, next)) (sym (may-party party r m)) ∙ ap (λ (q : Record). Some (q, next)) (sym (whole_is r t)))
 
-  read_back : (kind : Kind) → T (may_stand party r) → T (fits64 r) → T (tells kind r) → Stands text at (line_as kind r) next → read_as party kind text at ≡ Read r next
+  read_back : (kind : Kind) → T (may_stand party r) → T (fits64 r) → T (tells kind r) → Stands text at (line_as kind r) next → read_as party kind text at ≡ Some (r, next)
   read_back Full m h t s = full_back m h s
   read_back Old m h t s = old-back m t h s
 
   -- and so of lines whose records may stand
-  pub line_taken : (kind : Kind) → line_at party kind text at ≡ Read r next → T (may_stand party r) × (read_as party kind text at ≡ Read r next)
+  pub line_taken : (kind : Kind) → line_at party kind text at ≡ Some (r, next) → T (may_stand party r) × (read_as party kind text at ≡ Some (r, next))
   unfolding line_at
   line_taken kind = go (read_as party kind text at) refl
     where
-      by-test : (q : Record) (last : ℕ) → read_as party kind text at ≡ Read q last → (t : Bool) → may_stand party q ≡ t → cond t (Read q last) Refused ≡ Read r next → T (may_stand party r) × (read_as party kind text at ≡ Read r next)
-      by-test q last e false m f = absurd (no_line f)
-      by-test q last e true m f = let v : q ≡ r = cc in (subst T (sym m ∙ ap (may_stand party) v) tt, e ∙ f)
+      by-test : (q : Record) (last : ℕ) → read_as party kind text at ≡ Some (q, last) → (t : Bool) → may_stand party q ≡ t → cond {A = Option (Record × ℕ)} t (Some (q, last)) None ≡ Some (r, next) → T (may_stand party r) × (read_as party kind text at ≡ Some (r, next))
+      by-test q last e false m f = absurd (no_number f)
+      by-test q last e true m f = let v = (some-parts f).0 in (subst T (sym m ∙ ap (may_stand party) v) tt, e ∙ f)
 
-      go : (m : Line) → read_as party kind text at ≡ m → tested party m ≡ Read r next → T (may_stand party r) × (read_as party kind text at ≡ Read r next)
-      go Refused e f = absurd (no_line f)
-      go (Read q last) e f = by-test q last e (may_stand party q) refl f
+      go : (m : Option (Record × ℕ)) → read_as party kind text at ≡ m → tested party m ≡ Some (r, next) → T (may_stand party r) × (read_as party kind text at ≡ Some (r, next))
+      go None e f = absurd (no_number f)
+      go (Some (q, last)) e f = by-test q last e (may_stand party q) refl f
 
-  pub line_read : (kind : Kind) → line_at party kind text at ≡ Read r next → T (may_stand party r) × LineRead kind text at r next
+  pub line_read : (kind : Kind) → line_at party kind text at ≡ Some (r, next) → T (may_stand party r) × LineRead kind text at r next
   line_read kind e = let t = line_taken kind e in (t.0, read-stands kind t.1)
 
-  pub line-back : (kind : Kind) → T (may_stand party r) → T (fits64 r) → T (tells kind r) → Stands text at (line_as kind r) next → line_at party kind text at ≡ Read r next
+  pub line-back : (kind : Kind) → T (may_stand party r) → T (fits64 r) → T (tells kind r) → Stands text at (line_as kind r) next → line_at party kind text at ≡ Some (r, next)
   unfolding line_at
   line-back kind m h t s = rw (read_back kind m h t s, is_true (may_stand party r) m)

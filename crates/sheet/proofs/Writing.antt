@@ -10,15 +10,13 @@ use Rattle.answer.specs.Answer.{accepted, bad_journal}
 use Rattle.record.specs.declared.Record.{Record}
 use Rattle.records.specs.Journal.{Journal, lent}
 use Rattle.records.specs.Shared.{sharing, places_of, served_of}
-use Rattle.records.specs.inner.Shows.{Shows}
+use Rattle.records.specs.inner.Shows.{OwnView, Shows}
 use Rattle.records.specs.declared.Counts.{Counts}
-use Rattle.records.specs.declared.Own.{Own}
-use Rattle.text.specs.Whole.{wrote_of}
-use Rattle.text.specs.declared.whole.Written.{Written}
+use Rattle.text.specs.Whole.{Written, wrote_of}
 use Rattle.text.proofs.Wholes.{whole-refused}
 use Rattle.sheet.specs.Sheet.{write_refusals}
 
-module _ {c : Counts} {rs : List Record} {party : ℕ} {o : Own} (shows : Shows c rs party o) (out : List ℕ) (text_of : Journal → List ℕ) where
+module _ {c : Counts} {rs : List Record} {party : ℕ} {o : OwnView} (shows : Shows c rs party o) (out : List ℕ) (text_of : Journal → List ℕ) where
   abbrev wrote : Written × List ℕ
   wrote = let j = served_of (sharing c rs) party in wrote_of (write_refusals party (places_of c.parties party) j) (text_of j) out
 

@@ -1,7 +1,7 @@
 -- The sheet of a journal: a line with the count, and a line for each standing record, the oldest first. There are two kinds of line: those
 -- that are written, and the old ones, from before records had a slot, a form and a value. Assumes nothing.
 use Rattle.std.specs.Prelude.{ℕ, zero, suc, ◌-◌, ◌<◌, ◌≡◌, Bool, true, cond, not, List, [], ◌∷◌, ◌++◌, eqb, leb, length, get_or}
-use Rattle.answer.specs.Answer.{Refusal, bad_journal}
+use Rattle.answer.specs.Answer.{Reason, bad_journal}
 use Rattle.name.specs.Name.{name_of}
 use Rattle.record.specs.Record.{no_record, is_whole}
 use Rattle.record.specs.declared.Record.{Record}
@@ -10,8 +10,7 @@ use Rattle.records.specs.Shared.{Shared, places_of, served_of}
 use Rattle.table.specs.Ascii.{ascii}
 use Rattle.text.specs.Ascii.{line}
 use Rattle.text.specs.Decimal.{decimal}
-use Rattle.text.specs.Whole.{wrote_of}
-use Rattle.text.specs.declared.whole.Written.{Written}
+use Rattle.text.specs.Whole.{Written, wrote_of}
 use Rattle.sheet.specs.declared.line.Kind.{Kind}
 use Rattle.sheet.specs.declared.line.Kind.TheVariants.{Full, Old}
 
@@ -68,7 +67,7 @@ abbrev pub capacity : ℕ
 capacity = 118797
 
 -- which journal has no sheet
-abbrev pub write_refusals : ℕ → ℕ → Journal → List Refusal
+abbrev pub write_refusals : ℕ → ℕ → Journal → List Reason
 write_refusals party places j = (bad_journal, not (valid_of party places j)) ∷ []
 
 -- what a party's writing comes to: its own journal's sheet, or line i of that

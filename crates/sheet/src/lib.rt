@@ -10,54 +10,46 @@ ghost use Rattle.records.specs.Journal.{lent};
 ghost use Rattle.records.specs.Shared.{sharing};
 ghost use Rattle.journal.specs.Edit.{journal_outcome_of};
 ghost use Rattle.text.specs.Put.{Put};
-ghost use Rattle.text.specs.Whole.{wrote_of};
+ghost use Rattle.text.specs.Whole.{as_written, wrote_of};
 ghost use Rattle.sheet.specs.Sheet.{sheet_of, capacity, write_by, write_line_by};
 ghost use Rattle.sheet.specs.Load.{load_by};
 ghost use Rattle.sheet.specs.inner.Finds.{Fills};
 
-use answer::{ACCEPTED, BAD_JOURNAL, NO_ROOM};
-use journal::Edited;
+use answer::Refusal;
 use look::Found;
 use record::Record;
 use records::Counts;
-use text::Written;
 
 // No sheet is longer.
 pub const CAPACITY: usize = 118797;
 
-// Writes the sheet of a party's journal at the output's start.
-pub fn write(counts: Counts, records: &[Record], party: u64, out: &mut [u8]) -> Written
-    ensures { (result, out.new) ≡ write_by (sharing counts records.now) party out.old }
+// Writes the sheet of a party's journal at the output's start, and answers its length.
+pub fn write(
+    counts: Counts,
+    records: &[Record],
+    party: u64,
+    out: &mut [u8],
+) -> Result<usize, Refusal>
+    ensures { (as_written result, out.new) ≡ write_by (sharing counts records.now) party out.old }
 {
     let own = records::own_of(counts, records, party);
-    let view = own.view;
-    if !view.valid {
-        return Written {
-            answer: BAD_JOURNAL,
-            length: 0,
-        };
-    }
+    let Some(view) = own.view else {
+        return Err(Refusal::BadJournal);
+    };
     let first = own.first as usize;
     let end = (own.first + own.places) as usize;
     write_own(view.count, &records[first..end], out)
 }
 
 // The same of the journal that stands at a slice's first places, where there is room.
-fn write_own(count: u64, records: &[Record], out: &mut [u8]) -> Written
+fn write_own(count: u64, records: &[Record], out: &mut [u8]) -> Result<usize, Refusal>
     requires { (count ≤ length records.now) × (length (sheet_of (lent count records.now)) ≤ capacity) }
-    ensures { (result, out.new) ≡ wrote_of [] (sheet_of (lent count records.now)) out.old }
+    ensures { (as_written result, out.new) ≡ wrote_of [] (sheet_of (lent count records.now)) out.old }
 {
     if fits(count, records, out.len()) {
-        let length = put_sheet(out, count, records);
-        return Written {
-            answer: ACCEPTED,
-            length,
-        };
+        return Ok(put_sheet(out, count, records));
     }
-    Written {
-        answer: NO_ROOM,
-        length: 0,
-    }
+    Err(Refusal::NoRoom)
 }
 
 // Whether the sheet has at most `room` bytes. It is measured only where room may be short.
@@ -78,49 +70,50 @@ fn put_sheet(out: &mut [u8], count: u64, records: &[Record]) -> usize
     ensures { Put out.old 0 (sheet_of (lent count records.now)) out.new result }
 {
     let mut at = numbered::put_head(out, count);
-    let mut place = 0;
-    while place < count {
+    for place in 0..count {
         let one = records::get(records, place);
         at = line::put_line(out, at, one);
-        place += 1;
     }
     at
 }
 
 // Writes line i of the sheet, of which the first is that with the count; past the last line there is nothing to write.
-pub fn write_line(i: u64, counts: Counts, records: &[Record], party: u64, out: &mut [u8]) -> Written
-    ensures { (result, out.new) ≡ write_line_by (sharing counts records.now) party i out.old }
+pub fn write_line(
+    i: u64,
+    counts: Counts,
+    records: &[Record],
+    party: u64,
+    out: &mut [u8],
+) -> Result<usize, Refusal>
+    ensures { (as_written result, out.new) ≡ write_line_by (sharing counts records.now) party i out.old }
 {
     let own = records::own_of(counts, records, party);
-    let view = own.view;
-    if !view.valid {
-        return Written {
-            answer: BAD_JOURNAL,
-            length: 0,
-        };
-    }
+    let Some(view) = own.view else {
+        return Err(Refusal::BadJournal);
+    };
     let first = own.first as usize;
     let end = (own.first + own.places) as usize;
     let one = records::get(&records[first..end], records::place_before(i));
     numbered::write_numbered(out, i, view.count, one)
 }
 
-// The party's journal whose sheet the text is, in place of the one given. The text is gone through twice, so that a refused one changes nothing.
-pub fn load(counts: Counts, records: &mut [Record], party: u64, text: &[u8]) -> Edited
-    ensures { journal_outcome_of result records.new ≡ load_by (sharing counts records.old) party text.now }
+// The party's journal whose sheet the text is, in place of the one given: how many records of each party stand then. The text is gone through
+// twice, so that a refused one changes nothing.
+pub fn load(
+    counts: Counts,
+    records: &mut [Record],
+    party: u64,
+    text: &[u8],
+) -> Result<Counts, Refusal>
+    ensures { journal_outcome_of result counts records.new ≡ load_by (sharing counts records.old) party text.now }
 {
     let own = records::own_of(counts, records, party);
-    let view = own.view;
-    let found = look::look(party, view.valid, own.places, text);
-    let answer = found.answer;
-    if answer != ACCEPTED {
-        return Edited { answer, counts };
-    }
+    let looked = look::look(party, own.view.is_some(), own.places, text);
+    let found = looked?;
     let first = own.first as usize;
     let end = (own.first + own.places) as usize;
     fill(&mut records[first..end], party, text, found);
-    let counts = records::with_count(counts, party, found.count);
-    Edited { answer, counts }
+    Ok(records::with_count(counts, party, found.count))
 }
 
 // Writes the party's records of the sheet that was found, and frees the other places.
@@ -128,12 +121,9 @@ fn fill(records: &mut [Record], party: u64, text: &[u8], found: Found)
     ensures { Fills party text.now found records.old records.new }
 {
     let mut at = found.first;
-    let mut place = 0;
-    while place < records.len() {
+    for (place, one) in records.iter_mut().enumerate() {
         let next = look::next_line(party, text, at, place, found);
-        let one = next.one;
-        records::put(records, place as u64, one);
+        *one = next.one;
         at = next.at;
-        place += 1;
     }
 }

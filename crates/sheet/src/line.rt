@@ -2,25 +2,17 @@
 ghost use Rattle.std.specs.Prelude.{◌≡◌};
 ghost use Rattle.text.specs.Put.{Put};
 ghost use Rattle.sheet.specs.Sheet.{line_as};
-ghost use Rattle.sheet.specs.Load.{read_as, tested, line_at};
+ghost use Rattle.sheet.specs.Load.{read_as, tested, line_at, old_in, new_in};
 ghost use Rattle.sheet.specs.declared.line.Kind.TheVariants as kind;
 
 use bundle::Halves;
-use name::Name;
 use record::Record;
 use text::{TAB, put_fields, read_fields};
 
-#[derive(Clone, Copy)]
+#[derive(Clone, Copy, PartialEq, Eq)]
 pub enum Kind {
     Full,
     Old,
-}
-
-// A record and the place after its line, or that there is none.
-#[derive(Clone, Copy)]
-pub enum Line {
-    Read(Record, usize),
-    Refused,
 }
 
 pub fn put_line(out: &mut [u8], at: usize, one: Record) -> usize
@@ -39,8 +31,8 @@ pub fn put_line(out: &mut [u8], at: usize, one: Record) -> usize
     )
 }
 
-// The party's record whose line of that kind stands at a place, where it may stand.
-pub fn read_line(party: u64, text: &[u8], at: usize, kind: Kind) -> Line
+// The party's record whose line of that kind stands at a place, where it may stand, and the place after the line.
+pub fn read_line(party: u64, text: &[u8], at: usize, kind: Kind) -> Option<(Record, usize)>
     ensures { result ≡ line_at party kind text.now at }
 {
     match kind {
@@ -49,64 +41,48 @@ pub fn read_line(party: u64, text: &[u8], at: usize, kind: Kind) -> Line
     }
 }
 
-fn test(party: u64, line: Line) -> Line
+fn test(party: u64, line: Option<(Record, usize)>) -> Option<(Record, usize)>
     ensures { result ≡ tested party line }
 {
-    let Line::Read(one, next) = line else {
-        return Line::Refused;
-    };
+    let (one, next) = line?;
     if record::may_stand(party, one) {
-        Line::Read(one, next)
+        Some((one, next))
     } else {
-        Line::Refused
+        None
     }
 }
 
-fn read_full(party: u64, text: &[u8], at: usize) -> Line
+fn read_full(party: u64, text: &[u8], at: usize) -> Option<(Record, usize)>
     ensures { result ≡ read_as party kind.Full text.now at }
 {
-    let front = read_fields(text, at, b"\t\t");
-    if !front.read {
-        return Line::Refused;
-    }
-    let named = name::read_field(text, front.next, TAB);
-    let Name::Read(form, next) = named else {
-        return Line::Refused;
-    };
-    let tail = read_fields(text, next, b"\t\t\t\t\n");
-    if !tail.read {
-        return Line::Refused;
-    }
-    let first = front.of;
-    let of = tail.of;
-    let old = Halves {
-        low: of[1],
-        high: of[2],
-    };
-    let new = Halves {
-        low: of[3],
-        high: of[4],
-    };
+    let (front, second) = read_fields(text, at, b"\t\t")?;
+    let (form, third) = name::read_field(text, second, TAB)?;
+    let (of, end) = read_fields(text, third, b"\t\t\t\t\n")?;
+    let (old, new) = halves_in(of);
     let one = Record {
         party,
-        bundle: first[0],
-        slot: first[1],
+        bundle: front[0],
+        slot: front[1],
         form,
         value: of[0],
         old,
         new,
     };
-    Line::Read(one, tail.next)
+    Some((one, end))
 }
 
-fn read_old(party: u64, text: &[u8], at: usize) -> Line
+fn read_old(party: u64, text: &[u8], at: usize) -> Option<(Record, usize)>
     ensures { result ≡ read_as party kind.Old text.now at }
 {
-    let line = read_fields(text, at, b"\t\t\t\t\n");
-    if !line.read {
-        return Line::Refused;
-    }
-    let of = line.of;
+    let (of, end) = read_fields(text, at, b"\t\t\t\t\n")?;
+    let (old, new) = halves_in(of);
+    Some((record::whole_record(party, of[0], old, new), end))
+}
+
+// The old and the new bundle of a line's last five numbers.
+fn halves_in(of: [u64; 8]) -> (Halves, Halves)
+    ensures { result ≡ (old_in of, new_in of) }
+{
     let old = Halves {
         low: of[1],
         high: of[2],
@@ -115,5 +91,5 @@ fn read_old(party: u64, text: &[u8], at: usize) -> Line
         low: of[3],
         high: of[4],
     };
-    Line::Read(record::whole_record(party, of[0], old, new), line.next)
+    (old, new)
 }

@@ -2,19 +2,18 @@
 ghost use Rattle.std.specs.Prelude.{◌≡◌};
 ghost use Rattle.records.specs.Journal.{limit};
 ghost use Rattle.sheet.specs.Load.{head_of, records_as, records_in};
-ghost use Rattle.sheet.specs.inner.Finds.{nothing, Finds, FindsFor, Nexts};
+ghost use Rattle.sheet.specs.inner.Finds.{Finds, FindsFor, Nexts};
 
 use crate::line;
-use crate::line::{Kind, Line};
-use answer::{ACCEPTED, BAD_JOURNAL, BAD_SHEET, FULL};
+use crate::line::Kind;
+use answer::Refusal;
 use record::{NONE, Record};
 use records::LIMIT;
-use text::{NEWLINE, Number};
+use text::NEWLINE;
 
-// The answer, and of a sheet the number of its records, the place of the first one's line, and the kind of its lines.
+// Of a sheet the number of its records, the place of the first one's line, and the kind of its lines.
 #[derive(Clone, Copy)]
 pub struct Found {
-    pub answer: u8,
     pub count: u64,
     pub first: usize,
     pub kind: Kind,
@@ -27,80 +26,59 @@ pub struct Next {
     pub at: usize,
 }
 
-fn none(answer: u8) -> Found
-    ensures { result ≡ nothing answer }
-{
-    Found {
-        answer,
-        count: 0,
-        first: 0,
-        kind: Kind::Full,
-    }
-}
-
 // The sheet that a text is, where a party's journal is valid and has places for its records.
-pub fn look(party: u64, valid: bool, places: u64, text: &[u8]) -> Found
+pub fn look(party: u64, valid: bool, places: u64, text: &[u8]) -> Result<Found, Refusal>
     ensures { FindsFor party valid places text.now result }
 {
     if !valid {
-        return none(BAD_JOURNAL);
+        return Err(Refusal::BadJournal);
     }
-    let found = look_in(party, text);
+    let found = look_in(party, text)?;
     if places < found.count {
-        return none(FULL);
+        return Err(Refusal::Full);
     }
-    found
+    Ok(found)
 }
 
 // The sheet that a text is, in full lines or else in old ones.
-fn look_in(party: u64, text: &[u8]) -> Found
+fn look_in(party: u64, text: &[u8]) -> Result<Found, Refusal>
     ensures { Finds party text.now (records_in limit party text.now) result }
 {
-    let full = look_as(party, text, Kind::Full);
-    if full.answer == ACCEPTED {
-        return full;
+    match look_as(party, text, Kind::Full) {
+        Ok(found) => Ok(found),
+        Err(_) => look_as(party, text, Kind::Old),
     }
-    look_as(party, text, Kind::Old)
 }
 
 // The same where the lines are of one kind.
-fn look_as(party: u64, text: &[u8], kind: Kind) -> Found
+fn look_as(party: u64, text: &[u8], kind: Kind) -> Result<Found, Refusal>
     ensures { Finds party text.now (records_as limit party kind text.now) result }
 {
-    let head = read_head(text);
-    let Number::Read(count, first) = head else {
-        return none(BAD_SHEET);
+    let Some((count, first)) = read_head(text) else {
+        return Err(Refusal::BadSheet);
     };
     if LIMIT < count {
-        return none(BAD_SHEET);
+        return Err(Refusal::BadSheet);
     }
     let mut at = first;
-    let mut place = 0;
-    'lines: while place < count {
-        let line = line::read_line(party, text, at, kind);
-        let Line::Read(_, next) = line else {
-            return none(BAD_SHEET);
+    'lines: for _ in 0..count {
+        let Some((_, next)) = line::read_line(party, text, at, kind) else {
+            return Err(Refusal::BadSheet);
         };
         at = next;
-        place += 1;
     }
     if at != text.len() {
-        return none(BAD_SHEET);
+        return Err(Refusal::BadSheet);
     }
-    Found {
-        answer: ACCEPTED,
-        count,
-        first,
-        kind,
-    }
+    Ok(Found { count, first, kind })
 }
 
 // The count that the first line gives, and the place after that line.
-fn read_head(text: &[u8]) -> Number
+fn read_head(text: &[u8]) -> Option<(u64, usize)>
     ensures { result ≡ head_of text.now }
 {
     if !text::begins(text, b"patches\t") {
-        return Number::Refused;
+        return None;
     }
     text::read_field(text, 8, NEWLINE)
 }
@@ -112,7 +90,7 @@ pub fn next_line(party: u64, text: &[u8], at: usize, place: usize, found: Found)
     let kind = found.kind;
     if (place as u64) < found.count {
         let line = line::read_line(party, text, at, kind);
-        if let Line::Read(one, next) = line {
+        if let Some((one, next)) = line {
             return Next { one, at: next };
         }
     }

@@ -1,13 +1,13 @@
 // The lines of a sheet by their number: the first has the count, and then each has a record.
 ghost use Rattle.std.specs.Prelude.{◌≡◌, []};
 ghost use Rattle.text.specs.Put.{Put};
-ghost use Rattle.text.specs.Whole.{wrote_of};
+ghost use Rattle.text.specs.Whole.{as_written, wrote_of};
 ghost use Rattle.sheet.specs.Sheet.{header_of, numbered};
 
 use crate::line;
-use answer::{ACCEPTED, NO_ROOM};
+use answer::Refusal;
 use record::Record;
-use text::{NEWLINE, Written};
+use text::NEWLINE;
 
 pub fn put_head(out: &mut [u8], count: u64) -> usize
     ensures { Put out.old 0 (header_of count) out.new result }
@@ -30,19 +30,13 @@ fn put_numbered(out: &mut [u8], i: u64, count: u64, one: Record) -> usize
 }
 
 // The same where there is room for the line.
-pub fn write_numbered(out: &mut [u8], i: u64, count: u64, one: Record) -> Written
-    ensures { (result, out.new) ≡ wrote_of [] (numbered i count one) out.old }
+pub fn write_numbered(out: &mut [u8], i: u64, count: u64, one: Record) -> Result<usize, Refusal>
+    ensures { (as_written result, out.new) ≡ wrote_of [] (numbered i count one) out.old }
 {
     let mut none = [0u8; 0];
     if out.len() < put_numbered(&mut none, i, count, one) {
-        return Written {
-            answer: NO_ROOM,
-            length: 0,
-        };
+        return Err(Refusal::NoRoom);
     }
     let length = put_numbered(out, i, count, one);
-    Written {
-        answer: ACCEPTED,
-        length,
-    }
+    Ok(length)
 }

@@ -11,9 +11,8 @@ use lib.ListN.{length, length-append}
 use borrow.Author.Tests.{lt-leb, le-leb, eqb-false}
 use Rattle.answer.specs.Answer.{accepted, bad_value, too_long}
 use Rattle.bundle.specs.Bundle.{longest_code}
-use Rattle.tally.specs.Report.{report_of, plus, added_by, added_of}
+use Rattle.tally.specs.Report.{Added, report_of, plus, added_by, added_of}
 use Rattle.tally.specs.Holds.{added_all, JoinedAdds, AnyOrder}
-use Rattle.tally.specs.declared.Added.{Added}
 use Rattle.tally.proofs.Lists.{count-cons}
 use Rattle.tally.proofs.Sums.{large, large-cons, added-fits, added-large, long_kept, short-added}
 use Rattle.tally.proofs.Reports.{report-size}

@@ -3,8 +3,7 @@ use mathlib.Core.Path.{◌≡◌}
 use mathlib.Core.List.{List}
 use Prim.Native.Nat.{ℕ}
 use Rattle.answer.proofs.Laws.{one-outcome}
-use Rattle.tally.specs.Report.{added_of}
-use Rattle.tally.specs.declared.Added.{Added}
+use Rattle.tally.specs.Report.{Added, added_of}
 
 pub add-unique : (report image : List ℕ) {r s : Added} → r ≡ added_of report image → s ≡ added_of report image → r ≡ s
 add-unique report image = one-outcome

@@ -2,10 +2,9 @@
 use Rattle.std.specs.Prelude.{ℕ, zero, suc, ◌+◌, ◌/◌, ◌%◌, ◌^◌, Bool, true, eqb, leb, ltb, length}
 use Rattle.std.proofs.Math.Bool.{Bool-discrete}
 use mathlib.Core.List.{List, [], ◌∷◌, ◌++◌, map, filter, foldr, zip_with}
-use Rattle.answer.specs.Answer.{Refusal, first, outcome, bad_value, too_long}
+use Rattle.answer.specs.Answer.{Reason, first, outcome, bad_value, too_long}
 use Rattle.bundle.specs.Bundle.{longest_code, number_at, tag_of}
 use Rattle.bundle.specs.Template.{reserved, stops_of}
-use Rattle.tally.specs.declared.Added.{Added}
 
 -- how many of a list pass a test
 abbrev pub how_many {ℓ} : {A : Type ℓ} → (A → Bool) → List A → ℕ
@@ -53,8 +52,13 @@ plus a b = zip_with ◌+◌ a b
 abbrev pub overflows : List ℕ → Bool
 overflows report = ltb 0 (how_many (leb (2 ^ 64)) report)
 
+-- an answer, and what the report then is
+pub record Added : Type 0 where
+  pub answer : ℕ
+  pub report : List ℕ
+
 -- a report with another added, after the refusals given: the sum, and where refused the report as it was
-unfoldable pub added_by : List Refusal → List ℕ → List ℕ → Added
+unfoldable pub added_by : List Reason → List ℕ → List ℕ → Added
 added_by before report more =
     let answer = first (before ++ (bad_value, overflows (plus report more)) ∷ []) in
     record { answer = answer; report = outcome answer (plus report more) report }

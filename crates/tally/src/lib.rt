@@ -3,16 +3,17 @@
 
 mod lines;
 
-ghost use Rattle.std.specs.Prelude.{◌≡◌, cond, [], ◌++◌, ◌+◌, ◌/◌, ◌≤◌, ◌<◌, length, replicate};
+ghost use Rattle.std.specs.Prelude.{◌≡◌, [], ◌++◌, ◌+◌, ◌/◌, ◌≤◌, ◌<◌, length, replicate};
+ghost use Rattle.answer.specs.Answer.{answer_of};
 ghost use Rattle.bundle.specs.Bundle.{longest_code};
-ghost use Rattle.tally.specs.Report.{tags_to, tags_of, counts_of, report_of, added_by, added_of};
+ghost use Rattle.tally.specs.Report.{Added, tags_to, tags_of, counts_of, report_of, added_by, added_of};
 ghost use Rattle.tally.specs.inner.Share.{Few, tag_shares, shares_of};
 
-use answer::{ACCEPTED, BAD_VALUE, TOO_LONG};
+use answer::Refusal;
 use bundle::{Halves, LONGEST_CODE};
 pub use lines::put_report;
 
-// How many tags there are, and where the numbers after theirs stand.
+// How many tags there are, and where the numbers after theirs stand: a report is the 36 numbers that `report_of` says.
 const BUNDLES: usize = 32;
 
 const RESERVED: usize = 33;
@@ -27,47 +28,29 @@ pub const NUMBERS: usize = 36;
 // No report's text is longer.
 pub const CAPACITY: usize = 870;
 
-#[derive(Clone, Copy)]
-pub struct Added {
-    pub answer: u8,
-    pub report: [u64; NUMBERS],
-}
-
-// The report with an image's added.
-pub fn add(report: [u64; NUMBERS], image: &[u8]) -> Added
-    ensures { result ≡ added_of report image.now }
+// Adds an image's report to a report, which is left as it was where that is refused.
+pub fn add(report: &mut [u64; NUMBERS], image: &[u8]) -> Result<(), Refusal>
+    ensures { ◌≡◌ {A = Added} (record { answer = answer_of result; report = report.new }) (added_of report.old image.now) }
 {
     if LONGEST_CODE < image.len() {
-        return Added {
-            answer: TOO_LONG,
-            report,
-        };
+        return Err(Refusal::TooLong);
     }
-    sum(report, report_of(image))
+    add_up(report, report_of(image))
 }
 
 // The sum of two reports; refused where a number of it takes more than 64 bits.
-fn sum(given: [u64; NUMBERS], more: [u64; NUMBERS]) -> Added
-    ensures { result ≡ added_by [] given more }
+fn add_up(report: &mut [u64; NUMBERS], more: [u64; NUMBERS]) -> Result<(), Refusal>
+    ensures { ◌≡◌ {A = Added} (record { answer = answer_of result; report = report.new }) (added_by [] report.old more) }
 {
-    let mut sums = given;
-    let mut i = 0;
-    while i < NUMBERS {
-        let had = given[i];
-        let gets = more[i];
-        if u64::MAX - gets < had {
-            return Added {
-                answer: BAD_VALUE,
-                report: given,
-            };
-        }
-        sums[i] = had + gets;
-        i += 1;
+    let mut sums = *report;
+    for (i, gets) in more.iter().enumerate() {
+        let Some(sum) = report[i].checked_add(*gets) else {
+            return Err(Refusal::BadValue);
+        };
+        sums[i] = sum;
     }
-    Added {
-        answer: ACCEPTED,
-        report: sums,
-    }
+    *report = sums;
+    Ok(())
 }
 
 // The report of an image.
@@ -92,18 +75,14 @@ fn by_tag(image: &[u8]) -> [u64; NUMBERS]
     let mut counts = [0u64; NUMBERS];
     let bundles = image.len() / 16;
     let turns = bundles / 4;
-    let mut turn = 0;
-    while turn < turns {
+    for turn in 0..turns {
         count(&mut counts, image, 4 * turn);
         count(&mut counts, image, 4 * turn + 1);
         count(&mut counts, image, 4 * turn + 2);
         count(&mut counts, image, 4 * turn + 3);
-        turn += 1;
     }
-    let mut n = 4 * turns;
-    while n < bundles {
+    for n in 4 * turns..bundles {
         count(&mut counts, image, n);
-        n += 1;
     }
     counts
 }
@@ -131,13 +110,11 @@ fn shares_of(counts: &[u64; NUMBERS]) -> Shares
 {
     let mut reserved = 0;
     let mut stops = 0;
-    let mut tag = 0;
-    while tag < BUNDLES {
+    for tag in 0..BUNDLES {
         let many = counts[tag];
         let one = share(tag as u64);
         reserved += many * one.reserved;
         stops += many * one.stops;
-        tag += 1;
     }
     Shares { reserved, stops }
 }
@@ -151,13 +128,7 @@ fn share(tag: u64) -> Shares
     let units = template.units;
     let stops = template.stops;
     Shares {
-        reserved: one_if(bundle::unitless(units)),
-        stops: one_if(stops[0]) + one_if(stops[1]) + one_if(stops[2]),
+        reserved: u64::from(bundle::unitless(units)),
+        stops: u64::from(stops[0]) + u64::from(stops[1]) + u64::from(stops[2]),
     }
-}
-
-fn one_if(test: bool) -> u64
-    ensures { (result ≡ cond test 1 0) × (result ≤ 1) }
-{
-    if test { 1 } else { 0 }
 }

@@ -12,10 +12,8 @@ pub fn put_report(out: &mut [u8], at: usize, report: [u64; NUMBERS]) -> usize
     ensures room { length (text_of report) ≤ CAPACITY }
 {
     let mut next = at;
-    let mut i = 0;
-    while i < NUMBERS {
-        next = put_line(out, next, i as u64, report[i]);
-        i += 1;
+    for (i, n) in report.iter().enumerate() {
+        next = put_line(out, next, i as u64, *n);
     }
     next
 }

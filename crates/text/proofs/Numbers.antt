@@ -13,7 +13,7 @@ use lib.Seq.{drop-cons}
 use borrow.Author.Tests.{lt-ltb, le-ltb, le-leb, leb-true, ltb-true}
 use Rattle.text.specs.Ascii.{within, same_text}
 use Rattle.text.specs.Decimal.{decimal}
-use Rattle.text.specs.declared.number.Number.TheVariants.{Read, Refused}
+use Rattle.std.specs.Prelude.{Some, None}
 use Rattle.text.specs.Number.{digits_of, worth, number_of}
 use Rattle.text.proofs.Numerals.{decimal-one, decimal-more}
 use Rattle.text.proofs.Stands.{Stands, stands}
@@ -144,19 +144,19 @@ differ (yes p) n = absurd (n p)
 differ (no q) n = refl
 
 module _ (text : List ℕ) (at : ℕ) where
-  pub number-none : digits_of (drop at text) ≡ [] → Refused ≡ number_of text at
+  pub number-none : digits_of (drop at text) ≡ [] → None ≡ number_of text at
   unfolding number_of worth
   number-none e = rw (e, decimal-one 0 (omega arith), differ (List-discrete ℕ_discrete [] (48 ∷ [])) (λ q. omega (arith, ap length q)))
 
   module _ (n : ℕ) where
-    pub number-whole : (next : ℕ) → n < 2 ^ 64 → digits_of (drop at text) ≡ decimal n ++ digits_of (drop next text) → digits_of (drop next text) ≡ [] → next ≡ at + length (decimal n) → Read n next ≡ number_of text at
+    pub number-whole : (next : ℕ) → n < 2 ^ 64 → digits_of (drop at text) ≡ decimal n ++ digits_of (drop next text) → digits_of (drop next text) ≡ [] → next ≡ at + length (decimal n) → Some (n, next) ≡ number_of text at
     unfolding number_of
     number-whole next b e z p =
         rw (e, z, append-nil (decimal n), (spelling n).number, lt-ltb n (2 ^ 64) b, (decide_iff (List-discrete ℕ_discrete (decimal n) (decimal n))).1 refl, p)
 
     module _ (c : ℕ) (ds : List ℕ) (e : digits_of (drop at text) ≡ decimal n ++ (c ∷ ds)) where
       -- a digit after a zero
-      pub number-zero : n ≡ 0 → Refused ≡ number_of text at
+      pub number-zero : n ≡ 0 → None ≡ number_of text at
       unfolding number_of
       number-zero z =
           let m = worth 0 (digits_of (drop at text)) in
@@ -164,7 +164,7 @@ module _ (text : List ℕ) (at : ℕ) where
           rw (differ (List-discrete ℕ_discrete (digits_of (drop at text)) (decimal m)) (λ q. zero-alone m c ds (sym q ∙ e ∙ front)), and-false (ltb m (2 ^ 64)))
 
       -- a digit that makes the number too large
-      pub number-long : 2 ^ 64 ≤ n * 10 + (c - 48) → Refused ≡ number_of text at
+      pub number-long : 2 ^ 64 ≤ n * 10 + (c - 48) → None ≡ number_of text at
       unfolding number_of worth
       number-long h =
           rw (e, worth-append 0 (decimal n) (c ∷ ds), (spelling n).number, le-ltb (worth (n * 10 + (c - 48)) ds) (2 ^ 64) (omega (arith, worth-le (n * 10 + (c - 48)) ds)))
@@ -179,25 +179,32 @@ pub taken : {A : Type 0} (t : Bool) {x y z : A} → cond t x y ≡ z → (y ≡ 
 taken true e n = (refl, e)
 taken false e n = absurd (n e)
 
-pub no_number : {n next : ℕ} → Refused ≡ Read n next → ⊥
+pub no_number : {A : Type 0} {r : A} → None ≡ Some r → ⊥
 no_number e = let z : ◌≡◌ {A = ℕ} 0 1 = cc in omega arith
 
+-- the parts of what was read
+pub some-parts : {A B : Type 0} {r s : A × B} → Some r ≡ Some s → (r.0 ≡ s.0) × (r.1 ≡ s.1)
+some-parts {A} {B} {r} {s} e =
+    let p : r ≡ s = cc in
+    (ap (λ (q : A × B). q.0) p, ap (λ (q : A × B). q.1) p)
+
 module _ (text : List ℕ) (at n next : ℕ) where
-  pub number_read : number_of text at ≡ Read n next → IsRead text at n next
+  pub number_read : number_of text at ≡ Some (n, next) → IsRead text at n next
   unfolding number_of
   number_read e =
       let ds = digits_of (drop at text) in
       let m = worth 0 ds in
       let t = taken (ltb m (2 ^ 64) && same_text ds (decimal m)) e no_number in
       let b = (and-eq-true_iff (ltb m (2 ^ 64)) (same_text ds (decimal m))).0 t.0 in
-      let v : m ≡ n = cc t.1 in
-      let w : at + length ds ≡ next = cc t.1 in
+      let q = some-parts t.1 in
+      let v : m ≡ n = q.0 in
+      let w : at + length ds ≡ next = q.1 in
       let d : ds ≡ decimal n = (decide_iff (List-discrete ℕ_discrete ds (decimal m))).0 b.1 ∙ ap decimal v in
       let s = digits-split (drop at text) in
       record { below = rw v at (ltb-true m (2 ^ 64) b.0); piece = rw (← w, d) (stands at (decimal n) s.0 (s.1 ∙ ap (λ (l : List ℕ). l ++ s.0) d)) }
 
   -- and the decimal that stands there is read, where no digit comes after it
-  pub number-back : digits_of (drop next text) ≡ [] → IsRead text at n next → number_of text at ≡ Read n next
+  pub number-back : digits_of (drop next text) ≡ [] → IsRead text at n next → number_of text at ≡ Some (n, next)
   number-back z r =
       let e = ap digits_of r.piece.found ∙ digits-front (decimal n) (drop next text) (spelling n).digits in
       sym (number-whole text at n next r.below e z r.piece.place)

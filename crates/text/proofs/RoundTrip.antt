@@ -3,7 +3,9 @@
 use mathlib.Core.Path.{◌≡◌, refl, sym, ap, ◌∙◌}
 use mathlib.Core.Bool.{Bool, true, false, decide_iff, false≢true}
 use mathlib.Core.List.{List, [], ◌∷◌, ◌++◌, List-discrete}
-use mathlib.Core.Option.{Option, none, some, some-injective, none-ne-some}
+use mathlib.Core.Option.{none, some, some-injective, none-ne-some}
+use mathlib.Core.Option as maybe
+use Rattle.std.specs.Prelude.{Option, Some, None}
 use Prim.Native.Nat.{ℕ, suc, ◌+◌, ◌^◌, ◌≤◌, ◌<◌}
 use native.Mathlib.Nat.{add-zero}
 use native.Mathlib.Omega.{arith}
@@ -16,9 +18,7 @@ use Rattle.text.specs.Ascii.{within, same_text, starts_with}
 use Rattle.text.specs.Decimal.{decimal}
 use Rattle.text.specs.Fields.{fields, Words, field_at, before, fields_at, read_to}
 use Rattle.text.specs.Number.{digits_of, number_of}
-use Rattle.text.specs.declared.number.Number.{Number}
-use Rattle.text.specs.declared.number.Number.TheVariants.{Read, Refused}
-use Rattle.text.proofs.Numbers.{differ, taken, no_number, number_read, number-back}
+use Rattle.text.proofs.Numbers.{differ, taken, no_number, some-parts, number_read, number-back}
 use Rattle.text.proofs.Stands.{Stands, stands-then, stands_parts}
 
 -- texts that are the same, and one that begins with another
@@ -60,24 +60,24 @@ module _ (text : List ℕ) (at byte : ℕ) where
 
 -- a field, by the number that it begins with
 module _ (text : List ℕ) (at end : ℕ) where
-  pub field-none : number_of text at ≡ Refused → Refused ≡ field_at text at end
+  pub field-none : number_of text at ≡ None → None ≡ field_at text at end
   unfolding field_at
   field-none e = rw e
 
 -- numbers read, by the first of them
-pub read_more : (of : List ℕ) (i n : ℕ) (rest : Option (List ℕ × ℕ)) → read_to of i (before n rest) ≡ read_to (set of i n) (suc i) rest
+pub read_more : (of : List ℕ) (i n : ℕ) (rest : maybe.Option (List ℕ × ℕ)) → read_to of i (before n rest) ≡ read_to (set of i n) (suc i) rest
 read_more of i n none = refl
 read_more of i n (some r) = refl
 
-some-parts : {r s : List ℕ × ℕ} → some r ≡ some s → (r.0 ≡ s.0) × (r.1 ≡ s.1)
-some-parts e = let p = some-injective _ _ e in (ap (λ (r : List ℕ × ℕ). r.0) p, ap (λ (r : List ℕ × ℕ). r.1) p)
+all-parts : {r s : List ℕ × ℕ} → some r ≡ some s → (r.0 ≡ s.0) × (r.1 ≡ s.1)
+all-parts e = let p = some-injective _ _ e in (ap (λ (r : List ℕ × ℕ). r.0) p, ap (λ (r : List ℕ × ℕ). r.1) p)
 
 -- numbers that were read: the first of them, and the others
 record First (text : List ℕ) (at end : ℕ) (ends ns : List ℕ) (next : ℕ) : Type 0 where
   number : ℕ
   middle : ℕ
   others : List ℕ
-  field : field_at text at end ≡ Read number middle
+  field : field_at text at end ≡ Some (number, middle)
   rest : fields_at text middle ends ≡ some (others, next)
   all : ns ≡ number ∷ others
 
@@ -85,15 +85,15 @@ fields-first : (text : List ℕ) (at end : ℕ) (ends ns : List ℕ) (next : ℕ
 unfolding fields_at
 fields-first text at end ends ns next e = by_field (field_at text at end) refl
   where
-    by-rest : (n middle : ℕ) → field_at text at end ≡ Read n middle → (o : Option (List ℕ × ℕ)) → fields_at text middle ends ≡ o → before n o ≡ some (ns, next) → First text at end ends ns next
+    by-rest : (n middle : ℕ) → field_at text at end ≡ Some (n, middle) → (o : maybe.Option (List ℕ × ℕ)) → fields_at text middle ends ≡ o → before n o ≡ some (ns, next) → First text at end ends ns next
     by-rest n middle f none q e = absurd (none-ne-some (ns, next) e)
     by-rest n middle f (some r) q e =
-        let q' = some-parts e in
+        let q' = all-parts e in
         record { number = n; middle = middle; others = r.0; field = f; rest = rw q'.1 at q; all = sym q'.0 }
 
-    by_field : (m : Number) → field_at text at end ≡ m → First text at end ends ns next
-    by_field Refused f = absurd (none-ne-some (ns, next) (rw f at e))
-    by_field (Read n middle) f = by-rest n middle f (fields_at text middle ends) refl (rw f at e)
+    by_field : (m : Option (ℕ × ℕ)) → field_at text at end ≡ m → First text at end ends ns next
+    by_field None f = absurd (none-ne-some (ns, next) (rw f at e))
+    by_field (Some (n, middle)) f = by-rest n middle f (fields_at text middle ends) refl (rw f at e)
 
 -- bytes that are no digits
 abbrev pub NoDigits : List ℕ → Type 0
@@ -109,23 +109,22 @@ pub record FieldsStand (text : List ℕ) (at : ℕ) (ends ns : List ℕ) (next :
 module _ (text : List ℕ) where
   -- what is read stands there
   module _ (at end n next : ℕ) where
-    field-cases : (m : Number) → number_of text at ≡ m → field_at text at end ≡ Read n next → FieldsStand text at (end ∷ []) (n ∷ []) next
+    field-cases : (m : Option (ℕ × ℕ)) → number_of text at ≡ m → field_at text at end ≡ Some (n, next) → FieldsStand text at (end ∷ []) (n ∷ []) next
     unfolding field_at
-    field-cases Refused e f = absurd (no_number (rw e at f))
-    field-cases (Read k middle) e f =
+    field-cases None e f = absurd (no_number (rw e at f))
+    field-cases (Some (k, middle)) e f =
         let t = taken (starts_with (end ∷ []) (drop middle text)) (rw e at f) no_number in
-        let v : k ≡ n = cc t.1 in
-        let p : middle + 1 ≡ next = cc t.1 in
+        let p = some-parts t.1 in
         let r = number_read text at k middle e in
-        rw (← v, ← p) (record { count = refl; words = (r.below, tt); piece = stands-then r.piece (byte-stands text middle end t.0) })
+        rw (← p.0, ← p.1) (record { count = refl; words = (r.below, tt); piece = stands-then r.piece (byte-stands text middle end t.0) })
 
-    pub field-read : field_at text at end ≡ Read n next → FieldsStand text at (end ∷ []) (n ∷ []) next
+    pub field-read : field_at text at end ≡ Some (n, next) → FieldsStand text at (end ∷ []) (n ∷ []) next
     field-read = field-cases (number_of text at) refl
 
   pub fields_read : (ends : List ℕ) (at : ℕ) (ns : List ℕ) (next : ℕ) → fields_at text at ends ≡ some (ns, next) → FieldsStand text at ends ns next
   unfolding fields_at
   fields_read [] at ns next e =
-      let q = some-parts e in
+      let q = all-parts e in
       rw (← q.0, ← q.1) (record { count = refl; words = tt; piece = record { found = refl; place = sym (add-zero at) } })
   fields_read (end ∷ ends) at ns next e =
       let f = fields-first text at end ends ns next e in
@@ -139,7 +138,7 @@ module _ (text : List ℕ) where
   unfolding digits_of
   ended at end next d s = (rw (s.found, d), rw s.found ((decide_iff (List-discrete ℕ_discrete (end ∷ []) (end ∷ []))).1 refl))
 
-  pub field_back : (at end n next : ℕ) → within 48 57 end ≡ false → n < 2 ^ 64 → Stands text at (decimal n ++ (end ∷ [])) next → field_at text at end ≡ Read n next
+  pub field_back : (at end n next : ℕ) → within 48 57 end ≡ false → n < 2 ^ 64 → Stands text at (decimal n ++ (end ∷ [])) next → field_at text at end ≡ Some (n, next)
   unfolding field_at
   field_back at end n next d b s =
       let p = stands_parts (decimal n) s in

@@ -8,14 +8,13 @@ use native.Mathlib.Omega.{arith}
 use lib.Dec.{T, eqb}
 use lib.ListN.{length, drop, length-append}
 use borrow.Author.Tests.{lt-ltb, le-ltb}
-use Rattle.answer.specs.Answer.{Refusal, first, accepted, no_room}
+use Rattle.answer.specs.Answer.{Reason, first, accepted, no_room}
 use Rattle.answer.proofs.Laws.{numbered, first_on, first-stop, refuses}
-use Rattle.text.specs.declared.whole.Written.{Written}
 use Rattle.text.specs.Put.{Put}
-use Rattle.text.specs.Whole.{whole_refusals, wrote_of}
+use Rattle.text.specs.Whole.{Written, whole_refusals, wrote_of}
 use Rattle.text.proofs.Writing.{written_start}
 
-module _ (before : List Refusal) (text out : List ℕ) where
+module _ (before : List Reason) (text out : List ℕ) where
   pub whole-refused : (a : ℕ) → first before ≡ a → (a ≡ accepted → ⊥) → (record { answer = a; length = 0 }, out) ≡ wrote_of before text out
   unfolding wrote_of
   whole-refused a e d =
@@ -43,7 +42,7 @@ within : (t : Bool) (a : ℕ) (text out : List ℕ) → let w : Written × List 
 within true a text out = rw length-append (omega arith)
 within false a text out = omega arith
 
-pub whole-within : (before : List Refusal) (text out : List ℕ) {w : Written × List ℕ} → w ≡ wrote_of before text out → w.0.length ≤ length w.1
+pub whole-within : (before : List Reason) (text out : List ℕ) {w : Written × List ℕ} → w ≡ wrote_of before text out → w.0.length ≤ length w.1
 unfolding wrote_of
 whole-within before text out e =
     let answer = first (whole_refusals before text out) in

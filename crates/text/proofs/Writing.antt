@@ -7,7 +7,7 @@ use native.Mathlib.Nat.{add-zero, add-suc, suc-add, zero-add}
 use native.Mathlib.Decide.{dec_lt}
 use native.Mathlib.Omega.{arith}
 use lib.ListN.{length, get_or, take, drop, set, length-append, length-drop, drop_of_length-le}
-use lib.Seq.{take_all, take-append_seam, set_out, sets-eq, length-sets}
+use lib.Seq.{take_all, take-length, drop-length, take-append_seam, set_out, sets-eq, length-sets}
 use Rattle.text.specs.Decimal.{decimal}
 use Rattle.text.specs.Fields.{fields}
 use Rattle.text.specs.Put.{written, past, Put}
@@ -50,6 +50,18 @@ written_start out text h =
 
 pub written-front : (out text : List ℕ) → length text ≤ length out → take (length text) (written out 0 text) ≡ text
 written-front out text h = rw (written_start out text h) (take-append_seam text _)
+
+-- as much of a text as there is room for
+pub written-most : (out text part : List ℕ) (n : ℕ) → n ≡ min (length out) (length text) → part ≡ take n text → part ++ drop n out ≡ written out 0 text
+written-most out text part n m e =
+    elim (dec_lt (length out) (length text)) [
+      | yes h ↦
+          let full : n ≡ length out = omega arith in
+          rw (e, full, drop-length out, append-nil (take (length out) text)) (sym (written-full out text (omega arith)))
+      | no h ↦
+          let all : n ≡ length text = omega arith in
+          rw (e, all, take-length text) (sym (written_start out text (omega arith)))
+    ]
 
 -- an output has no place past the last that a number can tell
 written_then : (out : List ℕ) (at : ℕ) (a b : List ℕ) → length out < 2 ^ 64 → written (written out at a) (past at (length a)) b ≡ written out at (a ++ b)

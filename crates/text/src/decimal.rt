@@ -3,13 +3,13 @@ ghost use Rattle.std.specs.Prelude.{◌≡◌, ◌+◌, ◌≤◌, ◌<◌, leng
 ghost use Rattle.text.specs.Decimal.{decimal};
 ghost use Rattle.text.specs.Put.{Put, written};
 
-use crate::put::{place, put_text};
+use crate::put::put_text;
 
 pub fn put_decimal(out: &mut [u8], at: usize, n: u64) -> usize
     ensures { Put out.old at (decimal n) out.new result }
 {
     let count = digits(n);
-    let end = place(at, count);
+    let end = at.saturating_add(count);
     if end <= out.len() {
         fill(out, at, end, n);
         return end;

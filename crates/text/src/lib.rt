@@ -12,7 +12,7 @@ mod put;
 mod whole;
 
 pub use decimal::put_decimal;
-pub use fields::{Fields, NEWLINE, TAB, begins, is_at, read_field, read_fields};
-pub use number::{Number, read_decimal};
+pub use fields::{NEWLINE, TAB, begins, is_at, read_field, read_fields};
+pub use number::read_decimal;
 pub use put::{put_byte, put_field, put_fields, put_text};
-pub use whole::{Written, put_whole};
+pub use whole::put_whole;

@@ -2,7 +2,7 @@
 ghost use Rattle.std.specs.Prelude.{◌≡◌, [], ◌∷◌, ◌++◌};
 ghost use Rattle.text.specs.Decimal.{decimal};
 ghost use Rattle.text.specs.Fields.{fields};
-ghost use Rattle.text.specs.Put.{Put, past, written};
+ghost use Rattle.text.specs.Put.{Put, written};
 
 use crate::decimal::put_decimal;
 
@@ -12,7 +12,7 @@ pub fn put_byte(out: &mut [u8], at: usize, byte: u8) -> usize
     if at < out.len() {
         out[at] = byte;
     }
-    place(at, 1)
+    at.saturating_add(1)
 }
 
 pub fn put_text(out: &mut [u8], at: usize, text: &[u8]) -> usize
@@ -21,19 +21,15 @@ pub fn put_text(out: &mut [u8], at: usize, text: &[u8]) -> usize
     if at < out.len() {
         put_front(&mut out[at..], text);
     }
-    place(at, text.len())
+    at.saturating_add(text.len())
 }
 
-// A text at the output's start.
+// A text at the output's start, as far as there is room.
 fn put_front(out: &mut [u8], text: &[u8])
     ensures { out.new ≡ written out.old 0 text.now }
 {
-    let room = out.len();
-    if room < text.len() {
-        out.copy_from_slice(&text[..room]);
-        return;
-    }
-    out[..text.len()].copy_from_slice(text);
+    let n = out.len().min(text.len());
+    out[..n].copy_from_slice(&text[..n]);
 }
 
 // A number, and the byte that ends it.
@@ -49,24 +45,8 @@ pub fn put_fields(out: &mut [u8], at: usize, of: &[u64], ends: &[u8]) -> usize
     ensures { Put out.old at (fields of.now ends.now) out.new result }
 {
     let mut next = at;
-    let mut i = 0;
-    while i < of.len() {
-        if ends.len() <= i {
-            return next;
-        }
-        next = put_field(out, next, of[i], ends[i]);
-        i += 1;
+    for (n, end) in of.iter().zip(ends.iter()) {
+        next = put_field(out, next, *n, *end);
     }
     next
-}
-
-// The place `count` bytes on.
-pub(crate) fn place(at: usize, count: usize) -> usize
-    ensures { result ≡ past at count }
-{
-    if usize::MAX - at < count {
-        usize::MAX
-    } else {
-        at + count
-    }
 }

@@ -9,10 +9,10 @@ use borrow.Author.Tests.{le-leb, lt-leb, eq-eqb, ne_eqb}
 use lib.Dec.{T}
 use lib.Ieee.Bits.{is_true}
 use mir.Facts.{and_yes}
-use Rattle.window.specs.Window.{lies_in, is_code, none_shown, cut_to, shown_in, place_of, bundle_place, SpotIsAddress, WindowShows}
+use Rattle.window.specs.Window.{lies_in, is_code, cut_to, shown_in, place_of, bundle_place, SpotIsAddress, WindowShows}
 use Rattle.window.specs.declared.Extent.{Extent}
 use Rattle.window.specs.declared.Part.{Part}
-use Rattle.window.specs.declared.Place.TheVariants.{At, Nowhere}
+use Rattle.std.specs.Prelude.{Some, None}
 
 pub spot-is-address : SpotIsAddress
 spot-is-address address = omega arith
@@ -55,46 +55,46 @@ module _ (e : Extent) (length : ℕ) where
 
   -- what is no code in the file has no part in a window and no place
   module _ (t : is_code e length ≡ false) where
-    pub part_none : (window : ℕ) → none_shown ≡ shown_in e length window
+    pub part_none : (window : ℕ) → None ≡ shown_in e length window
     unfolding shown_in
     part_none window = rw t
 
-    pub place_none : (address : ℕ) → Nowhere ≡ place_of e length address
+    pub place_none : (address : ℕ) → None ≡ place_of e length address
     unfolding place_of
     place_none address = rw t
 
   -- what is code has, where it reaches into the window and to the address
   module _ (t : is_code e length ≡ true) where
-    pub part-empty : (window : ℕ) → (cut_to e window).size ≡ 0 → none_shown ≡ shown_in e length window
+    pub part-empty : (window : ℕ) → (cut_to e window).size ≡ 0 → None ≡ shown_in e length window
     unfolding shown_in
     part-empty window z = rw (t, eq-eqb (cut_to e window).size 0 z)
 
-    pub part-is : (window : ℕ) → 0 < (cut_to e window).size → cut_to e window ≡ shown_in e length window
+    pub part-is : (window : ℕ) → 0 < (cut_to e window).size → Some (cut_to e window) ≡ shown_in e length window
     unfolding shown_in
     part-is window h = rw (t, ne_eqb (cut_to e window).size 0 (λ z. absurd (omega arith)))
 
     module _ (address : ℕ) where
-      pub place-before : address < e.address → Nowhere ≡ place_of e length address
+      pub place-before : address < e.address → None ≡ place_of e length address
       unfolding place_of
       place-before h = rw (t, lt-leb e.address address h)
 
-      pub place-past : e.address ≤ address → e.address + e.size < address + 16 → Nowhere ≡ place_of e length address
+      pub place-past : e.address ≤ address → e.address + e.size < address + 16 → None ≡ place_of e length address
       unfolding place_of
       place-past l h = rw (t, le-leb e.address address l, lt-leb (address + 16) (e.address + e.size) h)
 
-      pub place_is : e.address ≤ address → address + 16 ≤ e.address + e.size → At (e.offset + (address - e.address)) ≡ place_of e length address
+      pub place_is : e.address ≤ address → address + 16 ≤ e.address + e.size → Some (e.offset + (address - e.address)) ≡ place_of e length address
       unfolding place_of
       place_is l h = rw (t, le-leb e.address address l, le-leb (address + 16) (e.address + e.size) h)
 
 -- a bundle of a part: before it, past it, in it
 module _ (p : Part) (bundle : ℕ) where
-  in-before : 16 * bundle < p.first → bundle_place p bundle ≡ Nowhere
+  in-before : 16 * bundle < p.first → bundle_place (Some p) bundle ≡ None
   in-before h = rw (lt-leb p.first (16 * bundle) h)
 
-  in-past : p.first ≤ 16 * bundle → p.first + p.size < 16 * bundle + 16 → bundle_place p bundle ≡ Nowhere
+  in-past : p.first ≤ 16 * bundle → p.first + p.size < 16 * bundle + 16 → bundle_place (Some p) bundle ≡ None
   in-past l h = rw (le-leb p.first (16 * bundle) l, lt-leb (16 * bundle + 16) (p.first + p.size) h)
 
-  in_is : p.first ≤ 16 * bundle → 16 * bundle + 16 ≤ p.first + p.size → bundle_place p bundle ≡ At (p.offset + (16 * bundle - p.first))
+  in_is : p.first ≤ 16 * bundle → 16 * bundle + 16 ≤ p.first + p.size → bundle_place (Some p) bundle ≡ Some (p.offset + (16 * bundle - p.first))
   in_is l h = rw (le-leb p.first (16 * bundle) l, le-leb (16 * bundle + 16) (p.first + p.size) h)
 
 -- a place counted from the window or from the extent
@@ -103,16 +103,13 @@ same_place offset address window k h = omega arith
 
 -- a window shows what the extent has
 module _ (e : Extent) (length window bundle : ℕ) (few : bundle < 4096) where
-  none_in : bundle_place none_shown bundle ≡ Nowhere
-  none_in = in-past none_shown bundle (omega arith) (omega arith)
-
   module _ (t : is_code e length ≡ true) where
     -- a place that isn't in the extent
-    not-shown : bundle_place (cut_to e window) bundle ≡ Nowhere → bundle_place (shown_in e length window) bundle ≡ Nowhere
+    not-shown : bundle_place (Some (cut_to e window)) bundle ≡ None → bundle_place (shown_in e length window) bundle ≡ None
     not-shown n =
         elim (dec_lt 0 (cut_to e window).size) [
           | yes h ↦ rw (← part-is e length t window h) n
-          | no h ↦ rw (← part-empty e length t window (omega arith)) none_in
+          | no h ↦ rw (← part-empty e length t window (omega arith)) refl
         ]
 
     shown : bundle_place (shown_in e length window) bundle ≡ place_of e length (window + 16 * bundle)
@@ -125,13 +122,13 @@ module _ (e : Extent) (length window bundle : ℕ) (few : bundle < 4096) where
                 | no g ↦
                     let some : 0 < (cut_to e window).size = omega arith in
                     rw (← part-is e length t window some) (in_is (cut_to e window) bundle (omega arith) (omega arith))
-                    ∙ ap At (same_place e.offset e.address window (16 * bundle) (omega arith))
+                    ∙ ap Some (same_place e.offset e.address window (16 * bundle) (omega arith))
                     ∙ place_is e length t (window + 16 * bundle) (omega arith) (omega arith)
               ]
         ]
 
   by_code : (b : Bool) → is_code e length ≡ b → bundle_place (shown_in e length window) bundle ≡ place_of e length (window + 16 * bundle)
-  by_code false t = rw (← part_none e length t window, ← place_none e length t (window + 16 * bundle)) none_in
+  by_code false t = rw (← part_none e length t window, ← place_none e length t (window + 16 * bundle)) refl
   by_code true t = shown t
 
 pub window-shows : WindowShows

@@ -1,9 +1,7 @@
 -- Code in a file, by address, and its windows: 65,536 bytes from an address whose low 16 bits are zero. Assumes nothing.
-use Rattle.std.specs.Prelude.{ℕ, ◌+◌, ◌-◌, ◌*◌, ◌/◌, ◌%◌, ◌^◌, ◌<◌, min, ◌≡◌, Bool, ◌&&◌, cond, eqb, leb}
+use Rattle.std.specs.Prelude.{ℕ, ◌+◌, ◌-◌, ◌*◌, ◌/◌, ◌%◌, ◌^◌, ◌<◌, min, ◌≡◌, Bool, ◌&&◌, cond, eqb, leb, Option, Some, None}
 use Rattle.window.specs.declared.Extent.{Extent}
 use Rattle.window.specs.declared.Part.{Part}
-use Rattle.window.specs.declared.Place.{Place}
-use Rattle.window.specs.declared.Place.TheVariants.{At, Nowhere}
 use Rattle.window.specs.declared.Spot.{Spot}
 
 -- how many bytes a window has
@@ -22,31 +20,28 @@ lies_in e length = leb (e.offset + e.size) length && leb (e.address + e.size) (2
 abbrev pub is_code : Extent → ℕ → Bool
 is_code e length = e.code && lies_in e length
 
--- no part
-abbrev pub none_shown : Part
-none_shown = record { first = 0; offset = 0; size = 0 }
-
 -- an extent without its bytes before a window and those past it; `a - b` is 0 where a isn't above b
 abbrev pub cut_to : Extent → ℕ → Part
 cut_to e window =
     record { first = e.address - window; offset = e.offset + (window - e.address); size = min (e.size - (window - e.address)) (span - (e.address - window)) }
 
--- the part of a file that is an extent's code in a window
-unfoldable pub shown_in : Extent → ℕ → ℕ → Part
-shown_in e length window = cond (is_code e length) (cond (eqb (cut_to e window).size 0) none_shown (cut_to e window)) none_shown
+-- the part of a file that is an extent's code in a window, where there is one
+unfoldable pub shown_in : Extent → ℕ → ℕ → Option Part
+shown_in e length window = cond (is_code e length) (cond (eqb (cut_to e window).size 0) None (Some (cut_to e window))) None
 
 -- where in the file the sixteen bytes from an address on stand: nowhere, where one of them isn't the extent's code
-unfoldable pub place_of : Extent → ℕ → ℕ → Place
+unfoldable pub place_of : Extent → ℕ → ℕ → Option ℕ
 place_of e length address =
-    cond (is_code e length && (leb e.address address && leb (address + 16) (e.address + e.size))) (At (e.offset + (address - e.address))) Nowhere
+    cond (is_code e length && (leb e.address address && leb (address + 16) (e.address + e.size))) (Some (e.offset + (address - e.address))) None
 
 -- an address is its window, its bundle and the rest
 abbrev pub SpotIsAddress : Type 0
 SpotIsAddress = (address : ℕ) → (spot_of address).window + (16 * (spot_of address).bundle + (spot_of address).rest) ≡ address
 
--- where in the file a bundle of the window stands, by the part alone
-abbrev pub bundle_place : Part → ℕ → Place
-bundle_place p bundle = cond (leb p.first (16 * bundle) && leb (16 * bundle + 16) (p.first + p.size)) (At (p.offset + (16 * bundle - p.first))) Nowhere
+-- where in the file a bundle of the window stands, by the part alone: nowhere, where there is none
+abbrev pub bundle_place : Option Part → ℕ → Option ℕ
+bundle_place None bundle = None
+bundle_place (Some p) bundle = cond (leb p.first (16 * bundle) && leb (16 * bundle + 16) (p.first + p.size)) (Some (p.offset + (16 * bundle - p.first))) None
 
 -- a window leaves no bundle of the extent out, and has no other: each stands where the extent has it
 abbrev pub WindowShows : Type 0

@@ -2,12 +2,13 @@
 // address whose low 16 bits are zero, so that a bundle's number in it doesn't depend on where the code begins.
 #![tactic(auto)]
 
-ghost use Rattle.std.specs.Prelude.{◌≡◌, ◌-◌, min};
+ghost use Rattle.std.specs.Prelude.{◌≡◌};
 ghost use Rattle.window.specs.Window.{spot_of, lies_in, is_code, shown_in, place_of};
 
 const SPAN: u64 = 65536;
 
-// So many bytes of a file from an offset on, and the address of the first; whether they are code.
+// So many bytes of a file from an offset on, and the address of the first. Whether they are code stands beside them and isn't an Option,
+// since `elf::section` says where a part lies that is none.
 #[derive(Clone, Copy)]
 pub struct Extent {
     pub code: bool,
@@ -22,19 +23,6 @@ pub struct Part {
     pub first: u64,
     pub offset: u64,
     pub size: u64,
-}
-
-const NO_PART: Part = Part {
-    first: 0,
-    offset: 0,
-    size: 0,
-};
-
-// A place in a file.
-#[derive(Clone, Copy)]
-pub enum Place {
-    At(u64),
-    Nowhere,
 }
 
 // An address: its window, the bundle there, and what is left below sixteen.
@@ -83,54 +71,38 @@ fn is_code(extent: Extent, length: u64) -> bool
 }
 
 // The part of a file of so many bytes that is an extent's code in a window.
-pub fn part_of(extent: Extent, length: u64, window: u64) -> Part
+pub fn part_of(extent: Extent, length: u64, window: u64) -> Option<Part>
     ensures { result ≡ shown_in extent length window }
 {
     if !is_code(extent, length) {
-        return NO_PART;
+        return None;
     }
-    let skipped = less(window, extent.address);
-    let first = less(extent.address, window);
-    let size = least(less(extent.size, skipped), less(SPAN, first));
+    let skipped = window.saturating_sub(extent.address);
+    let first = extent.address.saturating_sub(window);
+    let left = extent.size.saturating_sub(skipped);
+    let room = SPAN.saturating_sub(first);
+    let size = left.min(room);
     if size == 0 {
-        return NO_PART;
+        return None;
     }
-    Part {
+    Some(Part {
         first,
         offset: extent.offset + skipped,
         size,
-    }
-}
-
-// What a number is above another, and 0 where it isn't.
-fn less(from: u64, taken: u64) -> u64
-    ensures { result ≡ from - taken }
-{
-    if taken < from { from - taken } else { 0 }
-}
-
-fn least(a: u64, b: u64) -> u64
-    ensures { result ≡ min a b }
-{
-    if a < b { a } else { b }
+    })
 }
 
 // Where in a file of so many bytes the sixteen from an address on stand.
-pub fn place_of(extent: Extent, length: u64, address: u64) -> Place
+pub fn place_of(extent: Extent, length: u64, address: u64) -> Option<u64>
     ensures { result ≡ place_of extent length address }
 {
     if !is_code(extent, length) {
-        return Place::Nowhere;
+        return None;
     }
-    if address < extent.address {
-        return Place::Nowhere;
+    let before = address.checked_sub(extent.address)?;
+    let most = extent.size.checked_sub(16)?;
+    if most < before {
+        return None;
     }
-    let before = address - extent.address;
-    if extent.size < 16 {
-        return Place::Nowhere;
-    }
-    if extent.size - 16 < before {
-        return Place::Nowhere;
-    }
-    Place::At(extent.offset + before)
+    Some(extent.offset + before)
 }

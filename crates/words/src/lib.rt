@@ -5,54 +5,40 @@ mod outcome;
 
 ghost use Rattle.std.specs.Prelude.{◌≡◌};
 ghost use Rattle.words.specs.Number.{hex_in, decimal_in, is_hex, unsigned_in, negated, as_number};
-ghost use Rattle.words.specs.Words.{signed_by, unsigned_by, as_value, slot_by, place_by, as_place, as_form};
+ghost use Rattle.words.specs.Words.{signed_by, unsigned_by, as_value, slot_by, place_of, as_place, as_form};
 
 use form::Form;
-use name::Name;
 use operand::Operand;
-pub use outcome::{Given, Named, Place};
-use row::NONE;
-use text::Number;
+pub use outcome::{Given, Place};
 
 const HALF: u64 = 0x8000_0000_0000_0000;
 
 // The number that a word is: decimal, or hex after `0x`, each with a minus sign or without.
-pub fn number(word: &[u8]) -> Given
+pub fn number(word: &[u8]) -> Option<Given>
     ensures { result ≡ as_number word.now }
 {
     if text::is_at(word, 0, b'-') {
-        return negated(unsigned_in(&word[1..]));
+        return negated(unsigned_in(&word[1..])?);
     }
-    unsigned_in(word)
+    Some(Given::Unsigned(unsigned_in(word)?))
 }
 
-// So much below zero.
-fn negated(given: Given) -> Given
-    ensures { result ≡ negated given }
-{
-    match given {
-        Given::Unsigned(n) => below_zero(n),
-        Given::Negative(_) => Given::Refused,
-        Given::Refused => Given::Refused,
-    }
-}
-
-// The same of a number, of which `-0` is 0.
-fn below_zero(n: u64) -> Given
-    ensures { result ≡ negated (Given.Unsigned n) }
+// So much below zero, of which `-0` is 0.
+fn negated(n: u64) -> Option<Given>
+    ensures { result ≡ negated n }
 {
     if n == 0 {
-        return Given::Unsigned(0);
+        return Some(Given::Unsigned(0));
     }
     if n <= HALF {
-        Given::Negative(n)
+        Some(Given::Negative(n))
     } else {
-        Given::Refused
+        None
     }
 }
 
 // The number that a word without a sign is.
-fn unsigned_in(word: &[u8]) -> Given
+fn unsigned_in(word: &[u8]) -> Option<u64>
     ensures { result ≡ unsigned_in word.now }
 {
     if is_hex(word) {
@@ -68,54 +54,43 @@ fn is_hex(word: &[u8]) -> bool
 }
 
 // The number that a word is in decimal.
-fn decimal_in(word: &[u8]) -> Given
+fn decimal_in(word: &[u8]) -> Option<u64>
     ensures { result ≡ decimal_in word.now }
 {
-    let read = text::read_decimal(word, 0);
-    let Number::Read(n, end) = read else {
-        return Given::Refused;
-    };
-    if end == word.len() {
-        Given::Unsigned(n)
-    } else {
-        Given::Refused
-    }
+    let (n, end) = text::read_decimal(word, 0)?;
+    if end == word.len() { Some(n) } else { None }
 }
 
 // The number that one to sixteen hex digits are.
-fn hex_in(word: &[u8]) -> Given
+fn hex_in(word: &[u8]) -> Option<u64>
     ensures { result ≡ hex_in word.now }
 {
     if word.len() < 1 {
-        return Given::Refused;
+        return None;
     }
     if 16 < word.len() {
-        return Given::Refused;
+        return None;
     }
-    let mut n: u64 = 0;
-    let mut i = 0;
-    while i < word.len() {
-        let digit = hex_text::digit_value(word[i]);
+    let mut n = 0;
+    for c in word {
+        let digit = hex_text::digit_value(*c);
         if 15 < digit {
-            return Given::Refused;
+            return None;
         }
-        n = n * 16 + digit as u64;
-        i += 1;
+        n = n * 16 + u64::from(digit);
     }
-    Given::Unsigned(n)
+    Some(n)
 }
 
 // The value that a word is for a form, of the kind that its values have.
 pub fn value(form: Form, word: &[u8]) -> Operand
     ensures { result ≡ as_value form word.now }
 {
-    let packed = row::packed_of(form);
-    if packed.kind == NONE {
+    let Some(row) = row::packed_of(form) else {
         return Operand::None;
-    }
+    };
     let given = number(word);
-    let meaning = row::meaning_of(packed.kind, packed.number);
-    if meaning::has_sign(meaning) {
+    if meaning::has_sign(row.meaning) {
         signed_by(given)
     } else {
         unsigned_by(given)
@@ -123,88 +98,69 @@ pub fn value(form: Form, word: &[u8]) -> Operand
 }
 
 // A number as a value with a sign.
-fn signed_by(given: Given) -> Operand
+fn signed_by(given: Option<Given>) -> Operand
     ensures { result ≡ signed_by given }
 {
     match given {
-        Given::Unsigned(n) => not_negative(n),
-        Given::Negative(n) => Operand::ImmI64(operand::integer(std::num::wrapping_sub_u64(0, n))),
-        Given::Refused => Operand::None,
-    }
-}
-
-fn not_negative(n: u64) -> Operand
-    ensures { result ≡ signed_by (Given.Unsigned n) }
-{
-    if n < HALF {
-        Operand::ImmI64(operand::integer(n))
-    } else {
-        Operand::None
+        Some(Given::Unsigned(n)) if n < HALF => Operand::ImmI64(n.cast_signed()),
+        Some(Given::Negative(n)) => Operand::ImmI64(n.wrapping_neg().cast_signed()),
+        _ => Operand::None,
     }
 }
 
 // A number as a value without one.
-fn unsigned_by(given: Given) -> Operand
+fn unsigned_by(given: Option<Given>) -> Operand
     ensures { result ≡ unsigned_by given }
 {
     match given {
-        Given::Unsigned(n) => Operand::ImmU64(n),
-        Given::Negative(_) => Operand::None,
-        Given::Refused => Operand::None,
+        Some(Given::Unsigned(n)) => Operand::ImmU64(n),
+        _ => Operand::None,
     }
 }
 
-// The place that a word is: a bundle's address, and in its low four bits the slot.
-pub fn place(word: &[u8]) -> Place
+// The place that a word is.
+pub fn place(word: &[u8]) -> Option<Place>
     ensures { result ≡ as_place word.now }
 {
-    match number(word) {
-        Given::Unsigned(n) => place_at(n),
-        Given::Negative(_) => Place::Refused,
-        Given::Refused => Place::Refused,
+    match number(word)? {
+        Given::Unsigned(n) => place_of(n),
+        Given::Negative(_) => None,
     }
 }
 
-fn place_at(n: u64) -> Place
-    ensures { result ≡ place_by (Given.Unsigned n) }
+// The place that an address tells: its bundle's, and in its low four bits the slot.
+fn place_of(n: u64) -> Option<Place>
+    ensures { result ≡ place_of n }
 {
     let low = n % 16;
-    let slot = slot_of(low);
-    if slot < 3 {
-        Place::At(n - low, slot)
-    } else {
-        Place::Refused
-    }
+    let slot = slot_of(low)?;
+    Some(Place {
+        address: n - low,
+        slot,
+    })
 }
 
-// The slot that an address's low four bits tell, 3 where they tell none.
-fn slot_of(low: u64) -> u64
+// The slot that an address's low four bits tell.
+fn slot_of(low: u64) -> Option<u64>
     ensures { result ≡ slot_by low }
 {
     match low {
-        0 => 0,
-        1 => 1,
-        2 => 2,
-        6 => 1,
-        12 => 2,
-        _ => 3,
+        0 => Some(0),
+        1 => Some(1),
+        2 => Some(2),
+        6 => Some(1),
+        12 => Some(2),
+        _ => None,
     }
 }
 
 // The form that a word names.
-pub fn form(word: &[u8]) -> Named
+pub fn form(word: &[u8]) -> Option<Form>
     ensures { result ≡ as_form word.now }
 {
     if text::is_at(word, 0, b'-') {
-        return Named::Refused;
+        return None;
     }
-    let read = name::read_name(word, 0);
-    let Name::Read(form, next) = read else {
-        return Named::Refused;
-    };
-    if next == word.len() {
-        Named::Is(form)
-    } else {
-        Named::Refused
-    }
+    let (form, next) = name::read_name(word, 0)?;
+    if next == word.len() { Some(form) } else { None }
 }

@@ -5,7 +5,7 @@ use Rattle.by_sheet.proofs.perform.Goals as goal
 
 pub returns-then-out-lt-CAPACITY : goal.returns-then-out-lt-CAPACITY
 unfolding performed_of
-returns-then-out-lt-CAPACITY c = rw (lt-ltb _ _ c.if-out-lt-CAPACITY.true, c.refused.ensures)
+returns-then-out-lt-CAPACITY c = rw (lt-ltb _ _ c.if-out-lt-CAPACITY.true)
 
 pub returns : goal.returns
 unfolding performed_of

@@ -6,8 +6,7 @@ use Rattle.bundle.specs.declared.half.Halves.{Halves}
 use Rattle.record.specs.Record.{no_record, same_halves}
 use Rattle.record.specs.declared.Record.{Record}
 use Rattle.journal.specs.Change.{rewritten}
-use Rattle.by_sheet.specs.Taking.{none_named}
-use Rattle.by_sheet.specs.declared.taking.TakenOut.{TakenOut}
+use Rattle.by_sheet.specs.Taking.{TakenOut, none_named}
 
 -- whether a record fits: its bundle is there, and is what the record left
 abbrev pub fit_answer : ℕ → Halves → Halves → ℕ

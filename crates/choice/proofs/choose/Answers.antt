@@ -12,7 +12,7 @@ use Rattle.choice.proofs.choose.Goals as goal
 
 pub returns-then-word-ge-WORD : goal.returns-then-word-ge-WORD
 unfolding choice_of
-returns-then-word-ge-WORD c = rw (le-leb _ _ c.if-word-ge-WORD.true) c.refused.ensures
+returns-then-word-ge-WORD c = rw (le-leb _ _ c.if-word-ge-WORD.true) refl
 
 pub returns-in-77 : goal.returns-in-77
 unfolding opcode_table
@@ -29,5 +29,4 @@ returns-in-66 c =
 pub returns-in_default : goal.returns-in_default
 unfolding opcode_table
 returns-in_default c =
-    c.refused-in_default.ensures
-    ∙ by-table _ _ A [] (sym (otherwise ((B ∷ []) ∷ (I ∷ M ∷ []) ∷ []) c.args.unit opcode_tables [] tt (search rules))) (lt-leb _ _ c.if-word-ge-WORD.false) refl tt
+    by-table _ _ A [] (sym (otherwise ((B ∷ []) ∷ (I ∷ M ∷ []) ∷ []) c.args.unit opcode_tables [] tt (search rules))) (lt-leb _ _ c.if-word-ge-WORD.false) refl tt

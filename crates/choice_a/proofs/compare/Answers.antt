@@ -10,6 +10,8 @@ use lib.Arith.{lt_of_le-ne}
 use lib.Dec.{ltb}
 use borrow.Author.Rules.{rules}
 use lib.ListN.{drop, get_or}
+use Rattle.std.specs.declared.option.Option.{Option}
+use Rattle.std.specs.declared.option.Option.TheVariants.{None, Some}
 use Rattle.bits.specs.Part.{part}
 use Rattle.opcodes.specs.Tables.{a_table, none, short, compare}
 use Rattle.opcodes.specs.declared.Named.{Named}
@@ -44,23 +46,27 @@ settle word [] known es other = refl
 settle word (f ∷ fs) known es other = settle word fs known.1 (narrow f es) other ∙ in-arm word [] tt f.0 f.1 f.2 (sym known.0) es other refl
 
 -- what the table has left; its opcodes in the code's order; and what the code has by them
-abbrev left : ℕ → ℕ → ℕ → ℕ → ℕ → ℕ → Named
+abbrev left : ℕ → ℕ → ℕ → ℕ → ℕ → ℕ → Option Named
 left word row x2 tb ta c = short (chosen (narrowed (compare (12 + row) x2 tb ta c) a_table) word none)
 
-opcodes : ℕ → List Opcode
-opcodes word = values (λ j. let i = 47 - j in (left word (i / 16) (i / 8 % 2) (i / 4 % 2) (i / 2 % 2) (i % 2)).0) 48
+opcode : Option Named → Opcode
+opcode (Some named) = named.0
+opcode None = No
 
-abbrev listed : ℕ → ℕ → ℕ → ℕ → ℕ → ℕ → Named
+opcodes : ℕ → List Opcode
+opcodes word = values (λ j. let i = 47 - j in opcode (left word (i / 16) (i / 8 % 2) (i / 4 % 2) (i / 2 % 2) (i % 2))) 48
+
+abbrev listed : ℕ → ℕ → ℕ → ℕ → ℕ → ℕ → Option Named
 listed word row x2 tb ta c =
     let form = cond (ltb 1 x2) 8 (tb + 6) in
-    record { 0 = get_or (opcodes word) (row * 16 + x2 % 2 * 8 + form % 2 * 4 + ta * 2 + c) No; 1 = form }
+    Some (record { 0 = get_or (opcodes word) (row * 16 + x2 % 2 * 8 + form % 2 * 4 + ta * 2 + c) No; 1 = form })
 
 -- both at every value of the bits that decide, which are the same by computing
-abbrev everywhere : (ℕ → ℕ → ℕ → ℕ → ℕ → Named) → List (List (List (List (List Named))))
+abbrev everywhere : (ℕ → ℕ → ℕ → ℕ → ℕ → Option Named) → List (List (List (List (List (Option Named)))))
 everywhere f = values (λ row. values (λ x2. values (λ tb. values (λ ta. values (f row x2 tb ta) 2) 2) 2) 4) 3
 
 same : (word : ℕ) → everywhere (listed word) ≡ everywhere (left word)
-unfolding a_table values opcodes
+unfolding a_table values opcode opcodes
 same word = refl
 
 met : (word row x2 tb ta c : ℕ) → row < 3 → Have word (compare (12 + row) x2 tb ta c) → listed word row x2 tb ta c ≡ short (chosen a_table word none)
@@ -69,7 +75,7 @@ met word row x2 tb ta c small known =
     ∙ ap short (settle word (compare (12 + row) x2 tb ta c) known a_table none)
 
 pub returns : goal.returns
-unfolding a_table values opcodes
+unfolding a_table values opcode opcodes
 returns c =
     rw c.compare_form-form.ensures
     (met c.args.word c.args.row c.get-x2.result (part c.args.word 36 1) c.get-ta.result c.get-c.result (search rules) (search rules))

@@ -1,26 +1,24 @@
 -- Each turn folds one record more. Assumes nothing.
 use mathlib.Core.Path.{◌≡◌, refl, sym, ap, ◌∙◌, subst}
-use mathlib.Core.List.{List}
-use Prim.Native.Nat.{ℕ, ◌≤◌, ◌<◌}
+use Prim.Native.Nat.{ℕ, ◌≤◌}
 use native.Mathlib.Omega.{arith}
-use lib.Dec.{ltb}
-use lib.ListN.{length, get_or, length-replicate, get_or-replicate}
+use lib.ListN.{length-replicate, get_or-replicate}
+use Rattle.std.proofs.Common.{Option, None}
 use Rattle.record.specs.Record.{highest}
 use Rattle.record.specs.declared.Record.{Record}
-use Rattle.records.specs.Journal.{limit}
 use Rattle.fold.specs.inner.Places.{kept_of}
 use Rattle.fold.proofs.Folding.{Folding, low, left-few, one-is, turn, done, begun}
 use Rattle.fold.proofs.fold_own.Goals as goal
 
 pub loop-place-init : goal.loop-place-init
 loop-place-init c =
-    let none = c.no_places-places.ensures in
+    let none : Option ℕ = None in
     record {
       within = omega arith;
       is = begun _;
       counts = refl;
-      long = subst (λ (ps : List ℕ). highest < length ps) (sym none) (omega (arith, length-replicate 4096 limit));
-      kept = λ j h. ap (λ (ps : List ℕ). get_or ps j 0) none ∙ get_or-replicate 4096 j limit 0 (omega arith);
+      long = omega (arith, length-replicate 4096 none);
+      kept = λ j h. get_or-replicate 4096 j none none (omega arith);
     }
 
 pub place_in-at-requires : goal.place_in-at-requires
@@ -42,7 +40,7 @@ pub loop-place-preserved : goal.loop-place-preserved
 loop-place-preserved c =
     let a = c.args in
     let l = c.loop-place in
-    let kept = c.kept-renewed.ensures ∙ ap (λ (q : Record). kept_of (ltb c.place_in-at.result l.left) q c.get-one.result) c.get-first.ensures in
+    let kept = c.kept-renewed.ensures ∙ ap (λ (q : Option Record). kept_of q c.get-one.result) c.left_at-first.ensures in
     turn a.party a.count a.records.now c.requires.0 c.requires.1 l.place c.loop-place-test.true l.invariant _ _ _ _ _ _ _
     c.get-one.ensures c.put.ensures c.place_in-at.ensures.0 c.place_in-at.ensures.1 kept c.put-in-loop-place.ensures c.more-left.ensures
 

@@ -1,30 +1,41 @@
--- A turn reads a byte, which has room and text, or ends.
-use Rattle.std.proofs.Common.{arith, refl, sym, ◌∙◌, length-set}
+-- A turn reads a byte, which has room, or ends.
+use Rattle.std.proofs.Common.{◌≡◌, refl, sym, ◌∙◌, arith, length-set}
 use native.Mathlib.Nat.{sub-zero, zero-add}
+use Rattle.std.specs.Slice.Iter.{chunks_rest, chunks_size}
 use Rattle.hex_text.specs.Hex.{decoded_of}
-use Rattle.hex_text.proofs.Turns.{turn, stopped}
+use Rattle.hex_text.proofs.Turns.{cut, turn, stopped, ended}
 use Rattle.hex_text.proofs.decode.Goals as goal
 
-pub loop-b-init : goal.loop-b-init
+pub loop-three-init : goal.loop-three-init
 unfolding decoded_of
-loop-b-init c = (omega arith, refl, rw (sub-zero, zero-add))
+loop-three-init c =
+    let size : chunks_size c.into_iter-three-iterator.result ≡ 3 = cc in
+    let all : chunks_rest c.into_iter-three-iterator.result ≡ c.args.text.now = cc in
+    (size, omega arith, refl, rw (all, sub-zero, zero-add))
 
 pub bounds-out-count : goal.bounds-out-count
-bounds-out-count c = (turn c.args.text.now c.args.out.now c.loop-b.out c.loop-b.at c.loop-b.count c.loop-b.invariant.1 c.in-Byte.b (sym c.in-Byte.ensures)).room
+bounds-out-count c =
+    let l = c.loop-three in
+    let s = c.in-Some.ensures.steps in
+    let k = cut (chunks_rest l.three-iterator) c.in-Some.three.now (chunks_rest c.next.new.self) s.1.0 (rw l.invariant.0 at s.1.1) in
+    (turn c.args.out.now l.out (chunks_rest l.three-iterator) l.count l.invariant.2 c.in-Ok.byte (sym (k.alike _) ∙ sym c.in-Ok.ensures)).room
 
-pub overflow_add-at : goal.overflow_add-at
-overflow_add-at c = omega (arith, (turn c.args.text.now c.args.out.now c.loop-b.out c.loop-b.at c.loop-b.count c.loop-b.invariant.1 c.in-Byte.b (sym c.in-Byte.ensures)).left)
+pub loop-three-preserved : goal.loop-three-preserved
+loop-three-preserved c =
+    let l = c.loop-three in
+    let s = c.in-Some.ensures.steps in
+    let k = cut (chunks_rest l.three-iterator) c.in-Some.three.now (chunks_rest c.next.new.self) s.1.0 (rw l.invariant.0 at s.1.1) in
+    let t = turn c.args.out.now l.out (chunks_rest l.three-iterator) l.count l.invariant.2 c.in-Ok.byte (sym (k.alike _) ∙ sym c.in-Ok.ensures) in
+    (s.0 ∙ l.invariant.0, omega (arith, t.room), length-set l.out l.count _ ∙ l.invariant.2, rw k.others (l.invariant.3 ∙ t.read))
 
-pub loop-b-smaller : goal.loop-b-smaller
-loop-b-smaller c = omega (arith, (turn c.args.text.now c.args.out.now c.loop-b.out c.loop-b.at c.loop-b.count c.loop-b.invariant.1 c.in-Byte.b (sym c.in-Byte.ensures)).left)
+pub returns-in-Err : goal.returns-in-Err
+returns-in-Err c =
+    let l = c.loop-three in
+    let s = c.in-Some.ensures.steps in
+    let k = cut (chunks_rest l.three-iterator) c.in-Some.three.now (chunks_rest c.next.new.self) s.1.0 (rw l.invariant.0 at s.1.1) in
+    stopped c.args.out.now l.out (chunks_rest l.three-iterator) l.count l.invariant.2 c.in-Err.ending (sym (k.alike _) ∙ sym c.in-Err.ensures) ∙ sym l.invariant.3
 
-pub loop-b-preserved : goal.loop-b-preserved
-loop-b-preserved c =
-    let l = c.loop-b in
-    let t = turn c.args.text.now c.args.out.now l.out l.at l.count l.invariant.1 c.in-Byte.b (sym c.in-Byte.ensures) in
-    (omega (arith, t.room), length-set l.out l.count _ ∙ l.invariant.1, l.invariant.2 ∙ t.read)
-
-pub returns-in-Stop : goal.returns-in-Stop
-returns-in-Stop c =
-    let l = c.loop-b in
-    stopped c.args.text.now c.args.out.now l.out l.at l.count l.invariant.1 c.in-Stop.ending (sym c.in-Stop.ensures) ∙ sym l.invariant.2
+pub returns : goal.returns
+returns c =
+    let l = c.loop-three in
+    ended c.args.out.now l.out (chunks_rest l.three-iterator) l.count l.invariant.2 c.in-None.ensures.steps.1.0 ∙ sym l.invariant.3

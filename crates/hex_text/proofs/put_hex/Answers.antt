@@ -11,8 +11,9 @@ hex-next i [] h = absurd (omega arith)
 hex-next zero (b ∷ bytes) h = refl
 hex-next (suc i) (b ∷ bytes) h = rw (hex-next i bytes (omega arith))
 
-pub loop-i-preserved : goal.loop-i-preserved
-loop-i-preserved c =
-    let l = c.loop-i in
-    let p = put_then (omega arith) (put_then (omega arith) l.invariant.1 c.put_byte-next.ensures) c.put_byte-next-in-loop-i.ensures in
-    (omega arith, rw (add-one, hex-next l.i c.args.bytes.now (omega arith), ← c.digit.ensures, ← c.digit-in-loop-i.ensures, ← append_snoc (hex_of (take l.i c.args.bytes.now))) p)
+pub loop-byte-preserved : goal.loop-byte-preserved
+loop-byte-preserved c =
+    let l = c.loop-byte in
+    let i = l.byte-index in
+    let p = put_then (omega arith) (put_then (omega arith) l.invariant c.put_byte-next.ensures) c.put_byte-next-in-loop-byte.ensures in
+    rw (add-one, hex-next i c.args.bytes.now (omega arith), ← c.digit.ensures, ← c.digit-in-loop-byte.ensures, ← append_snoc (hex_of (take i c.args.bytes.now))) p

@@ -1,6 +1,5 @@
 -- `displacement_in` meets its contract: the number gathered has as many bits as the parts.
 use Rattle.bundle.specs.Bundle.{whole}
-use Rattle.parts.specs.inner.Numbers.{parts_in}
 use Rattle.parts.proofs.Steps.{gathered-lt}
 use Rattle.immediate.proofs.displacement_in.Goals as goal
 
@@ -8,4 +7,4 @@ pub displacement-requires : goal.displacement-requires
 displacement-requires c =
     let a = c.args in
     rw (c.requires.0.1, c.gather-raw.ensures)
-    (rw c.requires.1 at c.requires.0.0.fitting, gathered-lt (whole a.bundle) a.slot (parts_in a.packed.low a.packed.high))
+    (rw c.requires.1 at c.requires.0.0.fitting, gathered-lt (whole a.bundle) a.slot a.row.now.parts.now)

@@ -1,31 +1,32 @@
 -- `immediate_in` meets its contract: a row that stands in the slot is sound there, and reads the bundle's number.
 use Rattle.std.proofs.Common.{sym, ap, ◌∙◌}
-use Rattle.answer.proofs.Laws.{accepts, refuses}
+use Rattle.std.proofs.lemmas.Result.{err_from_is_err_and}
+use Rattle.answer.proofs.Laws.{accepts}
 use Rattle.bundle.specs.Bundle.{whole}
-use Rattle.row.specs.Row.{row_of}
+use Rattle.row.specs.Row.{Row, row_of}
 use Rattle.row.proofs.Rows.{row-good}
 use Rattle.immediate.specs.Immediate.{value_in, no_immediate, immediate_in}
-use Rattle.immediate.proofs.Laws.{packed-sound}
+use Rattle.immediate.proofs.Laws.{row_is, packed-sound, refused}
 use Rattle.immediate.proofs.immediate_in.Goals as goal
 
-pub returns-then-answer-ne-ACCEPTED : goal.returns-then-answer-ne-ACCEPTED
+pub returns-in_err-row : goal.returns-in_err-row
 unfolding immediate_in
-returns-then-answer-ne-ACCEPTED c =
-    let e = c.read_answer-answer.ensures (row_of c.args.form) c.packed_of-packed.ensures in
-    c.no_immediate.ensures ∙ ap no_immediate e ∙ sym (refuses _ _ _ (λ q. c.if-answer-ne-ACCEPTED.true (e ∙ q)))
+returns-in_err-row c =
+    let reason = err_from_is_err_and c.from_residual.result c.from_residual.ensures.1 in
+    rw (reason.1, reason.2) (refused no_immediate _ _ _ (c.in_err-row.ensures.answer (row_of c.args.form) c.packed_of.ensures))
 
-pub value_in-value-requires : goal.value_in-value-requires
-value_in-value-requires c =
+pub value_in-requires : goal.value_in-requires
+value_in-requires c =
     let a = c.args in
-    let p = c.packed_of-packed in
-    packed-sound (whole a.bundle) a.slot a.form (row_of a.form) p.result p.ensures (row-good a.form)
-    (sym (c.read_answer-answer.ensures (row_of a.form) p.ensures) ∙ c.if-answer-ne-ACCEPTED.false)
+    let ok = c.in_ok-row.ensures in
+    packed-sound (whole a.bundle) a.slot a.form (row_of a.form) c.packed_of.ensures ok.same (row-good a.form) (ok.answer (row_of a.form) c.packed_of.ensures)
 
 pub returns : goal.returns
 unfolding immediate_in
 returns c =
     let a = c.args in
-    let p = c.packed_of-packed in
-    let done = c.if-answer-ne-ACCEPTED.false in
-    let value = c.value_in-value.ensures ∙ ap (λ x. value_in x.0 a.slot (whole a.bundle)) p.ensures in
-    (λ i. record { answer = done i; value = value i }) ∙ sym (accepts _ _ _ (sym (c.read_answer-answer.ensures (row_of a.form) p.ensures) ∙ done))
+    let n = whole a.bundle in
+    let row = row_of a.form in
+    let ok = c.in_ok-row.ensures in
+    let value = c.value_in.ensures ∙ ap (λ (r : Row). value_in r a.slot n) (row_is n a.slot a.form row c.packed_of.ensures ok.same) in
+    (λ i. record { answer = 0; value = value i }) ∙ sym (accepts _ _ _ (sym (ok.answer row c.packed_of.ensures)))

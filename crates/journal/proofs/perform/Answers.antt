@@ -2,5 +2,5 @@
 use Rattle.records.proofs.Sharing.{part-shown}
 use Rattle.journal.proofs.perform.Goals as goal
 
-pub act_on-acted-requires : goal.act_on-acted-requires
-act_on-acted-requires c = part-shown _ _ _ _ c.own_of-own.ensures
+pub act_on-requires : goal.act_on-requires
+act_on-requires c = part-shown _ _ _ _ c.own_of-own.ensures

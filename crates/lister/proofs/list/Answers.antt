@@ -13,7 +13,7 @@ returns-then-code-gt-LONGEST_CODE c =
 
 pub returns-then-fits : goal.returns-then-fits
 returns-then-fits c =
-    whole-put (list_refusals c.args.code.now) _ _ tt (short-listed c.args.code.now c.if-code-gt-LONGEST_CODE.false) (omega arith) (leb-true _ _ (sym c.if-fits.ensures)) c.write-length.ensures
+    whole-put (list_refusals c.args.code.now) _ _ tt (short-listed c.args.code.now c.if-code-gt-LONGEST_CODE.false) (omega arith) (leb-true _ _ (sym c.if-fits.ensures)) c.write.ensures
 
 pub returns : goal.returns
 returns c =

@@ -1,7 +1,5 @@
 -- How the place in a list that the table has is found: no promise to a caller. Assumes nothing.
-use Rattle.std.specs.Prelude.{ℕ, cond, ◌==◌}
-use Rattle.meaning.specs.Meaning.{Is, Bad}
-use Rattle.meaning.specs.declared.Raw.{Raw}
+use Rattle.std.specs.Prelude.{ℕ}
 
 -- 16, 8, 4, 1, -16, -8, -4, -1, from the lowest byte on
 abbrev pub increments : ℕ
@@ -10,7 +8,3 @@ increments = 18445891883495589904
 -- 0, 7, 15, 16
 abbrev pub shifts : ℕ
 shifts = 269420288
-
--- a place that was found; 8 is none
-abbrev pub found_at : ℕ → Raw
-found_at place = cond (place == 8) Bad (Is place)

@@ -1,5 +1,5 @@
 -- `gather` meets its contract: the number so far stands below that of the parts from i on, and from a part of no width on nothing is left.
-use Rattle.std.proofs.Common.{◌≡◌, ℕ, suc, ◌+◌, ◌*◌, ◌%◌, ◌≤◌, ◌<◌, ◌^◌, true, List, T, length, get_or, drop, arith, ◌∙◌, ap, ap₂, sym, subst}
+use Rattle.std.proofs.Common.{◌≡◌, ℕ, suc, ◌+◌, ◌*◌, ◌%◌, ◌≤◌, ◌<◌, ◌^◌, true, List, T, length, get_or, drop, arith, ◌∙◌, ap, ap₂, sym, subst, refl}
 use native.Mathlib.Nat.{add-zero, mul_comm, lt_of_lt_of_le}
 use native.Mathlib.Numerals.{add-one}
 use lib.Dec.{leb, leb→le, lit<}
@@ -12,7 +12,6 @@ use Rattle.bits.proofs.Laws.{part-lt, part-part, above-lt}
 use Rattle.bits.proofs.Shift.{shl}
 use Rattle.bundle.specs.Bundle.{whole}
 use Rattle.parts.specs.Placed.{no_part, stands_at, placed, width_of, in_word, in_words, readable}
-use Rattle.parts.specs.inner.Numbers.{parts_in}
 use Rattle.parts.specs.declared.Part.{Part}
 use Rattle.parts.proofs.Placed.{stands-past, narrow, ends}
 use Rattle.parts.proofs.Steps.{reads, width-step, gather-step, none-gathered}
@@ -66,58 +65,57 @@ module _ (n slot : ℕ) (ps : List Part) (i : ℕ) (h : i < length ps) (r : T (r
           ∙ gather-step n slot ps i h below raw x bits-are
           ∙ so-far
 
-pub loop-i-init : goal.loop-i-init
-loop-i-init c =
-    let ps = parts_in c.args.low c.args.high in
+pub loop-part-init : goal.loop-part-init
+loop-part-init c =
+    let ps = c.args.parts.now in
     let h = leb→le (width_of ps) 64 (and_yes (in_words true ps) (leb (width_of ps) 64) c.requires.1).1 in
-    record { within = omega arith; fits = lit< tt; room = omega arith; is = omega arith }
+    record { fits = lit< tt; room = omega arith; is = omega arith }
 
 pub returns-then-width-eq0 : goal.returns-then-width-eq0
 returns-then-width-eq0 c =
-    let l = c.loop-i in
-    let none = c.requires.2 l.i c.loop-i-test.true (sym (ap (λ (q : Part). q.width) c.part_at-part.ensures) ∙ c.if-width-eq0.true) in
-    done (whole c.args.halves) c.args.slot l.below l.raw _ (drop l.i (parts_in c.args.low c.args.high)) l.invariant.is none
+    let l = c.loop-part in
+    let none = c.requires.2 l.part-index c.loop-part-test.true (sym c.from-width.ensures ∙ c.if-width-eq0.true) in
+    done (whole c.args.halves) c.args.slot l.below l.raw _ (drop l.part-index c.args.parts.now) l.invariant.is none
 
 pub bits_from-bits-requires : goal.bits_from-bits-requires
 bits_from-bits-requires c =
-    let p = c.part_at-part.result in
-    let ps = parts_in c.args.low c.args.high in
+    let p = (get_or c.args.parts.now c.loop-part.part-index no_part) in
+    let ps = c.args.parts.now in
     let past = stands-past c.args.slot p.place in
-    let end = ends c.args.slot p c.requires.0 (in-word 0 0 ps c.loop-i.i c.loop-i-test.true c.requires.1 p c.part_at-part.ensures) in
-    rw c.stands_at.ensures (omega arith, omega (arith, c.if-width-eq0.false))
+    let end = ends c.args.slot p c.requires.0 (in-word 0 0 ps c.loop-part.part-index c.loop-part-test.true c.requires.1 p refl) in
+    rw c.stands_at.ensures (omega arith, omega (arith, c.if-width-eq0.false, c.from-width.ensures))
 
 pub get-requires : goal.get-requires
 get-requires c =
-    (lit< tt, fits 0 0 (parts_in c.args.low c.args.high) c.loop-i.i c.loop-i-test.true c.requires.1 c.part_at-part.result c.part_at-part.ensures)
+    (lit< tt, rw c.from-width.ensures (fits 0 0 c.args.parts.now c.loop-part.part-index c.loop-part-test.true c.requires.1 (get_or c.args.parts.now c.loop-part.part-index no_part) refl))
 
 pub overflow_add-raw : goal.overflow_add-raw
 overflow_add-raw c =
-    let l = c.loop-i in
+    let l = c.loop-part in
     Fits-of_lt
-    (raw-fits (whole c.args.halves) c.args.slot (parts_in c.args.low c.args.high) l.i c.loop-i-test.true c.requires.1 c.part_at-part.result c.part_at-part.ensures
-    l.below l.raw l.invariant.room c.stands_at.result c.bits_from-bits.result c.get.result c.stands_at.ensures c.bits_from-bits.ensures c.get.ensures l.invariant.fits)
+    (raw-fits (whole c.args.halves) c.args.slot c.args.parts.now l.part-index c.loop-part-test.true c.requires.1 (get_or c.args.parts.now c.loop-part.part-index no_part) refl
+    l.below l.raw l.invariant.room c.stands_at.result c.bits_from-bits.result c.get.result c.stands_at.ensures c.bits_from-bits.ensures (rw c.from-width.ensures at c.get.ensures) l.invariant.fits)
 
-pub loop-i-preserved : goal.loop-i-preserved
-loop-i-preserved c =
-    let l = c.loop-i in
+pub loop-part-preserved : goal.loop-part-preserved
+loop-part-preserved c =
+    let l = c.loop-part in
     let n = whole c.args.halves in
-    let ps = parts_in c.args.low c.args.high in
-    let q = c.part_at-part in
+    let ps = c.args.parts.now in
     record {
-      within = omega arith;
       fits =
-          raw-lt n c.args.slot ps l.i c.loop-i-test.true c.requires.1 q.result q.ensures l.below l.raw l.invariant.room c.stands_at.result
-          c.bits_from-bits.result c.get.result c.stands_at.ensures c.bits_from-bits.ensures c.get.ensures l.invariant.fits;
-      room = rw (add-one l.i) (room-after n c.args.slot ps l.i c.loop-i-test.true c.requires.1 q.result q.ensures l.below l.raw l.invariant.room);
+          rw c.from-width.ensures
+          (raw-lt n c.args.slot ps l.part-index c.loop-part-test.true c.requires.1 (get_or c.args.parts.now c.loop-part.part-index no_part) refl l.below l.raw l.invariant.room c.stands_at.result
+          c.bits_from-bits.result c.get.result c.stands_at.ensures c.bits_from-bits.ensures (rw c.from-width.ensures at c.get.ensures) l.invariant.fits);
+      room = rw (add-one l.part-index, c.from-width.ensures) (room-after n c.args.slot ps l.part-index c.loop-part-test.true c.requires.1 (get_or c.args.parts.now c.loop-part.part-index no_part) refl l.below l.raw l.invariant.room);
       is =
-          rw (add-one l.i)
-          (turn n c.args.slot ps l.i c.loop-i-test.true c.requires.1 q.result q.ensures l.below l.raw l.invariant.room c.stands_at.result
-          c.bits_from-bits.result c.get.result c.stands_at.ensures c.bits_from-bits.ensures c.get.ensures l.invariant.fits _ l.invariant.is);
+          rw (add-one l.part-index, c.from-width.ensures)
+          (turn n c.args.slot ps l.part-index c.loop-part-test.true c.requires.1 (get_or c.args.parts.now c.loop-part.part-index no_part) refl l.below l.raw l.invariant.room c.stands_at.result
+          c.bits_from-bits.result c.get.result c.stands_at.ensures c.bits_from-bits.ensures (rw c.from-width.ensures at c.get.ensures) l.invariant.fits _ l.invariant.is);
     }
 
 pub returns : goal.returns
 returns c =
-    let l = c.loop-i in
-    let ps = parts_in c.args.low c.args.high in
-    let past : length ps ≤ l.i = omega arith in
-    done (whole c.args.halves) c.args.slot l.below l.raw _ (drop l.i ps) l.invariant.is (ap width_of (drop_of_length-le ps past))
+    let l = c.loop-part in
+    let ps = c.args.parts.now in
+    let past : length ps ≤ l.part-index = omega arith in
+    done (whole c.args.halves) c.args.slot l.below l.raw _ (drop l.part-index ps) l.invariant.is (ap width_of (drop_of_length-le ps past))

@@ -1,14 +1,12 @@
 // `code LEN`: the code is LEN zero bytes.
-use crate::command::UNREAD;
-use crate::kept;
-use lines::part;
+use crate::kept::Kept;
 
-pub fn answer(count: u64, code: &mut [u8], kept: &mut [u64], at: usize) -> usize {
+pub fn answer(count: u64, code: &mut [u8], kept: &mut Kept, at: usize) -> Option<usize> {
     let n = count as usize;
     if code.len() < n {
-        return UNREAD;
+        return None;
     }
-    part::fill(&mut code[0..n], 0);
-    kept::set(kept, kept::LENGTH, count);
-    at
+    code[..n].fill(0);
+    kept.length = n;
+    Some(at)
 }

@@ -1,24 +1,26 @@
 // `cut N`: a bundle's tag, units with their stops, and slots.
-use bundle::Template;
+use answer::Refusal;
+use bundle::{Bundle, Uncut};
 use lines::out;
 
 pub fn answer(number: u64, code: &[u8], out: &mut [u8], at: usize) -> usize {
-    let cut = bundle::cut(code, number);
-    let said = cut.answer as u64;
-    let tag = cut.template.tag as u64;
-    let words = cut.slots;
-    let to = out::number(out, at, said);
-    let middle = out::number(out, to, tag);
-    let end = units(out, middle, cut.template);
-    out::numbers(out, end, &words)
+    match bundle::cut(code, number) {
+        Ok(bundle) => cut(out, at, bundle),
+        Err(Uncut::Reserved(tag)) => uncut(out, at, Refusal::BadBundle, tag),
+        Err(Uncut::Missing(refusal)) => uncut(out, at, refusal, 0),
+    }
 }
 
-// A space and the units with their stops, `-` where there are none.
-fn units(out: &mut [u8], at: usize, of: Template) -> usize {
-    let to = text::put_byte(out, at, b' ');
-    let kinds = of.units;
-    if bundle::unitless(kinds) {
-        return text::put_byte(out, to, b'-');
-    }
-    lister::put_units(out, to, of)
+fn cut(out: &mut [u8], at: usize, bundle: Bundle) -> usize {
+    let template = bundle.template;
+    let to = out::numbers(out, at, &[0, u64::from(template.tag)]);
+    let gap = text::put_byte(out, to, b' ');
+    let end = lister::put_units(out, gap, template);
+    out::numbers(out, end, &bundle.slots)
+}
+
+// No units, and zeros.
+fn uncut(out: &mut [u8], at: usize, refusal: Refusal, tag: u8) -> usize {
+    let to = out::numbers(out, at, &[u64::from(refusal.number()), u64::from(tag)]);
+    text::put_text(out, to, b" - 0 0 0")
 }

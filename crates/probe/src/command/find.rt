@@ -2,6 +2,6 @@
 use lines::out;
 
 pub fn answer(number: u64, code: &[u8], out: &mut [u8], at: usize) -> usize {
-    let to = out::number(out, at, bundle::find_answer(code, number) as u64);
+    let to = out::number(out, at, u64::from(bundle::find_answer(code, number)));
     out::hex(out, to, bundle::find(code, number))
 }

@@ -1,28 +1,26 @@
 // `open PARTIES`: a fresh journal. `journal PARTIES COUNT0 COUNT1 [LENGTH]`: one of those counts, whatever they are, with LENGTH places,
 // at most 2,048, each of them zero.
 use crate::calls::Call;
-use crate::kept;
+use crate::kept::MOST_PLACES;
 use lines::fields;
-use lines::fields::Six;
 use records::{Counts, LIMIT};
 
-pub fn open_asked(parties: u64) -> Call {
+pub fn opened(parties: u64) -> Call {
     Call::Journal(records::opened(parties), LIMIT)
 }
 
-pub fn asked(of: Six, rest: &[u8]) -> Call {
+pub fn asked(of: [u64; 5], rest: &[u8]) -> Option<Call> {
     let counts = Counts {
-        parties: of.0,
-        lower: of.1,
-        upper: of.2,
+        parties: of[0],
+        lower: of[1],
+        upper: of[2],
     };
-    if rest.len() == 0 {
-        return Call::Journal(counts, LIMIT);
+    if rest.is_empty() {
+        return Some(Call::Journal(counts, LIMIT));
     }
-    let mut places = [0u64; 1];
-    let end = fields::read_numbers(rest, 0, &mut places, 1);
-    if end != rest.len() || (kept::MOST_PLACES as u64) < places[0] {
-        return Call::None;
+    let ([places], end) = fields::numbers_at::<1>(rest, 0)?;
+    if end != rest.len() || (MOST_PLACES as u64) < places {
+        return None;
     }
-    Call::Journal(counts, places[0])
+    Some(Call::Journal(counts, places))
 }

@@ -1,15 +1,10 @@
 // `load PARTY BYTES`: the party's journal of a sheet.
 use crate::calls::Call;
-use crate::kept;
-use lines::spelt::Spelt;
 use lines::{fields, spelt};
 
-pub fn asked(party: u64, rest: &[u8], lent: &mut [u8], kept: &mut [u64]) -> Call {
+pub fn asked(party: u64, rest: &[u8], lent: &mut [u8]) -> Option<Call> {
     let text = fields::rest(rest);
-    let Spelt::Of(count) = spelt::count(text) else {
-        return Call::None;
-    };
+    let count = spelt::count(text)?;
     spelt::put(text, lent);
-    kept::set(kept, kept::LENT, count);
-    Call::Load(party)
+    Some(Call::Load(party, count as usize))
 }

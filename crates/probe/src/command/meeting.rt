@@ -1,30 +1,28 @@
 // `meet N SLOT F NUMBER N SLOT F NUMBER`: whether two edits set a bit in common.
-use crate::command::UNREAD;
+use answer::answer_of;
 use form::{Edit, Form};
-use lines::fields::Six;
 use lines::{fields, out};
 use operand::Operand;
 
-pub fn answer(of: Six, rest: &[u8], out: &mut [u8], at: usize) -> usize {
-    let others = fields::numbers_at(rest, 0, 4);
-    if !others.ok || others.at != rest.len() {
-        return UNREAD;
+pub fn answer(of: [u64; 5], rest: &[u8], out: &mut [u8], at: usize) -> Option<usize> {
+    let ([bundle, slot, family, number], end) = fields::numbers_at::<4>(rest, 0)?;
+    if end != rest.len() {
+        return None;
     }
-    let other = others.of;
-    let met = meet::meet(edit(of), edit(other));
-    let to = out::number(out, at, met.answer as u64);
-    out::number(out, to, if met.meet { 1 } else { 0 })
+    let met = meet::meet(
+        edit(of[0], of[1], of[2], of[3]),
+        edit(bundle, slot, family, number),
+    );
+    let to = out::number(out, at, u64::from(answer_of(&met)));
+    Some(out::number(out, to, u64::from(met.unwrap_or(false))))
 }
 
 // An edit of a field; its value says nothing of its bits.
-fn edit(of: Six) -> Edit {
+fn edit(bundle: u64, slot: u64, family: u64, number: u64) -> Edit {
     Edit {
-        bundle: of.0,
-        slot: of.1,
-        form: Form {
-            family: of.2,
-            number: of.3,
-        },
+        bundle,
+        slot,
+        form: Form { family, number },
         value: Operand::None,
     }
 }

@@ -1,38 +1,32 @@
 // `place I BUNDLE SLOT FORM VALUE OLDLOW OLDHIGH NEWLOW NEWHIGH PARTY`: sets a place of the journal.
 use crate::calls::Call;
-use crate::kept;
 use bundle::Halves;
 use lines::fields;
-use lines::fields::Six;
-use name::Name;
 use record::Record;
 
-pub fn asked(of: Six, rest: &[u8], kept: &[u64]) -> Call {
+pub fn asked(of: [u64; 5], rest: &[u8], places: u64) -> Option<Call> {
     let text = fields::rest(rest);
-    let Name::Read(form, at) = name::read_name(text, 0) else {
-        return Call::None;
-    };
-    let mut more = [0u64; 6];
-    let end = fields::read_numbers(text, at, &mut more, 6);
-    if kept::get(kept, kept::PLACES) <= of.0 || end != text.len() {
-        return Call::None;
+    let (form, at) = name::read_name(text, 0)?;
+    let ([value, old_low, old_high, new_low, new_high, party], end) = fields::numbers_at::<6>(
+        text, at,
+    )?;
+    if places <= of[0] || end != text.len() {
+        return None;
     }
-    let old = Halves {
-        low: more[1],
-        high: more[2],
-    };
-    let new = Halves {
-        low: more[3],
-        high: more[4],
-    };
     let one = Record {
-        party: more[5],
-        bundle: of.1,
-        slot: of.2,
+        party,
+        bundle: of[1],
+        slot: of[2],
         form,
-        value: more[0],
-        old,
-        new,
+        value,
+        old: Halves {
+            low: old_low,
+            high: old_high,
+        },
+        new: Halves {
+            low: new_low,
+            high: new_high,
+        },
     };
-    Call::Place(of.0, one)
+    Some(Call::Place(of[0], one))
 }

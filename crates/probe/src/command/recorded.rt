@@ -1,19 +1,12 @@
 // `records`: the journal's counts, and each place that isn't all zero.
-use crate::calls::Call;
-use crate::kept;
 use lines::{out, part};
 use record::Record;
+use records::Counts;
 
-pub fn asked(kept: &mut [u64]) -> Call {
-    kept::set(kept, kept::LENT, u64::MAX);
-    Call::Records
-}
-
-pub fn told(lent: &[u8], kept: &[u64], out: &mut [u8], at: usize) -> usize {
-    let counts = kept::counts(kept);
+pub fn told(counts: Counts, length: usize, lent: &[u8], out: &mut [u8], at: usize) -> usize {
     let to = out::numbers(out, at, &[counts.parties, counts.lower, counts.upper]);
-    let n = kept::within(kept, kept::WRITTEN, lent.len());
-    text::put_text(out, to, &lent[0..n])
+    let n = part::within(lent, length);
+    text::put_text(out, to, &lent[..n])
 }
 
 // A place of the journal, nothing where it is free.
@@ -38,11 +31,9 @@ pub fn show_place(i: u64, one: Record, out: &mut [u8], at: usize) -> usize {
 // Numbers, each after a colon.
 fn numbers(of: &[u64], out: &mut [u8], at: usize) -> usize {
     let mut to = at;
-    let mut i = 0;
-    while i < of.len() {
+    for n in of {
         let mark = text::put_byte(out, to, b':');
-        to = text::put_decimal(out, mark, of[i]);
-        i += 1;
+        to = text::put_decimal(out, mark, *n);
     }
     to
 }

@@ -1,28 +1,29 @@
 // `script PARTY NEXT STOPPED OUTLEN BYTES`: a part of the party's script, into an output of OUTLEN bytes, at most 130,000, that are all 238.
-use crate::calls::Call;
+use crate::calls::{Call, Part};
 use crate::command::sheets;
-use crate::kept;
-use lines::fields::Six;
-use lines::spelt::Spelt;
 use lines::{fields, out, spelt};
+use script::Ran;
 
-pub fn asked(of: Six, rest: &[u8], lent: &mut [u8], given: &mut [u8], kept: &mut [u64]) -> Call {
-    if 1 < of.2 || 130000 < of.3 {
-        return Call::None;
+pub fn asked(of: [u64; 5], rest: &[u8], lent: &mut [u8], given: &mut [u8]) -> Option<Call> {
+    let [party, next, stopped, length, _] = of;
+    if 1 < stopped || 130000 < length {
+        return None;
     }
     let text = fields::rest(rest);
-    let Spelt::Of(count) = spelt::count(text) else {
-        return Call::None;
-    };
+    let count = spelt::count(text)?;
     spelt::put(text, given);
-    kept::set(kept, kept::GIVEN, count);
-    sheets::blank(of.3, lent, kept);
-    Call::Script(of.0, of.1, of.2 == 1)
+    Some(Call::Script(Part {
+        party,
+        next,
+        stopped: stopped == 1,
+        count: count as usize,
+        room: sheets::blank(length, lent),
+    }))
 }
 
-pub fn told(lent: &[u8], kept: &[u64], out: &mut [u8], at: usize) -> usize {
-    let next = out::number(out, at, kept::get(kept, kept::NEXT));
-    let stopped = out::number(out, next, kept::get(kept, kept::STOPPED));
-    let done = out::number(out, stopped, kept::get(kept, kept::DONE));
-    sheets::written(lent, kept, out, done)
+pub fn told(ran: Ran, room: usize, lent: &[u8], out: &mut [u8], at: usize) -> usize {
+    let next = out::number(out, at, ran.next);
+    let stopped = out::number(out, next, u64::from(ran.stopped));
+    let done = out::number(out, stopped, ran.done as u64);
+    sheets::written(ran.length, room, lent, out, done)
 }

@@ -1,13 +1,12 @@
 -- The lower and the upper part are each lent to the test of one party's journal. Assumes nothing.
-use mathlib.Core.Path.{◌≡◌, refl, ◌∙◌, ap, subst, sym}
-use mathlib.Core.Bool.{true, false, ◌&&◌}
+use mathlib.Core.Path.{◌≡◌, refl, ◌∙◌, ap, ap₂, subst, sym}
+use mathlib.Core.Bool.{Bool, true, false, ◌&&◌}
 use mathlib.Core.List.{List}
 use Prim.Native.Nat.{ℕ, ◌-◌}
 use native.Mathlib.Omega.{arith}
 use borrow.Author.Tests.{eqb-true, eqb-false}
 use lib.Dec.{T, ltb}
-use lib.ListN.{length, take, drop, length-drop}
-use lib.Seq.{take_all, length-take-le}
+use lib.ListN.{length, take, drop}
 use Rattle.record.specs.Record.{fits64}
 use Rattle.record.specs.declared.Record.{Record}
 use Rattle.records.specs.Journal.{limit, lent, all, standing, valid_of}
@@ -27,31 +26,34 @@ returns-then-not-is_sized c =
     let no = eqb-false _ limit (sym c.is_sized.ensures ∙ c.if-not-is_sized.true) in
     (not-sized a.counts a.records.now a.party no, λ e. absurd (subst T (sym e) tt))
 
+pub split_at-requires : goal.split_at-requires
+split_at-requires c =
+    let sized : length c.args.records.now ≡ limit = eqb-true _ limit (sym c.is_sized.ensures ∙ c.if-not-is_sized.false) in
+    omega (arith, sized, c.seam_of.ensures, seam-within c.args.counts.parties)
+
+-- what is told of a party's part
+told : (party count places : ℕ) (rs part : List Record) (valid : Bool) → part ≡ rs → length part ≡ places
+    → (valid ≡ valid_of party (length part) (lent count part)) × (valid ≡ true → T (all fits64 (standing (lent count part))))
+    → (valid ≡ valid_of party places (lent count rs)) × (valid ≡ true → T (all fits64 (standing (lent count rs))))
+told party count places rs part valid is long t = (
+  t.0 ∙ ap₂ (λ (n : ℕ) (qs : List Record). valid_of party n (lent count qs)) long is,
+  λ e. subst (λ (qs : List Record). T (all fits64 (standing (lent count qs)))) is (t.1 e),
+)
+
 pub returns : goal.returns
 unfolding serves shared_valid
 returns c =
     let a = c.args in
     let rs = a.records.now in
     let n = seam a.counts.parties in
-    let k = c.seam_of-seam.result in
-    let same : k ≡ n = c.seam_of-seam.ensures in
-    let long-enough : length rs ≡ limit = eqb-true _ limit (sym c.is_sized.ensures ∙ c.if-not-is_sized.false) in
-    let front : k - 0 ≡ n = omega (arith, same) in
-    let l : length (take n rs) ≡ n = length-take-le n rs (omega (arith, seam-within a.counts.parties, long-enough)) in
-    let lower = c.is_valid-lower.ensures.0
-    ∙ ap (λ (m : ℕ). valid_of 0 (length (take m rs)) (lent a.counts.lower (take m rs))) front
-    ∙ ap (λ (m : ℕ). valid_of 0 m (lent a.counts.lower (take n rs))) l in
-    let part : take (length rs - k) (drop k rs) ≡ drop n rs =
-    take_all (length rs - k) (drop k rs) (omega (arith, length-drop k rs)) ∙ ap (λ (m : ℕ). drop m rs) same in
-    let long : length (drop n rs) ≡ limit - n = length-drop n rs ∙ ap (λ (m : ℕ). m - n) long-enough in
-    let upper = c.is_valid-upper.ensures.0
-    ∙ ap (λ (qs : List Record). valid_of 1 (length qs) (lent a.counts.upper qs)) part
-    ∙ ap (λ (m : ℕ). valid_of 1 m (lent a.counts.upper (drop n rs))) long in (
-      (λ i. c.is_opened.ensures i && lower i && upper i && ltb a.party a.counts.parties),
+    let split = c.split_at.ensures in
+    let same : c.seam_of.result ≡ n = c.seam_of.ensures in
+    let sized : length rs ≡ limit = eqb-true _ limit (sym c.is_sized.ensures ∙ c.if-not-is_sized.false) in
+    let long : length c.split_at.result.1.now ≡ limit - n = omega (arith, split.back_len, same, sized) in
+    let lower = told 0 a.counts.lower n _ _ _ (split.front ∙ ap (λ (m : ℕ). take m rs) same) (split.front_len ∙ same) c.is_valid.ensures in
+    let upper = told 1 a.counts.upper (limit - n) _ _ _ (split.back ∙ ap (λ (m : ℕ). drop m rs) same) long c.is_valid-2.ensures in (
+      (λ i. c.is_opened.ensures i && lower.0 i && upper.0 i && ltb a.party a.counts.parties),
       λ e.
-          let parts = both (c.is_opened.result && c.is_valid-lower.result) c.is_valid-upper.result (both _ (ltb a.party a.counts.parties) e).0 in
-          record {
-            lower = subst (λ (m : ℕ). T (all fits64 (standing (lent a.counts.lower (take m rs))))) front (c.is_valid-lower.ensures.1 (both c.is_opened.result c.is_valid-lower.result parts.0).1);
-            upper = subst (λ (qs : List Record). T (all fits64 (standing (lent a.counts.upper qs)))) part (c.is_valid-upper.ensures.1 parts.1);
-          },
+          let parts = both (c.is_opened.result && c.is_valid.result) c.is_valid-2.result (both _ (ltb a.party a.counts.parties) e).0 in
+          record { lower = lower.1 (both c.is_opened.result c.is_valid.result parts.0).1; upper = upper.1 parts.1 },
     )

@@ -10,7 +10,7 @@ returns-then-not-is_served c =
     let a = c.args in
     let share = c.share_of-share.ensures in
     let no = sym c.is_served.ensures.0 ∙ c.if-not-is_served.true in
-    let view = c.nothing_shown.ensures ∙ sym (not-shown (sharing a.counts a.records.now) a.party (places_of a.counts.parties a.party) no) in
+    let view = sym (not-shown (sharing a.counts a.records.now) a.party (places_of a.counts.parties a.party) no) in
     shows a.counts a.records.now a.party _ (λ i. record { first = (share i).first; places = (share i).places; view = view i })
     (λ served. absurd (false≢true (sym no ∙ served)))
 

@@ -1,7 +1,5 @@
 -- Each turn does one line more. Assumes nothing.
-use Rattle.std.proofs.Common.{sym, ap, ◌∙◌}
-use Rattle.script.specs.Script.{ran_of}
-use Rattle.script.specs.declared.Ran.{Ran}
+use Rattle.std.proofs.Common.{sym, ◌∙◌}
 use Rattle.script.proofs.Between.{turn-of, less, moved, again, rest-on, done}
 use Rattle.script.proofs.run.Goals as goal
 
@@ -19,7 +17,7 @@ loop-code-preserved c =
     let e = c.run_line-state.ensures in
     record {
       keeps = e.0;
-      rest = e.1.rest ∙ rest-on l.out _ l.state.length c.run_line-state.result.length e.1.more b.rest;
+      rest = e.1.rest ∙ rest-on l.out _ l.state.ran.length c.run_line-state.result.ran.length e.1.more b.rest;
       long = c.run_line-state.auto.out ∙ b.long;
       within = moved _ _ _ _ _ _ _ _ _ _ l.state c.run_line-state.result b u e.2;
       goes = again _ _ _ _ _ _ _ _ _ _ l.state c.run_line-state.result b u e.2;
@@ -28,5 +26,4 @@ loop-code-preserved c =
 pub returns : goal.returns
 returns c =
     let l = c.loop-code in
-    ap (λ (r : Ran). ran_of r l.records l.code l.out) c.ended.ensures
-    ∙ done _ _ _ _ _ _ _ _ l.invariant (sym c.goes_on.ensures ∙ c.loop-code-test.false)
+    done _ _ _ _ _ _ _ _ l.invariant (sym c.goes_on.ensures ∙ c.loop-code-test.false)

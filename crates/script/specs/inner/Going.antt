@@ -2,8 +2,7 @@
 use Rattle.std.specs.Prelude.{◌≡◌, ℕ, suc, ◌+◌, ◌%◌, ◌^◌, ◌≤◌, true, false, cond, List, [], ◌∷◌, length, take, drop, ◌==◌}
 use Rattle.record.specs.declared.Record.{Record}
 use Rattle.records.specs.Shared.{sharing}
-use Rattle.records.specs.inner.Shows.{ShowsPart}
-use Rattle.journal.specs.declared.Acted.{Acted}
+use Rattle.records.specs.inner.Shows.{as_own_view, ShowsPart}
 use Rattle.text.specs.Ascii.{newline}
 use Rattle.script.specs.Script.{SoFar}
 use Rattle.script.specs.declared.State.{State}
@@ -20,21 +19,21 @@ line_at text at = take (suc (index_of newline (drop at text))) (drop at text)
 -- what there is, by what is kept and the slices
 abbrev pub so_far : State → List Record → List ℕ → List ℕ → SoFar
 so_far t records code out =
-    record { journal = sharing t.counts records; code = code; next = t.next; stopped = t.stopped; done = t.done; written = take t.length out }
+    record { journal = sharing t.ran.counts records; code = code; next = t.ran.next; stopped = t.ran.stopped; done = t.ran.done; written = take t.ran.length out }
 
 -- what is kept after a line that stops the script, and after one that was done, where so many bytes are written
 abbrev pub stopped_with : State → ℕ → State
-stopped_with t length = record { counts = t.counts; own = t.own; next = t.next; stopped = true; done = t.done; length = length }
+stopped_with t length = record { ran = record { counts = t.ran.counts; next = t.ran.next; stopped = true; done = t.ran.done; length = length }; own = t.own }
 
-abbrev pub gone_with : State → Acted → ℕ → ℕ → State
-gone_with t a end length = record { counts = a.counts; own = a.own; next = (t.next + 1) % 2 ^ 64; stopped = false; done = end; length = length }
+abbrev pub gone_with : State → ℕ → ℕ → State
+gone_with t end length = record { ran = record { counts = t.ran.counts; next = (t.ran.next + 1) % 2 ^ 64; stopped = false; done = end; length = length }; own = t.own }
 
 -- what is kept shows the party's journal, and what is written lies in the output
 pub record Keeps (party : ℕ) (t : State) (records : List Record) (out : List ℕ) : Type 0 where
-  pub shows : ShowsPart t.counts records party t.own
-  pub within : t.length ≤ length out
+  pub shows : ShowsPart t.ran.counts records party (as_own_view t.own)
+  pub within : t.ran.length ≤ length out
 
 -- after a line more: past what is written the output is as it was
 pub record Goes (t r : State) (out out' : List ℕ) : Type 0 where
-  pub more : t.length ≤ r.length
-  pub rest : drop r.length out' ≡ drop r.length out
+  pub more : t.ran.length ≤ r.ran.length
+  pub rest : drop r.ran.length out' ≡ drop r.ran.length out

@@ -24,9 +24,9 @@ loop-place-preserved c =
     let i = l.place in
     let short : length c.args.out.now < 2 ^ 64 = omega arith in
     let room = put-length c.put_head-at.ensures in
-    let more = lines_more Full c.args.records.now i (omega (arith, c.requires, l.invariant.0, c.loop-place-test.true)) in
+    let more = lines_more Full c.args.records.now i (omega (arith, c.requires)) in
     let line = rw c.get-one.ensures at c.put_line-at.ensures in
-    (omega arith, rw more (put_then (omega (arith, short, room)) l.invariant.1 line))
+    rw more (put_then (omega (arith, short, room)) l.invariant line)
 
 pub returns : goal.returns
 unfolding sheet_as
@@ -36,6 +36,6 @@ returns c =
     let j = lent a.count a.records.now in
     let short : length a.out.now < 2 ^ 64 = omega arith in
     let count = counts a.count a.records.now c.requires in
-    let all : l.place ≡ a.count = omega (arith, l.invariant.0, c.loop-place-test.false) in
+    let all : l.place ≡ a.count = omega arith in
     let records = ap (λ (n : ℕ). take n a.records.now) all ∙ sym (standing-places j) in
-    put_then short (rw count at c.put_head-at.ensures) (rw records at l.invariant.1)
+    put_then short (rw count at c.put_head-at.ensures) (rw records at l.invariant)

@@ -1,5 +1,4 @@
 -- The lines of the records so far are written after the first line. Assumes nothing.
-use Prim.Native.Nat.{◌-◌, ◌≤◌}
 use lib.ListN.{take}
 use Rattle.text.specs.Put.{Put}
 use Rattle.sheet.specs.Sheet.{lines_as}
@@ -7,7 +6,4 @@ use Rattle.sheet.specs.declared.line.Kind.TheVariants.{Full}
 use Rattle.sheet.proofs.put_sheet.Given as goal
 
 abbrev pub invariant-loop-place : goal.invariant-loop-place
-invariant-loop-place l = (l.place ≤ l.count) × Put l.initial.out l.initial.at (lines_as Full (take l.place l.records)) l.out l.at
-
-abbrev pub decreases-loop-place : goal.decreases-loop-place
-decreases-loop-place l = l.count - l.place
+invariant-loop-place l = Put l.initial.out l.initial.at (lines_as Full (take l.place l.records)) l.out l.at

@@ -3,14 +3,12 @@ use mathlib.Core.Path.{◌≡◌, ◌∙◌}
 use mathlib.Core.List.{List}
 use Prim.Native.Nat.{ℕ, ◌≤◌}
 use native.Mathlib.Omega.{arith}
-use borrow.Author.Tests.{not-true, not-false}
 use lib.ListN.{length}
 use Rattle.record.specs.declared.Record.{Record}
 use Rattle.records.specs.Journal.{Journal, standing}
 use Rattle.records.specs.Shared.{sharing, places_of, served_of}
-use Rattle.records.specs.inner.Shows.{Lent}
+use Rattle.records.specs.inner.Shows.{OwnView, Lent}
 use Rattle.records.specs.declared.Counts.{Counts}
-use Rattle.records.specs.declared.Own.{Own}
 use Rattle.records.proofs.Sharing.{places-within}
 use Rattle.records.proofs.Standing.{valid-counts, valid-few, valid-places}
 use Rattle.sheet.specs.Sheet.{sheet_of, capacity}
@@ -18,11 +16,11 @@ use Rattle.sheet.proofs.Lengths.{sheet-most, all_told}
 use Rattle.sheet.proofs.Writing.{wrote-valid, wrote-invalid}
 use Rattle.sheet.proofs.write.Goals as goal
 
-pub returns-then-not-view : goal.returns-then-not-view
-returns-then-not-view c = wrote-invalid c.own_of-own.ensures _ sheet_of (not-true _ c.if-not-view.true)
+pub returns-in_default : goal.returns-in_default
+returns-in_default c = wrote-invalid c.own_of-own.ensures _ sheet_of (rw c.in_default.is)
 
 -- the party's journal has places for its records, and its sheet isn't too long
-fits : {c : Counts} {rs : List Record} {party : ℕ} {o : Own} → Lent c rs party o → (j : Journal) → j ≡ served_of (sharing c rs) party → (j.count ≤ length j.records) × (length (sheet_of j) ≤ capacity)
+fits : {c : Counts} {rs : List Record} {party : ℕ} {o : OwnView} → Lent c rs party o → (j : Journal) → j ≡ served_of (sharing c rs) party → (j.count ≤ length j.records) × (length (sheet_of j) ≤ capacity)
 fits {c} {rs} {party} s j e =
     let places = places_of c.parties party in
     rw e (
@@ -32,9 +30,11 @@ fits {c} {rs} {party} s j e =
 
 pub write_own-requires : goal.write_own-requires
 write_own-requires c =
-    let v = not-false _ c.if-not-view.false in
-    let s = c.own_of-own.ensures.part v in
-    fits s _ s.is-lent
+    let shown = c.in-Some.is in
+    let s = c.own_of-own.ensures.part (rw shown) in
+    fits s _ (rw shown at s.is-lent)
 
 pub returns : goal.returns
-returns c = c.write_own.ensures ∙ wrote-valid c.own_of-own.ensures _ sheet_of (not-false _ c.if-not-view.false)
+returns c =
+    let shown = c.in-Some.is in
+    c.write_own.ensures ∙ (rw shown at (wrote-valid c.own_of-own.ensures c.args.out.now sheet_of (rw shown)))

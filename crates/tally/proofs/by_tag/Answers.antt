@@ -1,13 +1,14 @@
 -- None is counted at first, and all at the end.
-use Rattle.std.proofs.Common.{arith, refl}
-use native.Mathlib.Nat.{le_antisymm}
+use Rattle.std.proofs.Common.{◌≡◌, ◌/◌, length, arith, refl}
 use Rattle.tally.specs.Report.{below, tags_of}
 use Rattle.tally.proofs.by_tag.Goals as goal
 
 pub loop-turn-init : goal.loop-turn-init
 unfolding below
-loop-turn-init c = (omega arith, refl)
+loop-turn-init c = refl
 
 pub returns : goal.returns
 unfolding tags_of
-returns c = rw (le_antisymm c.loop-n-test.false c.loop-n.invariant.0) c.loop-n.invariant.1
+returns c =
+    let all : c.loop-n.n ≡ length c.args.image.now / 16 = omega arith in
+    rw all at c.loop-n.invariant

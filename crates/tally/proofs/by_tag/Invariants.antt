@@ -1,17 +1,11 @@
 -- The first `n` bundles are counted, in a turn four more.
-use Rattle.std.proofs.Common.{◌≡◌, ◌*◌, ◌-◌, ◌≤◌}
+use Rattle.std.proofs.Common.{◌≡◌, ◌*◌}
 use Rattle.tally.specs.Report.{tags_to}
 use Rattle.tally.proofs.Counts.{counted}
 use Rattle.tally.proofs.by_tag.Given as goal
 
 abbrev pub invariant-loop-turn : goal.invariant-loop-turn
-invariant-loop-turn l = (l.turn ≤ l.turns) × (l.counts ≡ counted (tags_to l.image (4 * l.turn)))
-
-abbrev pub decreases-loop-turn : goal.decreases-loop-turn
-decreases-loop-turn l = l.turns - l.turn
+invariant-loop-turn l = l.counts ≡ counted (tags_to l.image (4 * l.turn))
 
 abbrev pub invariant-loop-n : goal.invariant-loop-n
-invariant-loop-n l = (l.n ≤ l.bundles) × (l.counts ≡ counted (tags_to l.image l.n))
-
-abbrev pub decreases-loop-n : goal.decreases-loop-n
-decreases-loop-n l = l.bundles - l.n
+invariant-loop-n l = l.counts ≡ counted (tags_to l.image l.n)

@@ -18,7 +18,7 @@ adds many one most few o m = mul-le-mul {m₂ = 3} few (let h : one ≤ 3 = omeg
 
 pub loop-tag-init : goal.loop-tag-init
 unfolding below
-loop-tag-init c = (omega arith, refl, omega arith, refl, omega arith)
+loop-tag-init c = (refl, omega arith, refl, omega arith)
 
 pub loop-tag-preserved : goal.loop-tag-preserved
 loop-tag-preserved c =
@@ -28,10 +28,9 @@ loop-tag-preserved c =
     let e = c.share-one.ensures in
     let ones : get_or counts l.tag 0 * c.share-one.result.reserved ≤ 12288 = adds (get_or counts l.tag 0) c.share-one.result.reserved 1 few e.1 (omega arith) in
     let threes : get_or counts l.tag 0 * c.share-one.result.stops ≤ 12288 = adds (get_or counts l.tag 0) c.share-one.result.stops 3 few e.2 (omega arith) in (
+      more counts l.tag (λ t. (tag_shares t).reserved) l.reserved c.share-one.result.reserved l.invariant.0 (ap (λ (r : Shares). r.reserved) e.0),
       omega arith,
-      more counts l.tag (λ t. (tag_shares t).reserved) l.reserved c.share-one.result.reserved l.invariant.1 (ap (λ (r : Shares). r.reserved) e.0),
-      omega arith,
-      more counts l.tag (λ t. (tag_shares t).stops) l.stops c.share-one.result.stops l.invariant.3 (ap (λ (r : Shares). r.stops) e.0),
+      more counts l.tag (λ t. (tag_shares t).stops) l.stops c.share-one.result.stops l.invariant.2 (ap (λ (r : Shares). r.stops) e.0),
       omega arith,
     )
 
@@ -39,6 +38,6 @@ pub returns : goal.returns
 returns c =
     let l = c.loop-tag in
     let e : l.tag ≡ 32 = omega arith in
-    let reserved-is = rw e at l.invariant.1 in
-    let stops-is = rw e at l.invariant.3 in
+    let reserved-is = rw e at l.invariant.0 in
+    let stops-is = rw e at l.invariant.2 in
     λ i. record { reserved = reserved-is i; stops = stops-is i }

@@ -1,4 +1,5 @@
 -- A case of what the part is at each return.
+use Rattle.std.specs.Prelude.{Some}
 use Rattle.std.proofs.Common.{◌≡◌, ℕ, ◌+◌, ◌-◌, arith, sym, ap, ◌∙◌}
 use mathlib.Core.Path.{ap₂}
 use Prim.Native.Nat.{min}
@@ -19,15 +20,15 @@ returns-then-not-is_code c = part_none _ _ (sym c.is_code.ensures ∙ c.if-not-i
 
 pub returns-then-size-eq0 : goal.returns-then-size-eq0
 returns-then-size-eq0 c =
-    let e = same c.args.extent c.args.window _ _ _ _ _ c.less-skipped.ensures c.less-first.ensures c.less.ensures c.less-2.ensures c.least-size.ensures in
+    let e = same c.args.extent c.args.window _ _ _ _ _ c.saturating_sub-skipped.ensures c.saturating_sub-first.ensures c.saturating_sub-left.ensures c.saturating_sub-room.ensures c.min-size.ensures in
     part-empty _ _ (sym c.is_code.ensures ∙ c.if-not-is_code.false) _ (sym (ap (λ (p : Part). p.size) e) ∙ c.if-size-eq0.true)
 
 pub overflow_add-result : goal.overflow_add-result
 overflow_add-result c =
     let lies : Lies c.args.extent c.args.length = code-lies _ _ (sym c.is_code.ensures ∙ c.if-not-is_code.false) in
-    omega (arith, c.less-skipped.ensures, c.less-first.ensures, c.less.ensures, c.less-2.ensures, c.least-size.ensures)
+    omega arith
 
 pub returns : goal.returns
 returns c =
-    let e = same c.args.extent c.args.window _ _ _ _ _ c.less-skipped.ensures c.less-first.ensures c.less.ensures c.less-2.ensures c.least-size.ensures in
-    e ∙ part-is _ _ (sym c.is_code.ensures ∙ c.if-not-is_code.false) _ (omega (arith, ap (λ (p : Part). p.size) e, c.if-size-eq0.false))
+    let e = same c.args.extent c.args.window _ _ _ _ _ c.saturating_sub-skipped.ensures c.saturating_sub-first.ensures c.saturating_sub-left.ensures c.saturating_sub-room.ensures c.min-size.ensures in
+    ap Some e ∙ part-is _ _ (sym c.is_code.ensures ∙ c.if-not-is_code.false) _ (omega (arith, ap (λ (p : Part). p.size) e, c.if-size-eq0.false))

@@ -6,14 +6,14 @@ use Rattle.window.proofs.place_of.Goals as goal
 pub returns-then-not-is_code : goal.returns-then-not-is_code
 returns-then-not-is_code c = place_none _ _ (sym c.is_code.ensures ∙ c.if-not-is_code.true) _
 
-pub returns-then-address-extent : goal.returns-then-address-extent
-returns-then-address-extent c = place-before _ _ (sym c.is_code.ensures ∙ c.if-not-is_code.false) _ (omega arith)
+pub returns-in_err-before : goal.returns-in_err-before
+returns-in_err-before c = c.from_residual.ensures ∙ place-before _ _ (sym c.is_code.ensures ∙ c.if-not-is_code.false) _ (omega (arith, c.in_err-before.ensures))
 
-pub returns-then-extent-lt16 : goal.returns-then-extent-lt16
-returns-then-extent-lt16 c = place-past _ _ (sym c.is_code.ensures ∙ c.if-not-is_code.false) _ (omega arith) (omega arith)
+pub returns-in_err-most : goal.returns-in_err-most
+returns-in_err-most c = c.from_residual-in_err-most.ensures ∙ place-past _ _ (sym c.is_code.ensures ∙ c.if-not-is_code.false) _ (omega arith) (omega (arith, c.in_err-most.ensures))
 
-pub returns-then-extent-before : goal.returns-then-extent-before
-returns-then-extent-before c = place-past _ _ (sym c.is_code.ensures ∙ c.if-not-is_code.false) _ (omega arith) (omega arith)
+pub returns-then-most-before : goal.returns-then-most-before
+returns-then-most-before c = place-past _ _ (sym c.is_code.ensures ∙ c.if-not-is_code.false) _ (omega arith) (omega arith)
 
 pub overflow_add-result : goal.overflow_add-result
 overflow_add-result c =
@@ -21,4 +21,5 @@ overflow_add-result c =
     omega arith
 
 pub returns : goal.returns
-returns c = place_is _ _ (sym c.is_code.ensures ∙ c.if-not-is_code.false) _ (omega arith) (omega arith)
+returns c =
+    rw c.in_ok-before.ensures.1 (place_is _ _ (sym c.is_code.ensures ∙ c.if-not-is_code.false) _ (omega arith) (omega arith))

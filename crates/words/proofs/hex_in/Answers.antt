@@ -20,35 +20,34 @@ pub returns-then-digit-gt15 : goal.returns-then-digit-gt15
 unfolding hex_in
 returns-then-digit-gt15 c =
     let word = c.args.word.now in
-    let stop : are_hex word ≡ false = c.loop-i.invariant.2 ∙ not-hex word c.loop-i.i c.loop-i-test.true (rw c.digit_value-digit.ensures at c.if-digit-gt15.true) in
+    let stop : are_hex word ≡ false = c.loop-c.invariant.1 ∙ not-hex word c.loop-c.c-index c.loop-c-test.true (rw c.digit_value-digit.ensures at c.if-digit-gt15.true) in
     rw (stop, and-false (within 1 16 (length word)))
 
 pub overflow_mul-n : goal.overflow_mul-n
 overflow_mul-n c =
-    let small : c.loop-i.n < 2 ^ 60 = few-lt c.loop-i.n c.loop-i.i c.loop-i.invariant.1 (omega arith) in
+    let small : c.loop-c.n < 2 ^ 60 = few-lt c.loop-c.n c.loop-c.c-index c.loop-c.invariant.0 (omega arith) in
     omega arith
 
 pub overflow_add-n : goal.overflow_add-n
 overflow_add-n c =
-    let small : c.loop-i.n < 2 ^ 60 = few-lt c.loop-i.n c.loop-i.i c.loop-i.invariant.1 (omega arith) in
+    let small : c.loop-c.n < 2 ^ 60 = few-lt c.loop-c.n c.loop-c.c-index c.loop-c.invariant.0 (omega arith) in
     omega arith
 
-pub loop-i-preserved : goal.loop-i-preserved
-loop-i-preserved c =
-    let l = c.loop-i in
+pub loop-c-preserved : goal.loop-c-preserved
+loop-c-preserved c =
+    let l = c.loop-c in
     let word = c.args.word.now in
-    let inside = c.loop-i-test.true in
-    let digit : digit_value (get_or word l.i 0) < 16 = omega (arith, c.digit_value-digit.ensures) in (
-      omega arith,
-      rw c.digit_value-digit.ensures (next-lt l.n l.i _ l.invariant.1 digit),
-      l.invariant.2 ∙ more-hex word l.i inside digit,
-      l.invariant.3 ∙ rw c.digit_value-digit.ensures (more-worth word l.i inside l.n),
+    let inside = c.loop-c-test.true in
+    let digit : digit_value (get_or word l.c-index 0) < 16 = omega (arith, c.digit_value-digit.ensures) in (
+      rw (c.from.ensures, c.digit_value-digit.ensures) (next-lt l.n l.c-index _ l.invariant.0 digit),
+      l.invariant.1 ∙ more-hex word l.c-index inside digit,
+      l.invariant.2 ∙ rw (c.from.ensures, c.digit_value-digit.ensures) (more-worth word l.c-index inside l.n),
     )
 
 pub returns : goal.returns
 unfolding hex_in
 returns c =
-    let l = c.loop-i in
+    let l = c.loop-c in
     let word = c.args.word.now in
-    let past = c.loop-i-test.false in
-    rw (l.invariant.2, all-hex word l.i past, l.invariant.3, all-worth word l.i l.n past, le-leb 1 (length word) (omega arith), le-leb (length word) 16 (omega arith))
+    let past = c.loop-c-test.false in
+    rw (l.invariant.1, all-hex word l.c-index past, l.invariant.2, all-worth word l.c-index l.n past, le-leb 1 (length word) (omega arith), le-leb (length word) 16 (omega arith))

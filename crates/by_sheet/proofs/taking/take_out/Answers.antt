@@ -1,11 +1,13 @@
 -- The copy's first bytes are the code, and where all went they are copied back. Assumes nothing.
-use mathlib.Core.Path.{◌≡◌, ap, ◌∙◌}
+use mathlib.Core.Path.{◌≡◌, refl, ap, ◌∙◌}
 use mathlib.Core.List.{List, ◌++◌}
 use Prim.Native.Nat.{ℕ}
 use lib.ListN.{length, take}
 use lib.Seq.{take_at, take-append_seam}
-use Rattle.by_sheet.specs.Taking.{taken_in}
-use Rattle.by_sheet.proofs.Backs.{too_long_lem, all-out, none_out}
+use Rattle.std.proofs.lemmas.Result.{err_from_is_err_and}
+use Rattle.answer.specs.Answer.{accepted}
+use Rattle.by_sheet.specs.Taking.{none_named, taken_in}
+use Rattle.by_sheet.proofs.Backs.{too_long_lem, all-out, none_out, untaken-answer}
 use Rattle.by_sheet.proofs.taking.take_out.Goals as goal
 
 -- the code, copied, stands first
@@ -13,21 +15,22 @@ front : (code copied rest : List ℕ) → copied ≡ code → take (length code)
 front code copied rest e = ap (λ (l : List ℕ). take (length code) (l ++ rest)) e ∙ take-append_seam code rest
 
 pub returns-then-length-gt-LONGEST_CODE : goal.returns-then-length-gt-LONGEST_CODE
-returns-then-length-gt-LONGEST_CODE c = rw c.with_answer.ensures (too_long_lem c.args.code.now c.args.sheet.now c.if-length-gt-LONGEST_CODE.true)
+returns-then-length-gt-LONGEST_CODE c = too_long_lem c.args.code.now c.args.sheet.now c.if-length-gt-LONGEST_CODE.true
 
-pub returns-then-taken-eq-ACCEPTED : goal.returns-then-taken-eq-ACCEPTED
-returns-then-taken-eq-ACCEPTED c =
+pub returns-in_err-take_out_of : goal.returns-in_err-take_out_of
+returns-in_err-take_out_of c =
     let code = c.args.code.now in
-    let part = c.take_out_of-taken.new.code in
+    let untaken = err_from_is_err_and c.from_residual.result c.from_residual.ensures.1 in
     let here = front code c.copy_from_slice.new.self _ c.copy_from_slice.ensures.after in
-    let is = c.take_out_of-taken.ensures ∙ ap (λ (l : List ℕ). taken_in l c.args.sheet.now) here in
-    let long : length part ≡ length code = c.take_out_of-taken.auto.code ∙ ap length here in
-    let back = c.copy_from_slice-then-taken-eq-ACCEPTED.ensures.after ∙ take_at part _ (length code) long in
-    ap (λ (l : List ℕ). (c.take_out_of-taken.result, l)) back ∙ all-out code _ c.if-length-gt-LONGEST_CODE.false is c.if-taken-eq-ACCEPTED.true
+    let is = c.in_err-take_out_of.ensures ∙ ap (λ (l : List ℕ). taken_in l c.args.sheet.now) here in
+    rw (untaken.1, untaken.2) (none_out code _ c.if-length-gt-LONGEST_CODE.false is (untaken-answer c.in_err-take_out_of.field-0.0))
 
-pub returns-else-taken-eq-ACCEPTED : goal.returns-else-taken-eq-ACCEPTED
-returns-else-taken-eq-ACCEPTED c =
+pub returns : goal.returns
+returns c =
     let code = c.args.code.now in
+    let part = c.take_out_of.new.code in
     let here = front code c.copy_from_slice.new.self _ c.copy_from_slice.ensures.after in
-    let is = c.take_out_of-taken.ensures ∙ ap (λ (l : List ℕ). taken_in l c.args.sheet.now) here in
-    none_out code _ c.if-length-gt-LONGEST_CODE.false is c.if-taken-eq-ACCEPTED.false
+    let is = c.in_ok-take_out_of.ensures ∙ ap (λ (l : List ℕ). taken_in l c.args.sheet.now) here in
+    let long : length part ≡ length code = c.take_out_of.auto.code ∙ ap length here in
+    let back = c.copy_from_slice-2.ensures.after ∙ take_at part _ (length code) long in
+    ap (λ (l : List ℕ). (none_named accepted, l)) back ∙ all-out code _ c.if-length-gt-LONGEST_CODE.false is refl

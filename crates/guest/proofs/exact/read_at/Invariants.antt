@@ -1,6 +1,9 @@
--- The measure of its loop.
-use Rattle.std.proofs.Common.{◌-◌, length}
+-- No more is done than there is. Assumes nothing.
+use Rattle.std.proofs.Common.{◌-◌, ◌≤◌, length}
 use Rattle.guest.proofs.exact.read_at.Given as goal
 
+abbrev pub invariant-loop-done : goal.invariant-loop-done
+invariant-loop-done l = l.done ≤ length l.bytes
+
 abbrev pub decreases-loop-done : goal.decreases-loop-done
-decreases-loop-done l = length l.initial.bytes - l.done
+decreases-loop-done l = length l.bytes - l.done

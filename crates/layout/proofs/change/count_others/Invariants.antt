@@ -1,11 +1,9 @@
--- Those found and those to be found among the lines left are all.
+-- Those found and those to be found among the windows left are all.
 use Rattle.std.proofs.Common.{◌≡◌, ◌+◌, length}
 use Rattle.layout.specs.Change.{others}
 use Rattle.layout.specs.Read.{windows_at}
+use Rattle.layout.specs.inner.Left.{windows_left}
 use Rattle.layout.proofs.change.count_others.Given as goal
 
-abbrev pub invariant-loop-left : goal.invariant-loop-left
-invariant-loop-left l = l.found + length (others l.window (windows_at l.text l.at l.left)) ≡ length (others l.window (windows_at l.text l.first l.count))
-
-abbrev pub decreases-loop-left : goal.decreases-loop-left
-decreases-loop-left l = l.left
+abbrev pub invariant-loop-one : goal.invariant-loop-one
+invariant-loop-one l = l.others + length (others l.window (windows_left l.one-iterator)) ≡ length (others l.window (windows_at l.text l.fn.found.first l.fn.found.count))

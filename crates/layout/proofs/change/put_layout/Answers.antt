@@ -9,11 +9,11 @@ pub returns-then-listed : goal.returns-then-listed
 returns-then-listed c =
     let a = c.args in
     let head = rw c.count_others-others.ensures.0 at c.put_head-head.ensures in
-    rw (c.if-listed.true, ← layout-with a.reading a.window (windows_at a.text.now a.first a.count))
+    rw (c.if-listed.true, ← layout-with a.found.reading a.window (windows_at a.text.now a.found.first a.found.count))
     (put_then (omega arith) (put_then (omega arith) head c.put_others-end.ensures) c.put_field.ensures)
 
 pub returns : goal.returns
 returns c =
     let a = c.args in
     let head = rw c.count_others-others.ensures.0 at c.put_head-head-2.ensures in
-    rw (c.if-listed.false, ← layout-without a.reading a.window (windows_at a.text.now a.first a.count)) (put_then (omega arith) head c.put_others.ensures)
+    rw (c.if-listed.false, ← layout-without a.found.reading a.window (windows_at a.text.now a.found.first a.found.count)) (put_then (omega arith) head c.put_others.ensures)

@@ -11,10 +11,10 @@ returns-in_default c = rw (sym c.in_default.ensures)
 pub returns-then-out-put_layout : goal.returns-then-out-put_layout
 unfolding layout_in
 returns-then-out-put_layout c =
-    rw (sym c.in-Layout.ensures) (whole-no-room _ _ _ tt refl (omega (arith, c.put_layout.ensures.place, c.if-out-put_layout.true)))
+    rw (sym c.in-Some.ensures) (whole-no-room _ _ _ tt refl (omega (arith, c.put_layout.ensures.place, c.if-out-put_layout.true)))
 
 pub returns : goal.returns
 unfolding layout_in
 returns c =
-    rw (sym c.in-Layout.ensures)
-    (whole-put _ _ _ tt refl (omega arith) (omega (arith, c.put_layout.ensures.place, c.if-out-put_layout.false)) c.put_layout-length.ensures)
+    rw (sym c.in-Some.ensures)
+    (whole-put _ _ _ tt refl (omega arith) (omega (arith, c.put_layout.ensures.place, c.if-out-put_layout.false)) c.put_layout-2.ensures)

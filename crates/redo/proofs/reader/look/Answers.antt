@@ -1,6 +1,5 @@
 -- A case of what looking comes to at each return.
 use Rattle.std.proofs.Common.{sym}
-use borrow.Author.Tests.{not-true, not-false}
 use Rattle.redo.specs.Read.{look_of}
 use Rattle.redo.proofs.reader.look.Goals as goal
 
@@ -8,11 +7,14 @@ pub returns-then-not-begins : goal.returns-then-not-begins
 unfolding look_of
 returns-then-not-begins c = rw (sym c.if-not-begins.ensures)
 
-pub returns-then-not-head : goal.returns-then-not-head
+pub returns-in_err-of : goal.returns-in_err-of
 unfolding look_of
-returns-then-not-head c = rw (sym c.if-not-begins.ensures, ← c.read_fields-head.ensures, not-true c.read_fields-head.result.read c.if-not-head.true)
+returns-in_err-of c = rw (c.from_residual.ensures, sym c.if-not-begins.ensures, ← c.in_err-of.ensures)
+
+pub returns-in_err-sheet : goal.returns-in_err-sheet
+unfolding look_of
+returns-in_err-sheet c = rw (c.from_residual-in_err-sheet.ensures, sym c.if-not-begins.ensures, ← c.in_ok-of.ensures, ← c.in_err-sheet.ensures)
 
 pub returns : goal.returns
 unfolding look_of
-returns c =
-    rw (sym c.if-not-begins.ensures, ← c.read_fields-head.ensures, not-false c.read_fields-head.result.read c.if-not-head.false, ← c.after_lines-after.ensures) c.parts_at.ensures
+returns c = rw (sym c.if-not-begins.ensures, ← c.in_ok-of.ensures, ← c.in_ok-sheet.ensures) c.parts_at.ensures

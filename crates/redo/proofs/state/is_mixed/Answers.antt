@@ -1,22 +1,18 @@
--- A byte of either is one less to look at.
-use Rattle.std.proofs.Common.{◌≡◌, ℕ, arith, ap, sym, ◌∙◌}
+-- The chain tests each byte with those of either.
+use Rattle.std.proofs.Common.{◌∙◌, rules}
+use borrow.Author.Tests.{tests}
+use Rattle.std.proofs.lemmas.Iterator.{YieldsList-from_slice, YieldsList-from_zip}
+use Rattle.std.proofs.lemmas.Iterator.Search.{all_from_yields_List}
 use Rattle.bundle.specs.Bytes.{bytes}
-use Rattle.redo.specs.State.{of_either}
-use Rattle.redo.proofs.States.{mixed-none, mixed-not, mixed-on}
+use Rattle.redo.proofs.States.{bytes-are, is_either, mixed-pairs}
 use Rattle.redo.proofs.state.is_mixed.Goals as goal
-
-pub returns-then-not-is_either : goal.returns-then-not-is_either
-returns-then-not-is_either c =
-    let l = c.loop-left in
-    sym (l.invariant ∙ mixed-not l.left _ _ _ c.loop-left-test.true (sym c.if-not-is_either.ensures))
-
-pub loop-left-preserved : goal.loop-left-preserved
-loop-left-preserved c =
-    let l = c.loop-left in
-    l.invariant ∙ mixed-on l.left _ _ _ c.loop-left-test.true (sym c.if-not-is_either.ensures)
 
 pub returns : goal.returns
 returns c =
-    let l = c.loop-left in
-    let none : l.left ≡ 0 = omega arith in
-    sym (l.invariant ∙ ap (λ (n : ℕ). of_either (bytes n l.byte) (bytes n l.before) (bytes n l.after)) none ∙ mixed-none l.byte l.before l.after)
+    let now = bytes-are c.args.now in
+    let old = bytes-are c.args.old in
+    let new = bytes-are c.args.new in
+    all_from_yields_List is_either c.all.new.self _ c.all.result c.all.ensures.ran
+    (YieldsList-from_zip (YieldsList-from_slice (bytes 8 c.args.now) (cc)) (YieldsList-from_zip (YieldsList-from_slice (bytes 8 c.args.old) (cc)) (YieldsList-from_slice (bytes 8 c.args.new) (cc))))
+    (λ x b q k. search (rules, tests))
+    ∙ mixed-pairs 8 c.args.now c.args.old c.args.new

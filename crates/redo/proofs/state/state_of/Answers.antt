@@ -1,20 +1,32 @@
 -- The tests are the definition's.
-use Rattle.std.proofs.Common.{sym}
+use Rattle.std.proofs.Common.{arith, sym, ◌∙◌}
 use Rattle.redo.specs.State.{state_of}
+use Rattle.redo.proofs.States.{same-whole}
 use Rattle.redo.proofs.state.state_of.Goals as goal
 
-pub returns-then-are_same : goal.returns-then-are_same
+pub returns-then-eq : goal.returns-then-eq
 unfolding state_of
-returns-then-are_same c = rw (sym c.if-are_same.ensures)
+returns-then-eq c =
+    let same = c.if-eq.ensures ∙ same-whole c.args.now c.args.old (omega (arith, c)) (omega (arith, c)) in
+    rw (sym same)
 
-pub returns-then-are_same-2 : goal.returns-then-are_same-2
+pub returns-then-eq-2 : goal.returns-then-eq-2
 unfolding state_of
-returns-then-are_same-2 c = rw (sym c.if-are_same.ensures, sym c.if-are_same-2.ensures)
+returns-then-eq-2 c =
+    let other = c.if-eq.ensures ∙ same-whole c.args.now c.args.old (omega (arith, c)) (omega (arith, c)) in
+    let same = c.if-eq-2.ensures ∙ same-whole c.args.now c.args.new (omega (arith, c)) (omega (arith, c)) in
+    rw (sym other, sym same)
 
 pub returns-then-is_torn : goal.returns-then-is_torn
 unfolding state_of
-returns-then-is_torn c = rw (sym c.if-are_same.ensures, sym c.if-are_same-2.ensures, sym c.if-is_torn.ensures)
+returns-then-is_torn c =
+    let other = c.if-eq.ensures ∙ same-whole c.args.now c.args.old (omega (arith, c)) (omega (arith, c)) in
+    let neither = c.if-eq-2.ensures ∙ same-whole c.args.now c.args.new (omega (arith, c)) (omega (arith, c)) in
+    rw (sym other, sym neither, sym c.if-is_torn.ensures)
 
 pub returns : goal.returns
 unfolding state_of
-returns c = rw (sym c.if-are_same.ensures, sym c.if-are_same-2.ensures, sym c.if-is_torn.ensures)
+returns c =
+    let other = c.if-eq.ensures ∙ same-whole c.args.now c.args.old (omega (arith, c)) (omega (arith, c)) in
+    let neither = c.if-eq-2.ensures ∙ same-whole c.args.now c.args.new (omega (arith, c)) (omega (arith, c)) in
+    rw (sym other, sym neither, sym c.if-is_torn.ensures)

@@ -1,48 +1,34 @@
 -- Its fields, one after the other. Assumes nothing.
-use Rattle.std.proofs.Common.{sym, ap, ◌∙◌}
+use Rattle.std.proofs.Common.{sym, ap, ◌∙◌, Some}
 use Rattle.form.specs.declared.Edit.{Edit}
 use Rattle.journal.specs.declared.Act.TheVariants as act
 use Rattle.script.specs.Line.{edit_at}
-use Rattle.script.specs.declared.line.Asked.TheVariants as asked
 use Rattle.script.proofs.line.edit_at.Goals as goal
 
-pub returns-in_default : goal.returns-in_default
+pub returns-in_err-bundle : goal.returns-in_err-bundle
 unfolding edit_at
-returns-in_default c = rw (sym c.read_field-first.ensures ∙ c.in_default.is)
+returns-in_err-bundle c = rw (sym c.in_err-bundle.ensures) c.from_residual.ensures
 
-pub returns-in_default-then : goal.returns-in_default-then
+pub returns-in_err-slot : goal.returns-in_err-slot
 unfolding edit_at
-returns-in_default-then c = rw (sym c.read_field-first.ensures ∙ c.in-Read.is, sym c.read_field-then.ensures ∙ c.in_default-then.is)
+returns-in_err-slot c = rw (sym c.in_ok-bundle.ensures, sym c.in_err-slot.ensures) c.from_residual-in_err-slot.ensures
 
-pub returns-in_default-named : goal.returns-in_default-named
+pub returns-in_err-form : goal.returns-in_err-form
 unfolding edit_at
-returns-in_default-named c =
-    rw (sym c.read_field-first.ensures ∙ c.in-Read.is, sym c.read_field-then.ensures ∙ c.in-Read-then.is, sym c.read_field-named.ensures ∙ c.in_default-named.is)
+returns-in_err-form c = rw (sym c.in_ok-bundle.ensures, sym c.in_ok-slot.ensures, sym c.in_err-form.ensures) c.from_residual-in_err-form.ensures
 
-pub returns-then-form : goal.returns-then-form
+pub returns-then-eq : goal.returns-then-eq
 unfolding edit_at
-returns-then-form c =
-    rw (sym c.read_field-first.ensures ∙ c.in-Read.is, sym c.read_field-then.ensures ∙ c.in-Read-then.is, sym c.read_field-named.ensures ∙ c.in-Read-named.is, c.if-form.true)
+returns-then-eq c = rw (sym c.in_ok-bundle.ensures, sym c.in_ok-slot.ensures, sym c.in_ok-form.ensures, sym c.eq.ensures ∙ c.if-eq.true)
 
-pub returns-in_default-last : goal.returns-in_default-last
+pub returns-in_err-pattern : goal.returns-in_err-pattern
 unfolding edit_at
-returns-in_default-last c =
-    rw (
-      sym c.read_field-first.ensures ∙ c.in-Read.is,
-      sym c.read_field-then.ensures ∙ c.in-Read-then.is,
-      sym c.read_field-named.ensures ∙ c.in-Read-named.is,
-      c.if-form.false,
-      sym c.read_field-last.ensures ∙ c.in_default-last.is,
-    )
+returns-in_err-pattern c =
+    rw (sym c.in_ok-bundle.ensures, sym c.in_ok-slot.ensures, sym c.in_ok-form.ensures, sym c.eq.ensures ∙ c.if-eq.false, sym c.in_err-pattern.ensures)
+    c.from_residual-in_err-pattern.ensures
 
 pub returns : goal.returns
 unfolding edit_at
 returns c =
-    rw (
-      sym c.read_field-first.ensures ∙ c.in-Read.is,
-      sym c.read_field-then.ensures ∙ c.in-Read-then.is,
-      sym c.read_field-named.ensures ∙ c.in-Read-named.is,
-      c.if-form.false,
-      sym c.read_field-last.ensures ∙ c.in-Read-last.is,
-    )
-    (ap (λ (e : Edit). asked.Does (act.Edit e)) c.edit_of.ensures)
+    rw (sym c.in_ok-bundle.ensures, sym c.in_ok-slot.ensures, sym c.in_ok-form.ensures, sym c.eq.ensures ∙ c.if-eq.false, sym c.in_ok-pattern.ensures)
+    (ap (λ (e : Edit). Some (act.Edit e)) c.edit_of.ensures)

@@ -1,26 +1,26 @@
 -- The line at the place is the first of those left. Assumes nothing.
 use mathlib.Core.Path.{◌≡◌, refl, sym, ◌∙◌}
-use Prim.Native.Nat.{◌+◌}
+use Prim.Native.Nat.{ℕ, ◌+◌}
 use native.Mathlib.Omega.{arith}
-use Rattle.sheet.specs.declared.line.Line.TheVariants.{Read}
-use Rattle.sheet.proofs.Lines.{no_line}
+use Rattle.std.specs.Prelude.{Option, Some}
+use Rattle.record.specs.declared.Record.{Record}
+use Rattle.text.proofs.Numbers.{no_number, some-parts}
 use Rattle.sheet.proofs.Reading.{left, done, records-end, more}
 use Rattle.sheet.proofs.look.next_line.Goals as goal
 
-pub returns-in-Read : goal.returns-in-Read
-returns-in-Read c rs e =
+pub returns-in-Some : goal.returns-in-Some
+returns-in-Some c rs e =
     let a = c.args in
     let m = more a.party a.found.kind a.text.now a.at _ rs (rw (left a.place a.found.count c.if-place-found.true) at e) in
-    let same : Read c.in-Read.one c.in-Read.next ≡ Read m.one m.next = sym c.in-Read.is ∙ c.read_line-line.ensures ∙ m.line-is in
-    let one : c.in-Read.one ≡ m.one = cc same in
-    let next : c.in-Read.next ≡ m.next = cc same in
-    rw (← m.is) (one, rw next m.others-are)
+    let same : ◌≡◌ {A = Option (Record × ℕ)} (Some (c.in-Some.one, c.in-Some.next)) (Some (m.one, m.next)) = sym c.in-Some.is ∙ c.read_line-line.ensures ∙ m.line-is in
+    let parts = some-parts same in
+    rw (← m.is) (parts.0, rw parts.1 m.others-are)
 
 pub returns-in_default : goal.returns-in_default
 returns-in_default c rs e =
     let a = c.args in
     let m = more a.party a.found.kind a.text.now a.at _ rs (rw (left a.place a.found.count c.if-place-found.true) at e) in
-    absurd (no_line (sym c.in_default.is ∙ c.read_line-line.ensures ∙ m.line-is))
+    absurd (no_number (sym c.in_default.is ∙ c.read_line-line.ensures ∙ m.line-is))
 
 pub returns-else-place-found : goal.returns-else-place-found
 returns-else-place-found c rs e =

@@ -9,10 +9,10 @@ use Rattle.tally.proofs.lines.put_report.Goals as goal
 
 pub loop-i-init : goal.loop-i-init
 unfolding number_lines
-loop-i-init c = (omega arith, put-none (omega arith))
+loop-i-init c = put-none (omega arith)
 
 pub loop-i-preserved : goal.loop-i-preserved
-loop-i-preserved c = (omega arith, rw (lines_more c.args.report c.loop-i.i) (put_then (omega arith) c.loop-i.invariant.1 c.put_line-next.ensures))
+loop-i-preserved c = rw (lines_more c.args.report c.loop-i.i) (put_then (omega arith) c.loop-i.invariant c.put_line-next.ensures)
 
 pub returns-clause-room : goal.returns-clause-room
 returns-clause-room c =

@@ -1,9 +1,11 @@
--- The text's front is compared, where it is long enough.
-use Rattle.text.proofs.RoundTrip.{same-as, starts-short}
+-- The library compares the text's front with the start.
+use Rattle.std.proofs.Common.{sym}
+use Rattle.std.proofs.lemmas.Bool.Decides.{Decides-eqb}
+use Rattle.std.proofs.lemmas.Slice.Eq.{slice_eq-Decides}
+use Rattle.text.proofs.RoundTrip.{same-as}
 use Rattle.text.proofs.fields.begins.Goals as goal
 
-pub returns-then-text-n : goal.returns-then-text-n
-returns-then-text-n c = starts-short c.args.start.now c.args.text.now c.if-text-n.true
-
 pub returns : goal.returns
-returns c = same-as _ _ _ c.same.ensures.0 c.same.ensures.1
+returns c =
+    let d = slice_eq-Decides Decides-eqb _ _ c.starts_with.result c.starts_with.ensures.value in
+    same-as _ _ _ (λ t. sym (d.0 t)) (λ e. d.1 (sym e))

@@ -8,23 +8,22 @@ use Rattle.text.proofs.fields.read_fields.Goals.{then-i-lt8, else-i-lt8}
 
 pub loop-i-init : goal.loop-i-init
 unfolding fields_of
-loop-i-init c = (omega arith, refl, refl)
+loop-i-init c = (refl, refl)
 
-pub returns-in_default : goal.returns-in_default
+pub returns-in_err-n : goal.returns-in_err-n
 unfolding fields_at
-returns-in_default c = rw (c.loop-i.invariant.2, drop-cons {A = ℕ} _ c.loop-i.i 0 c.loop-i-test.true, sym c.in_default.ensures)
+returns-in_err-n c = rw (c.from_residual.ensures, c.loop-i.invariant.1, drop-cons {A = ℕ} _ c.loop-i.i 0 c.loop-i-test.true, sym c.in_err-n.ensures)
 
 pub loop-i-preserved : goal.loop-i-preserved
 unfolding fields_at
 loop-i-preserved c =
     let l = c.loop-i in
-    let stored : c.if-i-lt8.of ≡ set l.of l.i c.in-Read.n =
-    elim c.if-i-lt8.branch [ then-i-lt8 w ↦ w.of-is | else-i-lt8 w ↦ w.of-is ∙ sym (set_out _ _ _ (omega arith)) ] in (
-      omega arith,
-      rw (stored, length-set) l.invariant.1,
-      rw (l.invariant.2, drop-cons c.args.ends.now l.i 0 c.loop-i-test.true, sym c.in-Read.ensures, read_more, stored, add-one),
+    let joined : (c.if-i-lt8.of ≡ set l.of l.i c.in_ok-n.n) × (c.if-i-lt8.next ≡ c.in_ok-n.after) =
+    elim c.if-i-lt8.branch [ then-i-lt8 w ↦ (w.of-is, w.next-is) | else-i-lt8 w ↦ (w.of-is ∙ sym (set_out _ _ _ (omega arith)), w.next-is) ] in (
+      rw (joined.0, length-set) l.invariant.0,
+      rw (l.invariant.1, drop-cons c.args.ends.now l.i 0 c.loop-i-test.true, sym c.in_ok-n.ensures, read_more, joined.0, joined.1, add-one),
     )
 
 pub returns : goal.returns
 unfolding fields_at
-returns c = rw (c.loop-i.invariant.2, drop_of_length-le _ c.loop-i-test.false)
+returns c = rw (c.loop-i.invariant.1, drop_of_length-le _ c.loop-i-test.false)

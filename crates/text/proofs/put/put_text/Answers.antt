@@ -12,4 +12,4 @@ returns c =
       | then-at-out w ↦ w.out-is ∙ written_from c.args.out.now c.args.at c.args.text.now _ (omega arith) w.put_front.ensures
       | else-at-out w ↦ w.out-is ∙ sym (written-lost c.args.out.now c.args.at c.args.text.now w.if-at-out.false)
     ] in
-    record { bytes = stored; place = c.place.ensures }
+    record { bytes = stored; place = c.saturating_add.ensures }

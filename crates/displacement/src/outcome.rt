@@ -1,8 +1,0 @@
-// What `displacement` hands back.
-use operand::Operand;
-
-#[derive(Clone, Copy)]
-pub struct Displacement {
-    pub answer: u8,
-    pub value: Operand,
-}

@@ -1,6 +1,0 @@
--- The measure of its loop.
-use Rattle.std.proofs.Common.{◌-◌}
-use Rattle.guest.proofs.extents.overlaps.Given as goal
-
-abbrev pub decreases-loop-i : goal.decreases-loop-i
-decreases-loop-i l = l.count - l.i

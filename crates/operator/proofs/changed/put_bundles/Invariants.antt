@@ -1,6 +1,0 @@
--- The measure of its loop.
-use Rattle.std.proofs.Common.{◌-◌}
-use Rattle.operator.proofs.changed.put_bundles.Given as goal
-
-abbrev pub decreases-loop-n : goal.decreases-loop-n
-decreases-loop-n l = 4096 - l.n

@@ -1,6 +1,0 @@
--- The measure of its loop.
-use Rattle.std.proofs.Common.{◌-◌}
-use Rattle.operator.proofs.count.with_bytes.Given as goal
-
-abbrev pub decreases-loop-done : goal.decreases-loop-done
-decreases-loop-done l = l.size - l.done

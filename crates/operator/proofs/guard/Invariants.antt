@@ -1,5 +1,0 @@
--- The measure of its loop.
-use Rattle.operator.proofs.guard.Given as goal
-
-abbrev pub decreases-loop-left : goal.decreases-loop-left
-decreases-loop-left l = l.left
