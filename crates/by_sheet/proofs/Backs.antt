@@ -57,10 +57,10 @@ module _ (code : List ℕ) (q : Record) {loaded : Loaded} {a : ℕ} (l : loaded 
   unfolding put_back
   back-taken t = sym (accepts (answer_of code q) _ _ (sym answer-is ∙ t))
 
-  pub back-refused : (a ≡ accepted → ⊥) → (record { answer = a; bundle = q.bundle; wanted = q.new; found = loaded.halves }, code) ≡ put_back code q
+  pub back-refused : (a ≡ accepted → ⊥) → (record { answer = a; named = true; bundle = q.bundle; wanted = q.new; found = loaded.halves }, code) ≡ put_back code q
   unfolding put_back
   back-refused d =
-      (λ i. (record { answer = answer-is i; bundle = q.bundle; wanted = q.new; found = (l i).halves }, code)) ∙ sym (refuses (answer_of code q) _ _ (λ t. d (answer-is ∙ t)))
+      (λ i. (record { answer = answer-is i; named = true; bundle = q.bundle; wanted = q.new; found = (l i).halves }, code)) ∙ sym (refuses (answer_of code q) _ _ (λ t. d (answer-is ∙ t)))
 
   -- its bundle lies in the code
   pub fits-lies : a ≡ accepted → Lies code q.bundle
@@ -130,10 +130,10 @@ module _ (ps : List Record) (q : Record) (f : Fit (ps ++ (q ∷ []))) (code : Li
   still-short e = omega (arith, short, rewritten-length code q.bundle (fits-lies code q refl refl e) (whole q.old))
 
   -- what is said of the record that doesn't fit
-  misfit-is : (answer ≡ accepted → ⊥) → taken_by unchanged ≡ (record { answer = answer; bundle = q.bundle; wanted = q.new; found = (loaded_of code q.bundle).halves }, code)
+  misfit-is : (answer ≡ accepted → ⊥) → taken_by unchanged ≡ (record { answer = answer; named = true; bundle = q.bundle; wanted = q.new; found = (loaded_of code q.bundle).halves }, code)
   misfit-is d =
       let last : get_last_d (standing (journal_of limit qs)) no_record ≡ q = ap (λ (rs : List Record). get_last_d rs no_record) (journal-stands limit qs) ∙ last_snoc ps q in
-      ap (λ (t : TakenOut). (t, code)) (refuses answer _ _ d ∙ (λ i. record { answer = answer; bundle = (last i).bundle; wanted = (last i).new; found = (loaded_of code (last i).bundle).halves }))
+      ap (λ (t : TakenOut). (t, code)) (refuses answer _ _ d ∙ (λ i. record { answer = answer; named = true; bundle = (last i).bundle; wanted = (last i).new; found = (loaded_of code (last i).bundle).halves }))
 
 -- so of as many as there are
 module _ (rs : List Record) where

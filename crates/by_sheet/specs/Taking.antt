@@ -1,5 +1,5 @@
 -- All records of a sheet taken out, the last first: what `take_out` comes to, by undos one after the other. Assumes nothing.
-use Rattle.std.specs.Prelude.{ℕ, zero, suc, cond, ltb, length, Result, Ok, Err}
+use Rattle.std.specs.Prelude.{ℕ, zero, suc, Bool, true, false, cond, ltb, length, Result, Ok, Err}
 use mathlib.Core.List.{List, get_last_d}
 use Rattle.answer.specs.Answer.{outcome, accepted, too_long, number_of}
 use Rattle.bundle.specs.Bundle.{longest_code, halves_of, loaded_of}
@@ -20,28 +20,29 @@ undos_from (suc n) o = let next = undo_by o.code o.journal 0 in outcome next.ans
 abbrev pub all_undone : List ℕ → Shared → SharedOutcome
 all_undone code s = undos_from (length (records_in s)) (record { answer = accepted; journal = s; code = code })
 
--- what a call answers; and of the first record that doesn't fit its bundle, what the record left there, and what stands there
+-- what a call answers; whether a record is named, the first that doesn't fit its bundle; and of that one what it left there, and what stands there
 pub record TakenOut : Type 0 where
   pub answer : ℕ
+  pub named : Bool
   pub bundle : ℕ
   pub wanted : Halves
   pub found : Halves
 
 -- what is said where no record is named
 abbrev pub none_named : ℕ → TakenOut
-none_named answer = record { answer = answer; bundle = 0; wanted = halves_of 0; found = halves_of 0 }
+none_named answer = record { answer = answer; named = false; bundle = 0; wanted = halves_of 0; found = halves_of 0 }
 
 -- what `take_out` hands back, as that
 abbrev pub as_taken : Result (Unit {0}) Untaken → TakenOut
 as_taken (Ok u) = none_named accepted
 as_taken (Err (Refused refusal)) = none_named (number_of refusal)
-as_taken (Err (Unfit m)) = record { answer = number_of m.refusal; bundle = m.bundle; wanted = m.wanted; found = m.found }
+as_taken (Err (Unfit m)) = record { answer = number_of m.refusal; named = true; bundle = m.bundle; wanted = m.wanted; found = m.found }
 
 -- and of the record that doesn't fit, which is the last that stands: its bundle, what it left there, and what stands there
 abbrev pub misfit_in : SharedOutcome → TakenOut
 misfit_in o =
     let last = get_last_d (records_in o.journal) no_record in
-    record { answer = o.answer; bundle = last.bundle; wanted = last.new; found = (loaded_of o.code last.bundle).halves }
+    record { answer = o.answer; named = true; bundle = last.bundle; wanted = last.new; found = (loaded_of o.code last.bundle).halves }
 
 -- what is said after undos, and the code as far as they went
 abbrev pub taken_by : SharedOutcome → TakenOut × List ℕ

@@ -32,23 +32,24 @@ pub fn started(rt: &impl Env) -> Started {
     start::started_by(&word[..length], &number[..digits])
 }
 
-// Writes the status, where there is a descriptor for it, and answers what the program ends with.
-pub fn end(rt: &impl Files, started: Started, status: Status) -> ExitCode {
-    if status == Status::Unread {
-        return ExitCode::from(status.number());
+// Writes the status, or a number for one, where there is a descriptor for it, and answers what the program ends with.
+pub fn end(rt: &impl Files, started: Started, status: impl Into<u64>) -> ExitCode {
+    let number: u64 = status.into();
+    if number == u64::from(Status::Unread) {
+        return ExitCode::from(Status::Unread.number());
     }
     let Some(path) = started.status.and_then(start::path) else {
         return ExitCode::SUCCESS;
     };
-    match put_status(rt, path, status) {
+    match put_status(rt, path, number) {
         Ok(()) => ExitCode::SUCCESS,
-        Err(_) => ExitCode::from(status.number()),
+        Err(_) => ExitCode::from((number % 256) as u8),
     }
 }
 
-fn put_status(rt: &impl Files, path: &str, status: Status) -> io::Result<()> {
+fn put_status(rt: &impl Files, path: &str, status: u64) -> io::Result<()> {
     let mut file = OpenOptions::new().write(true).open(rt, path)?;
-    write!(file, "{}", status.number())
+    write!(file, "{status}")
 }
 
 // Whether the program was given arguments of its own.

@@ -21,3 +21,14 @@ impl Status {
         self as u8
     }
 }
+
+impl From<Status> for u64 {
+    ghost use Rattle.std.specs.Prelude.{◌≡◌};
+    ghost use Rattle.console.specs.Status.{number_of};
+
+    ghost from_gives = { λ status number. number ≡ number_of status };
+
+    fn from(status: Status) -> u64 {
+        u64::from(status.number())
+    }
+}

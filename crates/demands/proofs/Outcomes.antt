@@ -2,7 +2,7 @@
 -- the answer and, where that accepts, what was handed back; of a cut it tells the tag too, and no bundle that is missing is refused by 2.
 -- Assumes nothing.
 use mathlib.Core.Path.{◌≡◌, refl, sym, ap, subst, ◌∙◌}
-use mathlib.Core.Bool.{Bool, true, false, cond, not}
+use mathlib.Core.Bool.{Bool, true, false, false≢true, cond, not}
 use mathlib.Core.List.{List}
 use Prim.Native.Nat.{ℕ, ◌+◌, ◌*◌}
 use lib.Dec.{T, eqb, ltb, eqb→eq}
@@ -33,6 +33,10 @@ use Rattle.tally.specs.Report.{Added, added_of}
 use Rattle.immediate.specs.Immediate.{Immediate, as_immediate, immediate_of, Changed, as_changed, changed_of, Target, as_target, target_of}
 use Rattle.displacement.specs.Displacement.{Displacement, as_displacement, displacement_of}
 use Rattle.meet.specs.Meet.{Met, as_met, meet_of}
+use Rattle.by_sheet.specs.Taking.{TakenOut, as_taken, taken_out_of}
+use Rattle.by_sheet.specs.declared.taking.Misfit.{Misfit}
+use Rattle.by_sheet.specs.declared.taking.Untaken.{Untaken}
+use Rattle.by_sheet.specs.declared.taking.Untaken.TheVariants.{Refused, Unfit}
 
 -- a view that has the answer, and where it accepts the value, is of one Result alone
 told : {A B : Type 0} (view : Result A Refusal → B) (answer : B → ℕ) (value : B → A)
@@ -126,3 +130,23 @@ module _ (code : List ℕ) (k : ℕ) where
   cut-handed (Err (Reserved t)) (Ok b) e f = absurd (eqb_no tt (ap (λ (c : Cut). c.answer) (e ∙ sym f)))
   cut-handed (Err (Reserved t)) (Err (Missing y)) e f = absurd (not-missing y f (sym (ap (λ (c : Cut). c.answer) (e ∙ sym f))))
   cut-handed (Err (Reserved t)) (Err (Reserved u)) e f = ap (λ (c : Cut). Err (Reserved c.template.tag)) (e ∙ sym f)
+
+-- of records taken out it tells whether one is named, which is one that doesn't fit, and all of that one
+one-taken : (r s : Result ⊤ Untaken) → as_taken r ≡ as_taken s → r ≡ s
+one-taken (Ok a) (Ok b) e = refl
+one-taken (Ok a) (Err (Refused x)) e = absurd (no-acceptance x (sym (ap (λ (t : TakenOut). t.answer) e)))
+one-taken (Ok a) (Err (Unfit m)) e = absurd (false≢true (ap (λ (t : TakenOut). t.named) e))
+one-taken (Err (Refused x)) (Ok b) e = absurd (no-acceptance x (ap (λ (t : TakenOut). t.answer) e))
+one-taken (Err (Refused x)) (Err (Refused y)) e = ap (λ (z : Refusal). Err (Refused z)) (same-refusal x y (ap (λ (t : TakenOut). t.answer) e))
+one-taken (Err (Refused x)) (Err (Unfit m)) e = absurd (false≢true (ap (λ (t : TakenOut). t.named) e))
+one-taken (Err (Unfit m)) (Ok b) e = absurd (false≢true (sym (ap (λ (t : TakenOut). t.named) e)))
+one-taken (Err (Unfit m)) (Err (Refused y)) e = absurd (false≢true (sym (ap (λ (t : TakenOut). t.named) e)))
+one-taken (Err (Unfit m)) (Err (Unfit n)) e =
+    let refusal = same-refusal m.refusal n.refusal (ap (λ (t : TakenOut). t.answer) e) in
+    ap (λ (o : Misfit). Err (Unfit o)) (λ i. record { refusal = refusal i; bundle = (e i).bundle; wanted = (e i).wanted; found = (e i).found })
+
+pub take-out-handed : (code sheet : List ℕ) (r s : Result ⊤ Untaken) (left other : List ℕ) → (as_taken r, left) ≡ taken_out_of code sheet → (as_taken s, other) ≡ taken_out_of code sheet
+    → (r ≡ s) × (left ≡ other)
+take-out-handed code sheet r s left other e f =
+    let same = e ∙ sym f in
+    (one-taken r s (ap (λ (t : TakenOut × List ℕ). t.0) same), ap (λ (t : TakenOut × List ℕ). t.1) same)

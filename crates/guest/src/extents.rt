@@ -15,11 +15,11 @@ const NO_EXTENT: Extent = Extent {
     size: 0,
 };
 
-// So many of them, no two of which share an address or a byte of the file.
+// So many of them. Of those that `add` put here no two share an address or a byte of the file.
 #[derive(Clone, Copy)]
 pub struct Extents {
-    all: [Extent; MOST],
-    count: usize,
+    pub all: [Extent; MOST],
+    pub count: usize,
     ghost within: { count ≤ 64 },
 }
 

@@ -49,29 +49,36 @@ pub fn put_bundle(out: &mut [u8], at: usize, halves: Halves) -> usize {
 }
 
 // A refusal's number and name.
-pub fn put_answer(out: &mut [u8], at: usize, refusal: Refusal) -> usize {
-    let next = text::put_field(out, at, u64::from(refusal.number()), b' ');
-    put_text(out, next, name_of(refusal))
+pub fn put_refusal(out: &mut [u8], at: usize, refusal: Refusal) -> usize {
+    put_answer(out, at, refusal.number())
 }
 
-fn name_of(refusal: Refusal) -> &'static [u8] {
-    match refusal {
-        Refusal::ExhaustedInput => b"ExhaustedInput",
-        Refusal::BadBundle => b"BadBundle",
-        Refusal::BadForm => b"BadForm",
-        Refusal::BadWord => b"BadWord",
-        Refusal::BadSlot => b"BadSlot",
-        Refusal::BadValue => b"BadValue",
-        Refusal::Full => b"Full",
-        Refusal::Empty => b"Empty",
-        Refusal::Stale => b"Stale",
-        Refusal::TooLong => b"TooLong",
-        Refusal::BadJournal => b"BadJournal",
-        Refusal::NoRoom => b"NoRoom",
-        Refusal::BadSheet => b"BadSheet",
-        Refusal::BadOpcode => b"BadOpcode",
-        Refusal::Retired => b"Retired",
-        Refusal::BadScript => b"BadScript",
+// An answer's number and name; a number that is no answer has none.
+pub fn put_answer(out: &mut [u8], at: usize, answer: u8) -> usize {
+    let next = text::put_field(out, at, u64::from(answer), b' ');
+    put_text(out, next, name_of(answer))
+}
+
+fn name_of(answer: u8) -> &'static [u8] {
+    match answer {
+        0 => b"Accepted",
+        1 => b"ExhaustedInput",
+        2 => b"BadBundle",
+        3 => b"BadForm",
+        4 => b"BadWord",
+        5 => b"BadSlot",
+        6 => b"BadValue",
+        7 => b"Full",
+        8 => b"Empty",
+        9 => b"Stale",
+        10 => b"TooLong",
+        11 => b"BadJournal",
+        12 => b"NoRoom",
+        13 => b"BadSheet",
+        14 => b"BadOpcode",
+        15 => b"Retired",
+        16 => b"BadScript",
+        _ => b"",
     }
 }
 

@@ -30,6 +30,8 @@ pub fn locked<F: FnOnce(&Job) -> Result<(), Status>>(job: &Job, act: F) -> Resul
     done
 }
 
+// Apart from `locked`, so that its room is given back before that of the change is taken.
+#[inline(never)]
 fn finish_old(job: &Job) -> Result<(), Status> {
     let mut text = room::text();
     job.folder().finish_old(&mut text)

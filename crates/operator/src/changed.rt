@@ -6,6 +6,7 @@ use crate::room;
 use bundle::Halves;
 use console::Status;
 use message::put_address;
+use operand::Operand;
 use text::{TAB, put_byte, put_text};
 
 // A window has so many bundles.
@@ -43,7 +44,7 @@ fn put_bundle(out: &mut [u8], at: usize, address: u64, old: Halves, new: Halves)
     put_byte(out, end, b'\n')
 }
 
-// The number before and after, and whether the form was looked at; what isn't an edit has none.
+// The number before, where it could be read, and after, and whether the form was looked at; what isn't an edit has none.
 fn put_edit(
     out: &mut [u8],
     at: usize,
@@ -53,14 +54,12 @@ fn put_edit(
     checked: bool,
 ) -> usize {
     let spot = window::spot_of(aim.address);
-    let Ok(was) = immediate::immediate(before, spot.bundle, aim.slot, aim.form) else {
-        return at;
-    };
+    let was = immediate::immediate(before, spot.bundle, aim.slot, aim.form);
     let Ok(is) = immediate::immediate(code, spot.bundle, aim.slot, aim.form) else {
         return at;
     };
     let start = put_text(out, at, b"value\t");
-    let first = message::put_value(out, start, was);
+    let first = message::put_value(out, start, was.unwrap_or(Operand::None));
     let tab = put_byte(out, first, TAB);
     let second = message::put_value(out, tab, is);
     let said = if checked {
@@ -74,14 +73,12 @@ fn put_edit(
 
 fn put_targets(out: &mut [u8], at: usize, before: &[u8], code: &[u8], aim: Aim) -> usize {
     let spot = window::spot_of(aim.address);
-    let Ok(was) = immediate::target(before, spot.bundle, aim.slot, aim.form, aim.address) else {
-        return at;
-    };
+    let was = immediate::target(before, spot.bundle, aim.slot, aim.form, aim.address);
     let Ok(is) = immediate::target(code, spot.bundle, aim.slot, aim.form, aim.address) else {
         return at;
     };
     let start = put_text(out, at, b"target\t");
-    let first = put_address(out, start, was);
+    let first = put_address(out, start, was.unwrap_or(0));
     let tab = put_byte(out, first, TAB);
     let second = put_address(out, tab, is);
     put_byte(out, second, b'\n')

@@ -76,6 +76,8 @@ fn done(rt: &HostRuntime, asked: &Asked) -> Result<(), Status> {
     })
 }
 
+// Apart from `main`, so that what tells how the program is used needs no room for what its commands work with.
+#[inline(never)]
 fn done_of(job: &Job) -> Result<(), Status> {
     match job.command {
         Command::List => list::list(job),

@@ -1,5 +1,5 @@
 -- How records are taken out: each one's old bundle is put back, where its new one stands. Assumes nothing.
-use Rattle.std.specs.Prelude.{ℕ, zero, suc, cond, List, get_or}
+use Rattle.std.specs.Prelude.{ℕ, zero, suc, true, cond, List, get_or}
 use Rattle.answer.specs.Answer.{outcome, accepted, stale}
 use Rattle.bundle.specs.Bundle.{loaded_of, whole}
 use Rattle.bundle.specs.declared.half.Halves.{Halves}
@@ -19,7 +19,7 @@ put_back code r =
     let answer = fit_answer loaded.answer r.new loaded.halves in
     outcome answer
     (none_named accepted, rewritten code r.bundle (whole r.old))
-    (record { answer = answer; bundle = r.bundle; wanted = r.new; found = loaded.halves }, code)
+    (record { answer = answer; named = true; bundle = r.bundle; wanted = r.new; found = loaded.halves }, code)
 
 -- those of the first so many records, the last first, up to the first that doesn't fit
 unfoldable pub all_back : List Record → ℕ → List ℕ → TakenOut × List ℕ

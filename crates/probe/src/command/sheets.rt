@@ -48,6 +48,9 @@ pub fn written(count: usize, room: usize, lent: &[u8], out: &mut [u8], at: usize
 // How many bytes are untouched from `from` on, up to `to`.
 fn blanks(lent: &[u8], from: usize, to: usize) -> u64 {
     let end = part::within(lent, to);
-    let untouched = &lent[from.min(end)..end];
-    untouched.iter().filter(|&&b| b == BLANK).count() as u64
+    let mut count = 0u64;
+    for byte in &lent[from.min(end)..end] {
+        count = count.wrapping_add(u64::from(*byte == BLANK));
+    }
+    count
 }
