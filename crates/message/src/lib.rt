@@ -48,15 +48,36 @@ pub fn put_bundle(out: &mut [u8], at: usize, halves: Halves) -> usize {
     hex_text::put_hex(out, at, &bytes)
 }
 
-// A refusal's number and name.
-pub fn put_refusal(out: &mut [u8], at: usize, refusal: Refusal) -> usize {
-    put_answer(out, at, refusal.number())
+// An answer's number: any, or a refusal's.
+#[derive(Clone, Copy)]
+pub struct Answered(pub u8);
+
+impl From<u8> for Answered {
+    ghost use Rattle.std.specs.Prelude.{◌≡◌};
+
+    ghost from_gives = { λ number given. given.0 ≡ number };
+
+    fn from(number: u8) -> Answered {
+        Answered(number)
+    }
+}
+
+impl From<Refusal> for Answered {
+    ghost use Rattle.std.specs.Prelude.{◌≡◌};
+    ghost use Rattle.answer.specs.Answer.{number_of};
+
+    ghost from_gives = { λ refusal given. given.0 ≡ number_of refusal };
+
+    fn from(refusal: Refusal) -> Answered {
+        Answered(refusal.number())
+    }
 }
 
 // An answer's number and name; a number that is no answer has none.
-pub fn put_answer(out: &mut [u8], at: usize, answer: u8) -> usize {
-    let next = text::put_field(out, at, u64::from(answer), b' ');
-    put_text(out, next, name_of(answer))
+pub fn put_answer(out: &mut [u8], at: usize, answer: impl Into<Answered>) -> usize {
+    let Answered(number) = answer.into();
+    let next = text::put_field(out, at, u64::from(number), b' ');
+    put_text(out, next, name_of(number))
 }
 
 fn name_of(answer: u8) -> &'static [u8] {

@@ -37,7 +37,7 @@ fn stale(job: &Job, address: u64, wanted: Halves, found: Halves) -> Status {
 
 fn put_stale(line: &mut [u8], name: &[u8], address: u64, wanted: Halves, found: Halves) -> usize {
     let at = refusal::put_place(line, name, address);
-    let answer = message::put_refusal(line, at, Refusal::Stale);
+    let answer = message::put_answer(line, at, Refusal::Stale);
     let words = put_text(line, answer, b": its patch left ");
     let left = message::put_bundle(line, words, wanted);
     let there = put_text(line, left, b", and there stands ");

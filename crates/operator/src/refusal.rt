@@ -3,7 +3,7 @@ use crate::job::Job;
 use answer::Refusal;
 use console::Status;
 use form::Form;
-use message::put_takes;
+use message::{put_answer, put_takes};
 use text::put_text;
 
 impl Job<'_> {
@@ -18,7 +18,7 @@ impl Job<'_> {
 
 fn put_refusal(line: &mut [u8], name: &[u8], address: u64, answer: Refusal, form: Form) -> usize {
     let at = put_place(line, name, address);
-    let number = message::put_refusal(line, at, answer);
+    let number = put_answer(line, at, answer);
     let colon = put_text(line, number, b": ");
     let end = put_right(line, colon, answer, form);
     text::put_byte(line, end, b'\n')
