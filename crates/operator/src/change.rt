@@ -30,8 +30,6 @@ pub fn locked<F: FnOnce(&Job) -> Result<(), Status>>(job: &Job, act: F) -> Resul
     done
 }
 
-// Apart from `locked`, so that its room is given back before that of the change is taken.
-#[inline(never)]
 fn finish_old(job: &Job) -> Result<(), Status> {
     let mut text = room::text();
     job.folder().finish_old(&mut text)
@@ -105,7 +103,8 @@ fn commit(
 }
 
 // Writes the layout with a window that has a sheet, or has none; one that lists no window is none. How long it is, where the one before could be
-// read.
+// read. Apart from `commit`, so that its room is given back before the commit is made.
+#[inline(never)]
 fn layout_with(
     job: &Job,
     reading: Reading,
