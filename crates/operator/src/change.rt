@@ -103,8 +103,7 @@ fn commit(
 }
 
 // Writes the layout with a window that has a sheet, or has none; one that lists no window is none. How long it is, where the one before could be
-// read. Apart from `commit`, so that its room is given back before the commit is made.
-#[inline(never)]
+// read.
 fn layout_with(
     job: &Job,
     reading: Reading,

@@ -51,7 +51,9 @@ fn verify_window(job: &Job, guest: &Guest, window: u64) -> Result<(), Status> {
     fits(job, &code, text, window)
 }
 
-// `status`: how FILE is read, its windows with their records, whether it is locked, and whether a commit isn't finished.
+// `status`: how FILE is read, its windows with their records, whether it is locked, and whether a commit isn't finished. Apart from `done_of`, so
+// that a command that changes FILE needs no room for what this one prints.
+#[inline(never)]
 pub fn status(job: &Job) -> Result<(), Status> {
     let Source { guest, reading } = Source::open(job)?;
     drop(guest);
